@@ -1,0 +1,4 @@
+-- Laws that the kit lacks, one home for each: xor on numbers, computed tests, polynomials over two elements.
+pub mod Xor
+pub mod Tests
+pub mod Poly

@@ -1,0 +1,1 @@
+// What the kit's library lacks on numbers, xor and lists: the laws stand in specs/.
