@@ -101,4 +101,3 @@ pub rem-lt : (d g k w : ℕ) → g / 2 ^ d ≡ 1 → rem d g k w < 2 ^ d
 unfolding rem
 rem-lt d g zero w e = pow-pos d
 rem-lt d g (suc k) w e = into-lt d g (rem d g k (w / 2)) (w % 2) (rem-lt d g k (w / 2) e) (mod-lt w two-pos) e
-
