@@ -1,0 +1,101 @@
+-- Three words as one number: shifted by eight places, xored, and its top byte. `omega` takes no number of more than 38 digits, so 2 ^ 64 is a variable B in what it shows.
+-- Assumes nothing.
+use mathlib.Core.Path.{_≡_, refl, sym, _∙_, ap, ap₂, subst}
+use Prim.Native.Nat.{ℕ, _+_, _*_, _/_, _%_, _^_, _<_, _≤_}
+use native.Mathlib.Nat.{mul-add-mod-self-right, mod-eq-of-lt, add-mul-div-right, div-eq-of-lt, div-div-eq-div-mul, mod-lt, add-comm, div-add-mod', mul-le-mul-right, mul-le-mul-left, le-trans, lt-of-lt-of-le}
+use native.Mathlib.Omega.{arith}
+use lib.Dec.{lit<}
+use lib.Bits.{bitXor, xor-block, xor-shifted, xor-lt}
+use Rattle.bch_table.specs.Divide.{wordOf, regOf}
+use Rattle.bch_table.specs.Step.{joined, stepOf}
+
+-- ---- one word: its lower 56 bits moved up, with the next word's top byte
+pub word-up : (x y : ℕ) → y < 2 ^ 64 → bitXor (x * 256 % 2 ^ 64) (y / 2 ^ 56) ≡ x % 2 ^ 56 * 256 + y / 2 ^ 56
+word-up x y h =
+    let e : x * 256 % 2 ^ 64 ≡ x % 2 ^ 56 * 256 = omega arith in
+    let k : y / 2 ^ 56 < 256 = omega arith in
+    ap (λ (n : ℕ). bitXor n (y / 2 ^ 56)) e ∙ xor-shifted (x % 2 ^ 56) 8 (y / 2 ^ 56) k
+
+pub last-up : (x : ℕ) → x * 256 % 2 ^ 64 ≡ x % 2 ^ 56 * 256
+last-up x = omega arith
+
+up-lt′ : (a b : ℕ) → a < 2 ^ 56 → b < 256 → a * 256 + b < 2 ^ 64
+up-lt′ a b ha hb = omega arith
+
+pub top-lt : (y : ℕ) → y < 2 ^ 64 → y / 2 ^ 56 < 256
+top-lt y h = omega arith
+
+up-lt : (x y : ℕ) → y < 2 ^ 64 → x % 2 ^ 56 * 256 + y / 2 ^ 56 < 2 ^ 64
+up-lt x y h = up-lt′ (x % 2 ^ 56) (y / 2 ^ 56) (mod-lt x (lit< tt)) (top-lt y h)
+
+last-lt : (x : ℕ) → x % 2 ^ 56 * 256 < 2 ^ 64
+last-lt x = subst (λ (n : ℕ). n < 2 ^ 64) (last-up x) (mod-lt (x * 256) (lit< tt))
+
+-- ---- three words, with B for 2 ^ 64: h = h₁ 2^56 + h₀ and so on, so 256 h = h₁ B + 256 h₀
+up-sum : (B h h₁ h₀ m m₁ m₀ l l₁ l₀ : ℕ) → h * 256 ≡ h₁ * B + h₀ → m * 256 ≡ m₁ * B + m₀ → l * 256 ≡ l₁ * B + l₀
+    → ((h * B + m) * B + l) * 256 ≡ (((h₀ + m₁) * B + (m₀ + l₁)) * B + l₀) + h₁ * (B * B * B)
+up-sum B h h₁ h₀ m m₁ m₀ l l₁ l₀ eh em el =
+    let a : h * 256 * (B * B) ≡ (h₁ * B + h₀) * (B * B) = ap (λ (n : ℕ). n * (B * B)) eh in
+    let b : m * 256 * B ≡ (m₁ * B + m₀) * B = ap (λ (n : ℕ). n * B) em in
+    omega arith
+
+below : (B x y z : ℕ) → x < B → y < B → z < B → (x * B + y) * B + z < B * B * B
+below B x y z hx hy hz =
+    let a : (x + 1) * (B * B) ≤ B * (B * B) = mul-le-mul-right (B * B) (omega arith) in
+    let b : (y + 1) * B ≤ B * B = mul-le-mul-right B (omega arith) in
+    omega arith
+
+pub shifted : (h m l : ℕ) → h < 2 ^ 64 → m < 2 ^ 64 → l < 2 ^ 64
+    → joined h m l * 256 % 2 ^ 192 ≡ joined (h % 2 ^ 56 * 256 + m / 2 ^ 56) (m % 2 ^ 56 * 256 + l / 2 ^ 56) (l % 2 ^ 56 * 256)
+unfolding joined
+shifted h m l hh hm hl =
+    let B = 2 ^ 64 in
+    ap (λ (n : ℕ). n % 2 ^ 192) (up-sum (2 ^ 64) h (h / 2 ^ 56) (h % 2 ^ 56 * 256) m (m / 2 ^ 56) (m % 2 ^ 56 * 256) l (l / 2 ^ 56) (l % 2 ^ 56 * 256) (omega arith) (omega arith) (omega arith))
+    ∙ (add-mul-mod (h / 2 ^ 56) _ (2 ^ 192)
+    ∙ mod-eq-of-lt (below (2 ^ 64) (h % 2 ^ 56 * 256 + m / 2 ^ 56) (m % 2 ^ 56 * 256 + l / 2 ^ 56) (l % 2 ^ 56 * 256) (up-lt h m hm) (up-lt m l hl) (last-lt l)))
+  where
+    add-mul-mod : (q r n : ℕ) → (r + q * n) % n ≡ r % n
+    add-mul-mod q r n = ap (λ (k : ℕ). k % n) (add-comm r (q * n)) ∙ mul-add-mod-self-right q n r
+
+-- the top byte
+pub top-byte : (h m l : ℕ) → m < 2 ^ 64 → l < 2 ^ 64 → joined h m l / 2 ^ 184 ≡ h / 2 ^ 56
+unfolding joined
+top-byte h m l hm hl =
+    sym (div-div-eq-div-mul (joined h m l) (2 ^ 128) (2 ^ 56))
+    ∙ ap (λ (n : ℕ). n / 2 ^ 56) (sym (div-div-eq-div-mul (joined h m l) (2 ^ 64) (2 ^ 64))
+    ∙ (ap (λ (n : ℕ). n / 2 ^ 64) (off (h * 2 ^ 64 + m) l hl) ∙ off h m hm))
+  where
+    off : (x y : ℕ) → y < 2 ^ 64 → (x * 2 ^ 64 + y) / 2 ^ 64 ≡ x
+    off x y h = omega arith
+
+-- three words xored
+pub xored : (a b c x y z : ℕ) → b < 2 ^ 64 → c < 2 ^ 64 → y < 2 ^ 64 → z < 2 ^ 64
+    → joined (bitXor a x) (bitXor b y) (bitXor c z) ≡ bitXor (joined a b c) (joined x y z)
+unfolding joined
+xored a b c x y z hb hc hy hz =
+    sym (xor-block 64 (a * 2 ^ 64 + b) (x * 2 ^ 64 + y) c z hc hz ∙ ap (λ (n : ℕ). n * 2 ^ 64 + bitXor c z) (xor-block 64 a x b y hb hy))
+
+-- a number is its three words
+pub words : (v : ℕ) → joined (wordOf 0 v) (wordOf 1 v) (wordOf 2 v) ≡ v
+unfolding joined wordOf
+words v = ap (λ (n : ℕ). (n * 2 ^ 64 + v / 2 ^ 64 % 2 ^ 64) * 2 ^ 64 + v % 2 ^ 64) (sym (div-div-eq-div-mul v (2 ^ 64) (2 ^ 64)))
+    ∙ (ap (λ (n : ℕ). n * 2 ^ 64 + v % 2 ^ 64) (div-add-mod' (v / 2 ^ 64) (2 ^ 64)) ∙ div-add-mod' v (2 ^ 64))
+
+pub word-lt : (v : ℕ) → (wordOf 1 v < 2 ^ 64) × (wordOf 2 v < 2 ^ 64)
+unfolding wordOf
+word-lt v = (mod-lt (v / 2 ^ 64) (lit< tt), mod-lt v (lit< tt))
+
+-- the whole step
+pub stepped : (h m l b t₀ t₁ t₂ : ℕ) → h < 2 ^ 64 → m < 2 ^ 64 → l < 2 ^ 64
+    → t₀ ≡ wordOf 0 (regOf (bitXor (h / 2 ^ 56) b)) → t₁ ≡ wordOf 1 (regOf (bitXor (h / 2 ^ 56) b)) → t₂ ≡ wordOf 2 (regOf (bitXor (h / 2 ^ 56) b))
+    → joined (bitXor (bitXor (h * 256 % 2 ^ 64) (m / 2 ^ 56)) t₀) (bitXor (bitXor (m * 256 % 2 ^ 64) (l / 2 ^ 56)) t₁) (bitXor (l * 256 % 2 ^ 64) t₂) ≡ stepOf (joined h m l) b
+unfolding stepOf
+stepped h m l b t₀ t₁ t₂ hh hm hl e₀ e₁ e₂ =
+    let r = regOf (bitXor (h / 2 ^ 56) b) in
+    let a = h % 2 ^ 56 * 256 + m / 2 ^ 56 in
+    let c = m % 2 ^ 56 * 256 + l / 2 ^ 56 in
+    let d = l % 2 ^ 56 * 256 in
+    ap₂ (λ (x y : ℕ). joined x y (bitXor (l * 256 % 2 ^ 64) t₂)) (ap₂ bitXor (word-up h m hm) e₀) (ap₂ bitXor (word-up m l hl) e₁)
+    ∙ (ap (λ (x : ℕ). joined (bitXor a (wordOf 0 r)) (bitXor c (wordOf 1 r)) x) (ap₂ bitXor (last-up l) e₂)
+    ∙ (xored a c d (wordOf 0 r) (wordOf 1 r) (wordOf 2 r) (up-lt m l hl) (last-lt l) (word-lt r .0) (word-lt r .1)
+    ∙ ap₂ bitXor (sym (shifted h m l hh hm hl)) (words r ∙ ap (λ (n : ℕ). regOf (bitXor n b)) (sym (top-byte h m l hm hl)))))
