@@ -95,7 +95,7 @@ module _ (n : ℕ) (lens addrs : List ℕ) (A : Accepted n lens addrs) where
       let e : c + (pOf n lens - c) ≡ pOf n lens = omega arith in
       omega (arith, start-le c (pOf n lens - c), ap (startOf n lens addrs) e, start-last n lens addrs A)
 
-  start-at : (c : ℕ) → c ≤ pOf n lens → getD (rowStart n lens addrs) c 0 ≡ startOf n lens addrs c
+  pub start-at : (c : ℕ) → c ≤ pOf n lens → getD (rowStart n lens addrs) c 0 ≡ startOf n lens addrs c
   unfolding rowStart
   start-at c h =
       let e : 0 + c ≡ c = omega arith in
