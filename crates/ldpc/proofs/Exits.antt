@@ -1,0 +1,267 @@
+-- What each exit of the entry points answers and leaves.
+use mathlib.Core.Path.{_≡_, refl, sym, ap, ap₂, _∙_, subst}
+use mathlib.Core.Bool.{Bool, true, false, cond}
+use mathlib.Core.List.{List, [], _∷_, _++_}
+use Prim.Native.Nat.{ℕ, zero, suc, _+_, _-_, _*_, _/_, _%_, _≤_, _<_}
+use native.Mathlib.Omega.{arith}
+use native.Mathlib.Nat.{mul-comm}
+use borrow.Author.Tests.{eq-eqb, ne-eqb, lt-ltb, le-ltb, le-leb, lt-leb}
+use lib.Dec.{eqb, ltb, leb}
+use lib.ListN.{length, take, drop}
+use lib.Seq.{length-take-le}
+use Rattle.ldpc_shape.specs.Shape.{kOf, pOf, qOf, eOf, refusalOf}
+use Rattle.ldpc_shape.specs.Accepted.{Accepted, accepted, p-pos, p-le, n-is, rows-le, addrs-le}
+use Rattle.ldpc_edges.specs.Code.{check, edgeLists, parity, encode, weight}
+use Rattle.ldpc_edges.specs.Degree.{degree-le}
+use Rattle.ldpc_edges.specs.Layout.{lists-length}
+use Rattle.ldpc_edges.specs.Encoder.{parity-length, encode-length}
+use Rattle.ldpc.specs.declared.Made.{Made}
+use Rattle.ldpc.specs.declared.Made.the-variants as made
+use Rattle.ldpc.specs.declared.Counted.{Counted}
+use Rattle.ldpc.specs.declared.Counted.the-variants as counted
+use Rattle.ldpc.specs.declared.Written.{Written}
+use Rattle.ldpc.specs.declared.Written.the-variants as written
+use Rattle.ldpc.specs.Answers.{orElse, shortOf, otherOf, beyondOf, inFront, newRefusal, checkRefusal, parityRefusal, encodeRefusal, weightRefusal, newAnswer, checkAnswer, parityAnswer, encodeAnswer, weightAnswer, newInto, checkInto, parityInto, encodeInto}
+
+-- ---- which number it is
+or-first : (a b r : ℕ) → r ≡ a → (r ≡ 0 → ⊥) → r ≡ orElse a b
+unfolding orElse
+or-first a b r e ne = e ∙ sym (ap (λ t. cond t b a) (ne-eqb a 0 (λ f. ne (e ∙ f))))
+
+or-next : (a b r : ℕ) → a ≡ 0 → r ≡ b → r ≡ orElse a b
+unfolding orElse
+or-next a b r e f = f ∙ sym (ap (λ t. cond t b a) (eq-eqb a 0 e))
+
+short : (needed size : ℕ) → size < needed → 13 ≡ shortOf needed size
+unfolding shortOf
+short needed size h = sym (ap (λ t. cond t 13 0) (lt-ltb size needed h))
+
+room : (needed size : ℕ) → needed ≤ size → 0 ≡ shortOf needed size
+unfolding shortOf
+room needed size h = sym (ap (λ t. cond t 13 0) (le-ltb size needed h))
+
+same : (a b : ℕ) → a ≡ b → 0 ≡ otherOf a b
+unfolding otherOf
+same a b e = sym (ap (λ t. cond t 0 12) (eq-eqb a b e))
+
+other : (a b : ℕ) → (a ≡ b → ⊥) → 12 ≡ otherOf a b
+unfolding otherOf
+other a b e = sym (ap (λ t. cond t 0 12) (ne-eqb a b e))
+
+beyond : (c p : ℕ) → p ≤ c → 12 ≡ beyondOf c p
+unfolding beyondOf
+beyond c p h = sym (ap (λ t. cond t 12 0) (le-leb p c h))
+
+within : (c p : ℕ) → c < p → beyondOf c p ≡ 0
+unfolding beyondOf
+within c p h = ap (λ t. cond t 12 0) (lt-leb p c h)
+
+twelve : _≡_ {A = ℕ} 12 0 → ⊥
+twelve e = omega arith
+
+thirteen : _≡_ {A = ℕ} 13 0 → ⊥
+thirteen e = omega arith
+
+-- ---- the answer with number R: `no` of a refusal, else `good`
+module _ {T : Type 0} (R : ℕ) (good : T) (no : ℕ → T) where
+  says-no : (r : ℕ) → r ≡ R → (r ≡ 0 → ⊥) → no r ≡ cond (eqb R 0) good (no R)
+  says-no r e ne = ap no e ∙ sym (ap (λ t. cond t good (no R)) (ne-eqb R 0 (λ f. ne (e ∙ f))))
+
+  says-yes : 0 ≡ R → good ≡ cond (eqb R 0) good (no R)
+  says-yes e = sym (ap (λ t. cond t good (no R)) (eq-eqb R 0 (sym e)))
+
+module _ (R : ℕ) (xs out : List ℕ) where
+  keeps : (r : ℕ) → r ≡ R → (r ≡ 0 → ⊥) → out ≡ inFront R xs out
+  unfolding inFront
+  keeps r e ne = sym (ap (λ t. cond t (xs ++ drop (length xs) out) out) (ne-eqb R 0 (λ f. ne (e ∙ f))))
+
+  puts : 0 ≡ R → (y : List ℕ) (s : ℕ) → y ≡ xs → s ≡ length xs → y ++ drop s out ≡ inFront R xs out
+  unfolding inFront
+  puts e y s f g = ap₂ (λ (u : List ℕ) (v : ℕ). u ++ drop v out) f g ∙ sym (ap (λ t. cond t (xs ++ drop (length xs) out) out) (eq-eqb R 0 (sym e)))
+
+module _ (n : ℕ) (lens addrs : List ℕ) where
+  k-is : length lens * 374 ≡ kOf lens
+  unfolding kOf
+  k-is = mul-comm (length lens) 374
+
+  is-p : n - length lens * 374 ≡ pOf n lens
+  unfolding pOf
+  is-p = ap (λ (z : ℕ). n - z) k-is
+
+  -- the sizes that the code works out of an accepted code
+  pub fits : refusalOf n lens addrs ≡ 0 → (length lens ≤ 119) × (length addrs ≤ 15360) × (n ≤ 44880) × (length lens * 374 < n) × (kOf lens + pOf n lens ≡ n)
+  fits e = let A = accepted n lens addrs e in (rows-le n lens addrs A, addrs-le n lens addrs A, A .small, omega (arith, A .rows), n-is n lens addrs A)
+
+  -- ---- new
+  module _ (lists : List ℕ) where
+    pub new-refused : (r : ℕ) → r ≡ refusalOf n lens addrs → (r ≡ 0 → ⊥)
+        → (made.Refused r ≡ newAnswer n lens addrs (length lists)) × (lists ≡ newInto n lens addrs lists)
+    unfolding newAnswer newRefusal newInto
+    new-refused r e ne =
+        let f = or-first (refusalOf n lens addrs) (shortOf (suc (pOf n lens) + eOf n lens addrs) (length lists)) r e ne in
+        (says-no _ _ made.Refused r f ne, keeps _ _ lists r f ne)
+
+    module _ (e : refusalOf n lens addrs ≡ 0) (size : ℕ) (s : size ≡ n - length lens * 374 + 1 + (length addrs * 374 + 2 * (n - length lens * 374) - 1)) where
+      e-is : length addrs * 374 + 2 * (n - length lens * 374) - 1 ≡ eOf n lens addrs
+      unfolding eOf
+      e-is = ap₂ (λ (y z : ℕ). y + 2 * z - 1) (mul-comm (length addrs) 374) is-p
+
+      size-is : size ≡ suc (pOf n lens) + eOf n lens addrs
+      size-is = s ∙ ap₂ (λ (y z : ℕ). y + 1 + z) is-p e-is ∙ omega arith
+
+      pub new-short : length lists < size → (made.Refused 13 ≡ newAnswer n lens addrs (length lists)) × (lists ≡ newInto n lens addrs lists)
+      unfolding newAnswer newRefusal newInto
+      new-short h =
+          let f = or-next (refusalOf n lens addrs) _ 13 e (short (suc (pOf n lens) + eOf n lens addrs) (length lists) (omega (arith, size-is))) in
+          (says-no _ _ made.Refused 13 f thirteen, keeps _ _ lists 13 f thirteen)
+
+      pub new-ready : size ≤ length lists → length (take size lists) ≡ suc (pOf n lens) + eOf n lens addrs
+      new-ready h = length-take-le size lists h ∙ size-is
+
+      made-is : made.Code (length lens * 374) (n - length lens * 374) ((n - length lens * 374) / 374) (length addrs * 374 + 2 * (n - length lens * 374) - 1)
+          ≡ made.Code (kOf lens) (pOf n lens) (qOf n lens) (eOf n lens addrs)
+      unfolding qOf
+      made-is =
+          ap₂ (λ (y z : ℕ). made.Code y (n - length lens * 374) ((n - length lens * 374) / 374) z) k-is e-is
+          ∙ ap (λ (y : ℕ). made.Code (kOf lens) y (y / 374) (eOf n lens addrs)) is-p
+
+      pub new-done : size ≤ length lists → (y : List ℕ) → y ≡ edgeLists n lens addrs
+          → (made.Code (length lens * 374) (n - length lens * 374) ((n - length lens * 374) / 374) (length addrs * 374 + 2 * (n - length lens * 374) - 1) ≡ newAnswer n lens addrs (length lists))
+          × (y ++ drop size lists ≡ newInto n lens addrs lists)
+      unfolding newAnswer newRefusal newInto
+      new-done h y g =
+          let f = or-next (refusalOf n lens addrs) _ 0 e (room (suc (pOf n lens) + eOf n lens addrs) (length lists) (omega (arith, size-is))) in
+          (made-is ∙ says-yes _ _ made.Refused f, puts _ _ lists f y size g (size-is ∙ sym (lists-length n lens addrs (accepted n lens addrs e))))
+
+  -- ---- check
+  module _ (c : ℕ) (out : List ℕ) where
+    pub check-refused : (r : ℕ) → r ≡ refusalOf n lens addrs → (r ≡ 0 → ⊥)
+        → (counted.Refused r ≡ checkAnswer n lens addrs c (length out)) × (out ≡ checkInto n lens addrs c out)
+    unfolding checkAnswer checkRefusal checkInto
+    check-refused r e ne =
+        let f = or-first (refusalOf n lens addrs) (orElse (beyondOf c (pOf n lens)) (shortOf (length (check n lens addrs c)) (length out))) r e ne in
+        (says-no _ _ counted.Refused r f ne, keeps _ _ out r f ne)
+
+    module _ (e : refusalOf n lens addrs ≡ 0) where
+      pub check-beyond : n - length lens * 374 ≤ c → (counted.Refused 12 ≡ checkAnswer n lens addrs c (length out)) × (out ≡ checkInto n lens addrs c out)
+      unfolding checkAnswer checkRefusal checkInto
+      check-beyond h =
+          let g = beyond c (pOf n lens) (subst (λ (z : ℕ). z ≤ c) is-p h) in
+          let f = or-next (refusalOf n lens addrs) _ 12 e (or-first (beyondOf c (pOf n lens)) (shortOf (length (check n lens addrs c)) (length out)) 12 g twelve) in
+          (says-no _ _ counted.Refused 12 f twelve, keeps _ _ out 12 f twelve)
+
+      module _ (b : c < n - length lens * 374) where
+        pub check-below : c < pOf n lens
+        check-below = subst (λ (z : ℕ). c < z) is-p b
+
+        below-is : beyondOf c (pOf n lens) ≡ 0
+        below-is = within c (pOf n lens) check-below
+
+        pub check-small : length (check n lens addrs c) ≤ 128
+        check-small = degree-le n lens addrs (accepted n lens addrs e) c check-below
+
+        pub check-short : (d : ℕ) → d ≡ length (check n lens addrs c) → length out < d → (counted.Refused 13 ≡ checkAnswer n lens addrs c (length out)) × (out ≡ checkInto n lens addrs c out)
+        unfolding checkAnswer checkRefusal checkInto
+        check-short d s h =
+            let g = short (length (check n lens addrs c)) (length out) (subst (λ (z : ℕ). length out < z) s h) in
+            let f = or-next (refusalOf n lens addrs) _ 13 e (or-next (beyondOf c (pOf n lens)) (shortOf (length (check n lens addrs c)) (length out)) 13 below-is g) in
+            (says-no _ _ counted.Refused 13 f thirteen, keeps _ _ out 13 f thirteen)
+
+        pub check-done : (d r : ℕ) → d ≡ length (check n lens addrs c) → d ≤ length out → r ≡ length (check n lens addrs c) → (y : List ℕ) → y ≡ check n lens addrs c ++ drop r out
+            → (counted.Count r ≡ checkAnswer n lens addrs c (length out)) × (y ≡ checkInto n lens addrs c out)
+        unfolding checkAnswer checkRefusal checkInto
+        check-done d r s h t y u =
+            let g = room (length (check n lens addrs c)) (length out) (subst (λ (z : ℕ). z ≤ length out) s h) in
+            let f = or-next (refusalOf n lens addrs) _ 0 e (or-next (beyondOf c (pOf n lens)) (shortOf (length (check n lens addrs c)) (length out)) 0 below-is g) in
+            (ap counted.Count t ∙ says-yes _ _ counted.Refused f, u ∙ puts _ _ out f (check n lens addrs c) r refl t)
+
+  -- ---- parity
+  module _ (info out : List ℕ) where
+    pub parity-refused : (r : ℕ) → r ≡ refusalOf n lens addrs → (r ≡ 0 → ⊥)
+        → (written.Refused r ≡ parityAnswer n lens addrs (length info) (length out)) × (out ≡ parityInto n lens addrs info out)
+    unfolding parityAnswer parityRefusal parityInto
+    parity-refused r e ne =
+        let f = or-first (refusalOf n lens addrs) (orElse (otherOf (length info) (kOf lens)) (shortOf (pOf n lens) (length out))) r e ne in
+        (says-no _ _ written.Refused r f ne, keeps _ _ out r f ne)
+
+    module _ (e : refusalOf n lens addrs ≡ 0) (k : ℕ) (ek : k ≡ kOf lens) where
+      pub parity-other : (length info ≡ k → ⊥) → (written.Refused 12 ≡ parityAnswer n lens addrs (length info) (length out)) × (out ≡ parityInto n lens addrs info out)
+      unfolding parityAnswer parityRefusal parityInto
+      parity-other h =
+          let g = other (length info) (kOf lens) (λ z. h (z ∙ sym ek)) in
+          let f = or-next (refusalOf n lens addrs) _ 12 e (or-first (otherOf (length info) (kOf lens)) (shortOf (pOf n lens) (length out)) 12 g twelve) in
+          (says-no _ _ written.Refused 12 f twelve, keeps _ _ out 12 f twelve)
+
+      module _ (l : length info ≡ k) (p : ℕ) (ep : p ≡ n - k) where
+        p-size : p ≡ pOf n lens
+        unfolding pOf
+        p-size = ep ∙ ap (λ (z : ℕ). n - z) ek
+
+        pub parity-short : length out < p → (written.Refused 13 ≡ parityAnswer n lens addrs (length info) (length out)) × (out ≡ parityInto n lens addrs info out)
+        unfolding parityAnswer parityRefusal parityInto
+        parity-short h =
+            let g = short (pOf n lens) (length out) (subst (λ (z : ℕ). length out < z) p-size h) in
+            let f = or-next (refusalOf n lens addrs) _ 13 e (or-next (otherOf (length info) (kOf lens)) (shortOf (pOf n lens) (length out)) 13 (sym (same (length info) (kOf lens) (l ∙ ek))) g) in
+            (says-no _ _ written.Refused 13 f thirteen, keeps _ _ out 13 f thirteen)
+
+        pub parity-ready : p ≤ length out → (length info ≡ kOf lens) × (length (take p out) ≡ pOf n lens)
+        parity-ready h = (l ∙ ek, length-take-le p out h ∙ p-size)
+
+        pub parity-done : p ≤ length out → (y : List ℕ) → y ≡ parity n lens addrs info
+            → (written.Done ≡ parityAnswer n lens addrs (length info) (length out)) × (y ++ drop p out ≡ parityInto n lens addrs info out)
+        unfolding parityAnswer parityRefusal parityInto
+        parity-done h y u =
+            let g = room (pOf n lens) (length out) (subst (λ (z : ℕ). z ≤ length out) p-size h) in
+            let f = or-next (refusalOf n lens addrs) _ 0 e (or-next (otherOf (length info) (kOf lens)) (shortOf (pOf n lens) (length out)) 0 (sym (same (length info) (kOf lens) (l ∙ ek))) g) in
+            (says-yes _ _ written.Refused f, puts _ _ out f y p u (p-size ∙ sym (parity-length n lens addrs info (p-pos n lens addrs (accepted n lens addrs e)))))
+
+  -- ---- encode
+  module _ (info out : List ℕ) where
+    pub encode-refused : (r : ℕ) → r ≡ refusalOf n lens addrs → (r ≡ 0 → ⊥)
+        → (written.Refused r ≡ encodeAnswer n lens addrs (length info) (length out)) × (out ≡ encodeInto n lens addrs info out)
+    unfolding encodeAnswer encodeRefusal encodeInto
+    encode-refused r e ne =
+        let f = or-first (refusalOf n lens addrs) (orElse (otherOf (length info) (kOf lens)) (shortOf n (length out))) r e ne in
+        (says-no _ _ written.Refused r f ne, keeps _ _ out r f ne)
+
+    module _ (e : refusalOf n lens addrs ≡ 0) (k : ℕ) (ek : k ≡ kOf lens) where
+      pub encode-other : (length info ≡ k → ⊥) → (written.Refused 12 ≡ encodeAnswer n lens addrs (length info) (length out)) × (out ≡ encodeInto n lens addrs info out)
+      unfolding encodeAnswer encodeRefusal encodeInto
+      encode-other h =
+          let g = other (length info) (kOf lens) (λ z. h (z ∙ sym ek)) in
+          let f = or-next (refusalOf n lens addrs) _ 12 e (or-first (otherOf (length info) (kOf lens)) (shortOf n (length out)) 12 g twelve) in
+          (says-no _ _ written.Refused 12 f twelve, keeps _ _ out 12 f twelve)
+
+      module _ (l : length info ≡ k) (size : ℕ) (es : size ≡ n) where
+        pub encode-short : length out < size → (written.Refused 13 ≡ encodeAnswer n lens addrs (length info) (length out)) × (out ≡ encodeInto n lens addrs info out)
+        unfolding encodeAnswer encodeRefusal encodeInto
+        encode-short h =
+            let g = short n (length out) (subst (λ (z : ℕ). length out < z) es h) in
+            let f = or-next (refusalOf n lens addrs) _ 13 e (or-next (otherOf (length info) (kOf lens)) (shortOf n (length out)) 13 (sym (same (length info) (kOf lens) (l ∙ ek))) g) in
+            (says-no _ _ written.Refused 13 f thirteen, keeps _ _ out 13 f thirteen)
+
+        pub encode-ready : size ≤ length out → (length info ≡ kOf lens) × (length (take size out) ≡ n)
+        encode-ready h = (l ∙ ek, length-take-le size out h ∙ es)
+
+        pub encode-done : size ≤ length out → (y : List ℕ) → y ≡ encode n lens addrs info
+            → (written.Done ≡ encodeAnswer n lens addrs (length info) (length out)) × (y ++ drop size out ≡ encodeInto n lens addrs info out)
+        unfolding encodeAnswer encodeRefusal encodeInto
+        encode-done h y u =
+            let g = room n (length out) (subst (λ (z : ℕ). z ≤ length out) es h) in
+            let f = or-next (refusalOf n lens addrs) _ 0 e (or-next (otherOf (length info) (kOf lens)) (shortOf n (length out)) 0 (sym (same (length info) (kOf lens) (l ∙ ek))) g) in
+            (says-yes _ _ written.Refused f, puts _ _ out f y size u (es ∙ sym (encode-length n lens addrs info e (l ∙ ek))))
+
+  -- ---- syndrome_weight
+  module _ (bits : List ℕ) where
+    pub weight-refused : (r : ℕ) → r ≡ refusalOf n lens addrs → (r ≡ 0 → ⊥) → counted.Refused r ≡ weightAnswer n lens addrs bits
+    unfolding weightAnswer weightRefusal
+    weight-refused r e ne = says-no _ _ counted.Refused r (or-first (refusalOf n lens addrs) (otherOf (length bits) n) r e ne) ne
+
+    module _ (e : refusalOf n lens addrs ≡ 0) (size : ℕ) (es : size ≡ n) where
+      pub weight-other : (length bits ≡ size → ⊥) → counted.Refused 12 ≡ weightAnswer n lens addrs bits
+      unfolding weightAnswer weightRefusal
+      weight-other h = says-no _ _ counted.Refused 12 (or-next (refusalOf n lens addrs) _ 12 e (other (length bits) n (λ z. h (z ∙ sym es)))) twelve
+
+      pub weight-done : length bits ≡ size → (r : ℕ) → r ≡ weight n lens addrs bits → counted.Count r ≡ weightAnswer n lens addrs bits
+      unfolding weightAnswer weightRefusal
+      weight-done h r f = ap counted.Count f ∙ says-yes _ _ counted.Refused (or-next (refusalOf n lens addrs) _ 0 e (same (length bits) n (h ∙ es)))

@@ -1,0 +1,3 @@
+-- What the entry points promise, and the document's examples.
+pub mod Answers
+pub mod Examples
