@@ -63,22 +63,22 @@ module _ {F : Type 0} (R : Ring F) where
       back = omega arith
 
   -- ---- the order, a factor at a time: isOne is a test for 1 that a field computes
-  module _ (isOne : F → Bool) (isOne-law : (a : F) → a ≡ 𝟙 → T (isOne a)) where
-    -- none of the first k of x, w x, w² x, .. is 1
-    unfoldable pub misses : ℕ → F → F → Bool
-    misses zero w x = true
-    misses (suc k) w x = both (not (isOne x)) (misses k w (w ⊠ x))
+  -- none of the first k of x, w x, w² x, .. is 1
+  unfoldable pub misses : (F → Bool) → ℕ → F → F → Bool
+  misses isOne zero w x = true
+  misses isOne (suc k) w x = both (not (isOne x)) (misses isOne k w (w ⊠ x))
 
-    misses-at : (k : ℕ) (w x : F) → T (misses k w x) → (j : ℕ) → j < k → pow R w j ⊠ x ≢ 𝟙
+  module _ (isOne : F → Bool) (isOne-law : (a : F) → a ≡ 𝟙 → T (isOne a)) where
+    misses-at : (k : ℕ) (w x : F) → T (misses isOne k w x) → (j : ℕ) → j < k → pow R w j ⊠ x ≢ 𝟙
     unfolding misses pow
     misses-at zero w x t j h e = absurd (not-suc-le-zero h)
-    misses-at (suc k) w x t zero h e = T-not (isOne x) (both-l (not (isOne x)) (misses k w (w ⊠ x)) t) (isOne-law x (sym (one-⊠ R x) ∙ e))
+    misses-at (suc k) w x t zero h e = T-not (isOne x) (both-l (not (isOne x)) (misses isOne k w (w ⊠ x)) t) (isOne-law x (sym (one-⊠ R x) ∙ e))
     misses-at (suc k) w x t (suc j) h e =
-        misses-at k w (w ⊠ x) (both-r (not (isOne x)) (misses k w (w ⊠ x)) t) j (le-of-suc-le-suc h)
+        misses-at k w (w ⊠ x) (both-r (not (isOne x)) (misses isOne k w (w ⊠ x)) t) j (le-of-suc-le-suc h)
         (sym (⊠-assoc (pow R w j) w x) ∙ ap (λ z. z ⊠ x) (⊠-comm (pow R w j) w) ∙ e)
 
     -- u to the q * suc k is 1, and w = u ^ q has none of its first k powers at 1: then what takes u to 1 is a multiple of suc k
-    pub order-part : (u : F) (k q : ℕ) → pow R u (q * suc k) ≡ 𝟙 → (w : F) → w ≡ pow R u q → T (misses k w w)
+    pub order-part : (u : F) (k q : ℕ) → pow R u (q * suc k) ≡ 𝟙 → (w : F) → w ≡ pow R u q → T (misses isOne k w w)
         → (i : ℕ) → pow R u i ≡ 𝟙 → i % suc k ≡ 0
     order-part u k q full w same t i one = go (i % suc k) refl
       where
