@@ -5,7 +5,9 @@ pub mod Power
 pub mod Roots
 pub mod Values
 pub mod Massey
+pub mod Unique
 pub mod Locator
+pub mod Split
 pub mod Errors
 pub mod Gf
 pub mod GfField
