@@ -5,6 +5,7 @@ use Prim.Native.Nat.{ℕ, zero, suc, _+_, _*_, _/_, _%_, _^_, _≤_, _<_}
 use native.Mathlib.Nat.{mod-lt, pow-suc, zero-mul, one-mul, mul-div-cancel, mul-mod-left, mul-comm, div-add-mod', zero-add, zero-div, suc-add, add-zero, add-suc, add-comm, mul-one, mul-assoc, div-le-self, lt-of-lt-of-le, lt-of-le-of-lt, mod-eq-of-lt, div-lt-iff-lt-mul, div-eq-of-lt}
 use native.Mathlib.Omega.{arith}
 use lib.Arith.{lt-one, digits-div, digits-mod}
+use lib.Bits.{xor-shifted}
 use lib.Pow.{pow-pos, shl-lt, shr-shr, pow-mono}
 use Rattle.laws.specs.Xor.{_⊕_, ⊕-assoc, ⊕-comm, ⊕-self, ⊕-zero, zero-⊕, ⊕-lt, ⊕-half, ⊕-odd, ⊕-double, ⊕-swap, ⊕-split, ⊕-div, bit-mul, two-cases, two-pos}
 
@@ -101,6 +102,19 @@ pub rem-lt : (d g k w : ℕ) → g / 2 ^ d ≡ 1 → rem d g k w < 2 ^ d
 unfolding rem
 rem-lt d g zero w e = pow-pos d
 rem-lt d g (suc k) w e = into-lt d g (rem d g k (w / 2)) (w % 2) (rem-lt d g k (w / 2) e) (mod-lt w two-pos) e
+
+-- ---- digits put together, and moved up
+pub ⊕-join : (a k b : ℕ) → b < 2 ^ k → (a * 2 ^ k) ⊕ b ≡ a * 2 ^ k + b
+unfolding _⊕_
+⊕-join = xor-shifted
+
+pub ⊕-shift : (a b k : ℕ) → (a ⊕ b) * 2 ^ k ≡ (a * 2 ^ k) ⊕ (b * 2 ^ k)
+⊕-shift a b zero = mul-one (a ⊕ b) ∙ sym (ap₂ _⊕_ (mul-one a) (mul-one b))
+⊕-shift a b (suc k) =
+    up (a ⊕ b) ∙ ap (λ (z : ℕ). z * 2) (⊕-shift a b k) ∙ ⊕-double (a * 2 ^ k) (b * 2 ^ k) ∙ sym (ap₂ _⊕_ (up a) (up b))
+  where
+    up : (x : ℕ) → x * 2 ^ suc k ≡ x * 2 ^ k * 2
+    up x = ap (λ (z : ℕ). x * z) (pow-suc 2 k) ∙ sym (mul-assoc x (2 ^ k) 2)
 
 -- ---- the remainder does not depend on the number of digits, once that covers w
 pub rem-zero : (d g k : ℕ) → rem d g k 0 ≡ 0
