@@ -1,0 +1,7 @@
+-- The schedule of a run over any words, in reading order: the run as 01 tells it, a word alone, what a result says of each word, and
+-- the demand that joins them.
+pub mod Run
+pub mod Alone
+pub mod Status
+pub mod Sums
+pub mod Rounds
