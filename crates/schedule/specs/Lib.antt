@@ -5,3 +5,6 @@ pub mod Alone
 pub mod Status
 pub mod Sums
 pub mod Rounds
+pub mod Places
+pub mod Demand
+pub mod Example

@@ -1,11 +1,10 @@
 -- The run as 01 tells it ("Lane values and messages", last paragraph): lanes, refilling, rounds. A word is a number, and has values:
 -- of what kind is left open (the decoder's are L and the messages). Every test is made on the values that a lane holds.
-use mathlib.Core.Path.{_≡_, refl}
 use mathlib.Core.Bool.{Bool, cond, _||_}
 use mathlib.Core.List.{List, [], _∷_, map}
-use Prim.Native.Nat.{ℕ, zero, suc, _+_, _-_}
+use Prim.Native.Nat.{ℕ, zero, suc}
 use lib.Dec.{eqb}
-use lib.ListN.{getD, replicate}
+use lib.ListN.{replicate}
 
 -- what a run knows of its words: the values that word w starts with; the values after one iteration more; whether values meet every
 -- check; the iteration limit
@@ -121,36 +120,3 @@ module _ {X : Type 0} (words : Words X) where
   -- the run: the words in the order of loading, the lane count, the round limit
   unfoldable pub run : List ℕ → ℕ → ℕ → Result X
   run order lanes round-limit = go round-limit (start order lanes)
-
--- ---- an example: values are what is left to do, 2, 0, 1, 3 and 0 iterations for five words; two lanes, iteration limit 2. Word 3 leaves unmet.
-five : Words ℕ
-five = record { begin = λ w. getD (2 ∷ 0 ∷ 1 ∷ 3 ∷ 0 ∷ []) w 0; iterate = λ x. x - 1; met = λ x. eqb x 0; iteration-limit = 2 }
-
-left : ℕ → ℕ → ℕ → Left ℕ
-left w x i = record { word = w; values = x; iterations = i }
-
-example-finished : run five (0 ∷ 1 ∷ 2 ∷ 3 ∷ 4 ∷ []) 2 1_000_000
-    ≡ record {
-      ending = finished;
-      last =
-          record {
-            lanes = empty ∷ empty ∷ [];
-            stock = record { queue = []; log = left 3 1 2 ∷ left 4 0 0 ∷ left 0 0 2 ∷ left 2 0 1 ∷ left 1 0 0 ∷ [] };
-            rounds = 3;
-          };
-    }
-unfolding run go start refill round each fill load iterated leave logged over held five left
-example-finished = refl
-
-example-stopped : run five (0 ∷ 1 ∷ 2 ∷ 3 ∷ 4 ∷ []) 2 1
-    ≡ record {
-      ending = stopped;
-      last =
-          record {
-            lanes = holds 0 1 1 ∷ holds 3 3 0 ∷ [];
-            stock = record { queue = 4 ∷ []; log = left 2 0 1 ∷ left 1 0 0 ∷ [] };
-            rounds = 1;
-          };
-    }
-unfolding run go start refill round each fill load iterated leave logged over held five left
-example-stopped = refl
