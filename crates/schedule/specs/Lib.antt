@@ -8,3 +8,5 @@ pub mod Rounds
 pub mod Places
 pub mod Demand
 pub mod Example
+pub mod Lanes
+pub mod Refill

@@ -1,0 +1,206 @@
+-- How arrays and columns of memory stand for the run's lanes, queue and log, and how code that goes from lane to lane meets `each`.
+use mathlib.Core.Path.{_≡_, refl, sym, ap, ap₂, _∙_, subst}
+use mathlib.Core.Logic.{_≢_}
+use mathlib.Core.Bool.{Bool, true, false, cond, not}
+use mathlib.Core.List.{List, [], _∷_, _++_}
+use Prim.Native.Nat.{ℕ, zero, suc, _+_, _-_, _≤_, _<_}
+use native.Mathlib.Nat.{not-suc-le-zero, le-of-suc-le-suc, zero-add}
+use native.Mathlib.Numerals.{add-one}
+use native.Mathlib.Decide.{ℕ-discrete}
+use native.Mathlib.Omega.{arith}
+use borrow.Author.Tests.{eqb-true, eqb-false, eq-eqb, ne-eqb}
+use lib.Dec.{eqb}
+use lib.ListN.{length, getD, take, drop, set, length-set}
+use lib.Seq.{getD-set-same, getD-set-other, ext-getD, set-getD}
+use Rattle.schedule.specs.Run.{Words, Lane, empty, holds, Left, Stock, State, Turn, each, held, logged}
+use Rattle.schedule.specs.Status.{Status, waiting, holding, done, log-words, seek}
+
+-- what is decoded and kept: the words, their order of loading, the lanes, the round limit; what memory says of word v before the run
+-- touches it, and of word w that has left with values x after i iterations
+pub record Setup (X M : Type 0) : Type 0 where
+  pub words : Words X
+  pub order : List ℕ
+  pub lanes : ℕ
+  pub round-limit : ℕ
+  pub before : ℕ → M
+  pub after : ℕ → X → ℕ → M
+
+module _ {X : Type 0} where
+  -- a lane is a number, a column and a number: the word held and one, or 0 for none; its values; its iterations
+  unfoldable pub lane-of : ℕ → X → ℕ → Lane X
+  lane-of zero x i = empty
+  lane-of (suc w) x i = holds w x i
+
+  unfoldable pub table : (ℕ → Lane X) → ℕ → ℕ → List (Lane X)
+  table f a zero = []
+  table f a (suc k) = f a ∷ table f (suc a) k
+
+  abbrev pub row : List ℕ → List ℕ → (ℕ → X) → ℕ → Lane X
+  row held iters col l = lane-of (getD held l 0) (col l) (getD iters l 0)
+
+  -- the lanes that arrays `held` and `iters` and columns `col` stand for
+  unfoldable pub rows : ℕ → List ℕ → List ℕ → (ℕ → X) → List (Lane X)
+  rows lanes held iters col = table (row held iters col) 0 lanes
+
+  length-table : (f : ℕ → Lane X) (a k : ℕ) → length (table f a k) ≡ k
+  unfolding table
+  length-table f a zero = refl
+  length-table f a (suc k) = ap suc (length-table f (suc a) k)
+
+  getD-table : (f : ℕ → Lane X) (a k l : ℕ) → l < k → getD (table f a k) l empty ≡ f (a + l)
+  unfolding table
+  getD-table f a zero l h = absurd (not-suc-le-zero h)
+  getD-table f a (suc k) zero h = let e : a ≡ a + 0 = omega arith in ap f e
+  getD-table f a (suc k) (suc l) h = let e : suc a + l ≡ a + suc l = omega arith in getD-table f (suc a) k l (le-of-suc-le-suc h) ∙ ap f e
+
+  table-ext : (f g : ℕ → Lane X) (a k : ℕ) → ((l : ℕ) → a ≤ l → l < a + k → f l ≡ g l) → table f a k ≡ table g a k
+  unfolding table
+  table-ext f g a zero h = refl
+  table-ext f g a (suc k) h = ap₂ _∷_ (h a (omega arith) (omega arith)) (table-ext f g (suc a) k (λ l p q. h l (omega arith) (omega arith)))
+
+  module _ (lanes : ℕ) where
+    pub length-rows : (held iters : List ℕ) (col : ℕ → X) → length (rows lanes held iters col) ≡ lanes
+    unfolding rows
+    length-rows held iters col = length-table _ 0 lanes
+
+    pub getD-rows : (held iters : List ℕ) (col : ℕ → X) (l : ℕ) → l < lanes → getD (rows lanes held iters col) l empty ≡ row held iters col l
+    unfolding rows
+    getD-rows held iters col l h = getD-table (row held iters col) 0 lanes l h ∙ ap (row held iters col) (zero-add l)
+
+    -- the same lanes, from the same rows
+    pub rows-ext : (held iters held′ iters′ : List ℕ) (col col′ : ℕ → X) → ((l : ℕ) → l < lanes → row held iters col l ≡ row held′ iters′ col′ l)
+        → rows lanes held iters col ≡ rows lanes held′ iters′ col′
+    unfolding rows
+    rows-ext held iters held′ iters′ col col′ h = table-ext _ _ 0 lanes (λ l p q. h l (omega (arith, zero-add lanes)))
+
+    -- lane l becomes h, i and col′ l; the columns of the other lanes are as they were
+    pub set-rows : (held iters : List ℕ) (col col′ : ℕ → X) (l h i : ℕ) → l < lanes → lanes ≤ length held → lanes ≤ length iters → ((k : ℕ) → k < lanes → k ≢ l → col′ k ≡ col k)
+        → rows lanes (set held l h) (set iters l i) col′ ≡ set (rows lanes held iters col) l (lane-of h (col′ l) i)
+    set-rows held iters col col′ l h i g a b others =
+        ext-getD empty _ _ (length-rows _ _ _ ∙ sym (length-set (rows lanes held iters col) l _ ∙ length-rows held iters col))
+        (λ k e. at k (omega (arith, e, length-rows (set held l h) (set iters l i) col′)) (ℕ-discrete k l))
+      where
+        new : List (Lane X)
+        new = set (rows lanes held iters col) l (lane-of h (col′ l) i)
+
+        at : (k : ℕ) → k < lanes → Dec (k ≡ l) → getD (rows lanes (set held l h) (set iters l i) col′) k empty ≡ getD new k empty
+        at k e (yes d) =
+            getD-rows _ _ col′ k e ∙ ap (row (set held l h) (set iters l i) col′) d
+            ∙ ap₂ (λ h i. lane-of h (col′ l) i) (getD-set-same held l h 0 (omega arith)) (getD-set-same iters l i 0 (omega arith))
+            ∙ sym (ap (λ k. getD new k empty) d ∙ getD-set-same (rows lanes held iters col) l (lane-of h (col′ l) i) empty (omega (arith, length-rows held iters col)))
+        at k e (no n) =
+            getD-rows _ _ col′ k e ∙ ap₂ (λ h i. lane-of h (col′ k) i) (getD-set-other held l k h 0 n) (getD-set-other iters l k i 0 n)
+            ∙ ap (λ x. lane-of (getD held k 0) x (getD iters k 0)) (others k e n)
+            ∙ sym (getD-set-other (rows lanes held iters col) l k (lane-of h (col′ l) i) empty n ∙ getD-rows held iters col k e)
+
+  pub lane-held : (h : ℕ) (x : X) (i : ℕ) → h ≢ 0 → lane-of h x i ≡ holds (h - 1) x i
+  unfolding lane-of
+  lane-held zero x i n = absurd (n refl)
+  lane-held (suc w) x i n = let e : w ≡ suc w - 1 = omega arith in ap (λ w. holds w x i) e
+
+  -- ---- the turns from lane l on
+  unfoldable pub from : (Lane X → Stock X → Turn X) → ℕ → List (Lane X) → Stock X → List (Lane X) × Stock X
+  from turn l ls s = let (ls′, s′) = each turn (drop l ls) s in (take l ls ++ ls′, s′)
+
+  pub from-start : (turn : Lane X → Stock X → Turn X) (ls : List (Lane X)) (s : Stock X) → from turn 0 ls s ≡ each turn ls s
+  unfolding from
+  from-start turn ls s = refl
+
+  pub from-end : (turn : Lane X → Stock X → Turn X) (l : ℕ) (ls : List (Lane X)) (s : Stock X) → length ls ≡ l → from turn l ls s ≡ (ls, s)
+  unfolding from each
+  from-end turn zero [] s h = refl
+  from-end turn (suc l) [] s h = absurd (omega arith)
+  from-end turn zero (x ∷ ls) s h = absurd (omega arith)
+  from-end turn (suc l) (x ∷ ls) s h = ap (λ (p : List (Lane X) × Stock X). (x ∷ p .0, p .1)) (from-end turn l ls s (omega arith))
+
+  pub from-step : (turn : Lane X → Stock X → Turn X) (l : ℕ) (ls : List (Lane X)) (s : Stock X) → l < length ls
+      → from turn l ls s ≡ from turn (suc l) (set ls l (turn (getD ls l empty) s .0)) (turn (getD ls l empty) s .1)
+  unfolding from each
+  from-step turn l [] s h = absurd (not-suc-le-zero h)
+  from-step turn zero (x ∷ ls) s h = refl
+  from-step turn (suc l) (x ∷ ls) s h = ap (λ (p : List (Lane X) × Stock X). (x ∷ p .0, p .1)) (from-step turn l ls s (le-of-suc-le-suc h))
+
+  -- a turn that changes nothing at lane l
+  pub from-same : (turn : Lane X → Stock X → Turn X) (l : ℕ) (ls : List (Lane X)) (s : Stock X) → l < length ls → turn (getD ls l empty) s ≡ (getD ls l empty, s)
+      → from turn l ls s ≡ from turn (suc l) ls s
+  from-same turn l ls s h e =
+      from-step turn l ls s h ∙ ap (λ (p : Turn X). from turn (suc l) (set ls l (p .0)) (p .1)) e ∙ ap (λ ls. from turn (suc l) ls s) (set-getD ls l empty)
+
+  -- ---- how many lanes are held, lane by lane
+  held-cons : (x : Lane X) (ls : List (Lane X)) → held (x ∷ ls) ≡ held (x ∷ []) + held ls
+  unfolding held
+  held-cons empty ls = omega arith
+  held-cons (holds w y i) ls = omega arith
+
+  held-append : (f : ℕ → Lane X) (a l : ℕ) → held (table f a (suc l)) ≡ held (table f a l) + held (f (a + l) ∷ [])
+  unfolding table held
+  held-append f a zero = let e : a ≡ a + 0 = omega arith in ap (λ n. held (f n ∷ [])) e ∙ omega arith
+  held-append f a (suc l) =
+      let e : suc a + l ≡ a + suc l = omega arith in
+      omega (arith, held-cons (f a) (table f (suc a) (suc l)), held-cons (f a) (table f (suc a) l), held-append f (suc a) l, ap (λ n. held (f n ∷ [])) e)
+
+  held-next : (held′ iters : List ℕ) (col : ℕ → X) (l : ℕ) → held (rows (suc l) held′ iters col) ≡ held (rows l held′ iters col) + held (row held′ iters col l ∷ [])
+  unfolding rows
+  held-next held′ iters col l = held-append (row held′ iters col) 0 l ∙ ap (λ n. held (table (row held′ iters col) 0 l) + held (row held′ iters col n ∷ [])) (zero-add l)
+
+  -- whether a lane below l is held
+  abbrev pub busy-below : List ℕ → List ℕ → (ℕ → X) → ℕ → Bool
+  busy-below held′ iters col l = not (eqb (held (rows l held′ iters col)) 0)
+
+  one-held : (h : ℕ) (x : X) (i : ℕ) → h ≢ 0 → held (lane-of h x i ∷ []) ≡ 1
+  unfolding lane-of held
+  one-held zero x i n = absurd (n refl)
+  one-held (suc w) x i n = refl
+
+  pub busy-start : (held′ iters : List ℕ) (col : ℕ → X) → false ≡ busy-below held′ iters col 0
+  unfolding held rows table
+  busy-start held′ iters col = refl
+
+  pub busy-some : (held′ iters : List ℕ) (col : ℕ → X) (l : ℕ) → getD held′ l 0 ≢ 0 → true ≡ busy-below held′ iters col (l + 1)
+  busy-some held′ iters col l n =
+      sym (ap not (ap (λ k. eqb (held (rows k held′ iters col)) 0) (add-one l)
+      ∙ ne-eqb (held (rows (suc l) held′ iters col)) 0 (λ z. omega (arith, held-next held′ iters col l, one-held (getD held′ l 0) (col l) (getD iters l 0) n))))
+
+  pub busy-none : (held′ iters : List ℕ) (col : ℕ → X) (l : ℕ) (any : Bool) → getD held′ l 0 ≡ 0 → any ≡ busy-below held′ iters col l → any ≡ busy-below held′ iters col (l + 1)
+  unfolding held lane-of
+  busy-none held′ iters col l any z e =
+      let a : held (rows l held′ iters col) ≡ held (rows (suc l) held′ iters col) = omega (arith, held-next held′ iters col l, ap (λ h. held (lane-of h (col l) (getD iters l 0) ∷ [])) z) in
+      e ∙ ap (λ n. not (eqb n 0)) (a ∙ ap (λ k. held (rows k held′ iters col)) (sym (add-one l)))
+
+-- ---- memory that keeps the log
+module _ {X M : Type 0} (R : Setup X M) where
+  unfoldable pub kept : ℕ → Status X → M
+  kept v waiting = R .before v
+  kept v (holding x i) = R .before v
+  kept v (done x i) = R .after v x i
+
+  -- memory says of each word whether and how it has left
+  abbrev pub Kept : List (Left X) → (ℕ → M) → Type 0
+  Kept log memory = (v : ℕ) → memory v ≡ kept v (seek v (log-words log))
+
+  pub kept-start : (memory : ℕ → M) → ((v : ℕ) → memory v ≡ R .before v) → Kept [] memory
+  unfolding kept seek log-words
+  kept-start memory h = h
+
+  -- word w leaves: its part of memory is written, and no other
+  pub kept-more : (log : List (Left X)) (memory memory′ : ℕ → M) (w : ℕ) (x : X) (i : ℕ) → Kept log memory
+      → memory′ w ≡ R .after w x i → ((v : ℕ) → v ≢ w → memory′ v ≡ memory v) → Kept (logged (R .words) w x i log) memory′
+  unfolding kept seek log-words logged
+  kept-more log memory memory′ w x i k new others v = at (eqb v w) refl
+    where
+      at : (b : Bool) → eqb v w ≡ b → memory′ v ≡ kept v (cond b (done x i) (seek v (log-words log)))
+      at true e = ap memory′ (eqb-true v w e) ∙ new ∙ ap (λ v. R .after v x i) (sym (eqb-true v w e))
+      at false e = others v (eqb-false v w e) ∙ k v
+
+  abbrev pub stock : ℕ → List (Left X) → Stock X
+  stock next log = record { queue = drop next (R .order); log = log }
+
+  -- arrays, columns and memory that stand for lanes and stock
+  pub record Stands (t : List (Lane X) × Stock X) (held iters : List ℕ) (col : ℕ → X) (next : ℕ) (memory : ℕ → M) : Type 0 where
+    pub lanes-are : rows (R .lanes) held iters col ≡ t .0
+    pub queue-is : drop next (R .order) ≡ t .1 .queue
+    pub log-is : Kept (t .1 .log) memory
+
+pub record Sized (held iters : List ℕ) : Type 0 where
+  pub held-fit : length held ≡ 64
+  pub iters-fit : length iters ≡ 64
