@@ -42,21 +42,34 @@ module _ {X : Type 0} where
   unfoldable pub rows : ℕ → List ℕ → List ℕ → (ℕ → X) → List (Lane X)
   rows lanes held iters col = table (row held iters col) 0 lanes
 
-  length-table : (f : ℕ → Lane X) (a k : ℕ) → length (table f a k) ≡ k
+  pub length-table : (f : ℕ → Lane X) (a k : ℕ) → length (table f a k) ≡ k
   unfolding table
   length-table f a zero = refl
   length-table f a (suc k) = ap suc (length-table f (suc a) k)
 
-  getD-table : (f : ℕ → Lane X) (a k l : ℕ) → l < k → getD (table f a k) l empty ≡ f (a + l)
+  pub getD-table : (f : ℕ → Lane X) (a k l : ℕ) → l < k → getD (table f a k) l empty ≡ f (a + l)
   unfolding table
   getD-table f a zero l h = absurd (not-suc-le-zero h)
   getD-table f a (suc k) zero h = let e : a ≡ a + 0 = omega arith in ap f e
   getD-table f a (suc k) (suc l) h = let e : suc a + l ≡ a + suc l = omega arith in getD-table f (suc a) k l (le-of-suc-le-suc h) ∙ ap f e
 
-  table-ext : (f g : ℕ → Lane X) (a k : ℕ) → ((l : ℕ) → a ≤ l → l < a + k → f l ≡ g l) → table f a k ≡ table g a k
+  pub table-ext : (f g : ℕ → Lane X) (a k : ℕ) → ((l : ℕ) → a ≤ l → l < a + k → f l ≡ g l) → table f a k ≡ table g a k
   unfolding table
   table-ext f g a zero h = refl
   table-ext f g a (suc k) h = ap₂ _∷_ (h a (omega arith) (omega arith)) (table-ext f g (suc a) k (λ l p q. h l (omega arith) (omega arith)))
+
+  -- lane l becomes y, and the others are as they were
+  pub table-set : (f f′ : ℕ → Lane X) (n l : ℕ) (y : Lane X) → l < n → f′ l ≡ y → ((k : ℕ) → k < n → k ≢ l → f′ k ≡ f k) → table f′ 0 n ≡ set (table f 0 n) l y
+  table-set f f′ n l y h new others =
+      ext-getD empty _ _ (length-table f′ 0 n ∙ sym (length-set (table f 0 n) l y ∙ length-table f 0 n)) (λ k e. at k (omega (arith, e, length-table f′ 0 n)) (ℕ-discrete k l))
+    where
+      at : (k : ℕ) → k < n → Dec (k ≡ l) → getD (table f′ 0 n) k empty ≡ getD (set (table f 0 n) l y) k empty
+      at k e (yes d) =
+          getD-table f′ 0 n k e ∙ ap f′ (zero-add k ∙ d) ∙ new
+          ∙ sym (ap (λ k. getD (set (table f 0 n) l y) k empty) d ∙ getD-set-same (table f 0 n) l y empty (omega (arith, length-table f 0 n)))
+      at k e (no m) =
+          getD-table f′ 0 n k e ∙ ap f′ (zero-add k) ∙ others k e m
+          ∙ sym (getD-set-other (table f 0 n) l k y empty m ∙ getD-table f 0 n k e ∙ ap f (zero-add k))
 
   module _ (lanes : ℕ) where
     pub length-rows : (held iters : List ℕ) (col : ℕ → X) → length (rows lanes held iters col) ≡ lanes
@@ -76,22 +89,12 @@ module _ {X : Type 0} where
     -- lane l becomes h, i and col′ l; the columns of the other lanes are as they were
     pub set-rows : (held iters : List ℕ) (col col′ : ℕ → X) (l h i : ℕ) → l < lanes → lanes ≤ length held → lanes ≤ length iters → ((k : ℕ) → k < lanes → k ≢ l → col′ k ≡ col k)
         → rows lanes (set held l h) (set iters l i) col′ ≡ set (rows lanes held iters col) l (lane-of h (col′ l) i)
+    unfolding rows
     set-rows held iters col col′ l h i g a b others =
-        ext-getD empty _ _ (length-rows _ _ _ ∙ sym (length-set (rows lanes held iters col) l _ ∙ length-rows held iters col))
-        (λ k e. at k (omega (arith, e, length-rows (set held l h) (set iters l i) col′)) (ℕ-discrete k l))
-      where
-        new : List (Lane X)
-        new = set (rows lanes held iters col) l (lane-of h (col′ l) i)
-
-        at : (k : ℕ) → k < lanes → Dec (k ≡ l) → getD (rows lanes (set held l h) (set iters l i) col′) k empty ≡ getD new k empty
-        at k e (yes d) =
-            getD-rows _ _ col′ k e ∙ ap (row (set held l h) (set iters l i) col′) d
-            ∙ ap₂ (λ h i. lane-of h (col′ l) i) (getD-set-same held l h 0 (omega arith)) (getD-set-same iters l i 0 (omega arith))
-            ∙ sym (ap (λ k. getD new k empty) d ∙ getD-set-same (rows lanes held iters col) l (lane-of h (col′ l) i) empty (omega (arith, length-rows held iters col)))
-        at k e (no n) =
-            getD-rows _ _ col′ k e ∙ ap₂ (λ h i. lane-of h (col′ k) i) (getD-set-other held l k h 0 n) (getD-set-other iters l k i 0 n)
-            ∙ ap (λ x. lane-of (getD held k 0) x (getD iters k 0)) (others k e n)
-            ∙ sym (getD-set-other (rows lanes held iters col) l k (lane-of h (col′ l) i) empty n ∙ getD-rows held iters col k e)
+        table-set (row held iters col) (row (set held l h) (set iters l i) col′) lanes l (lane-of h (col′ l) i) g
+        (ap₂ (λ h i. lane-of h (col′ l) i) (getD-set-same held l h 0 (omega arith)) (getD-set-same iters l i 0 (omega arith)))
+        (λ k e n. ap₂ (λ h i. lane-of h (col′ k) i) (getD-set-other held l k h 0 n) (getD-set-other iters l k i 0 n)
+        ∙ ap (λ x. lane-of (getD held k 0) x (getD iters k 0)) (others k e n))
 
   pub lane-held : (h : ℕ) (x : X) (i : ℕ) → h ≢ 0 → lane-of h x i ≡ holds (h - 1) x i
   unfolding lane-of

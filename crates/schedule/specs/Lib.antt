@@ -10,3 +10,4 @@ pub mod Demand
 pub mod Example
 pub mod Lanes
 pub mod Refill
+pub mod Round
