@@ -40,7 +40,8 @@ module _ {X : Type 0} (words : Words X) where
     -- a run finishes exactly if every word does, and it does if the limit allows the words' iterations one after another
     pub all-finished : r .ending ≡ finished ↔ ((w : ℕ) → count w order ≡ 1 → Finished (status (r .last) w))
     pub enough : sum (ends-alone words) order ≤ round-limit → r .ending ≡ finished
-    -- each word waits, is held, or is finished: one of them, in one place
+    -- each word waits, is held, or is finished: one of them, in one place; and there are no other words
+    pub all-there : (w : ℕ) → times w (all-words (r .last)) ≡ count w order
     pub place : (w : ℕ) → count w order ≡ 1 → Where (r .last) w (status (r .last) w)
     pub as-alone : (w : ℕ) → As-alone w (status (r .last) w)
     -- words are loaded in their order; words loaded = held + finished
@@ -215,6 +216,7 @@ module _ {X : Type 0} (words : Words X) (order : List ℕ) (once : (w : ℕ) →
         stopped-when = λ e. g .stops e .0;
         all-finished = (λ e. done-all (finishes .0 e), λ h. finishes .1 (none-held h));
         enough = λ h. by-ending (λ e. e ≡ finished) (r .ending) (λ _. refl) (λ e. absurd (omega (arith, busy-end e)));
+        all-there = stand;
         place = place-of;
         as-alone = λ v. alone-of v (status s v) (by-status (Running words) (Ended words) s (g .inv .running) (g .inv .ended) v);
         loaded = loaded-of;

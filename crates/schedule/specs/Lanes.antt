@@ -15,14 +15,15 @@ use lib.Seq.{getD-set-same, getD-set-other, ext-getD, set-getD}
 use Rattle.schedule.specs.Run.{Words, Lane, empty, holds, Left, Stock, State, Turn, each, held, logged}
 use Rattle.schedule.specs.Status.{Status, waiting, holding, done, log-words, seek}
 
--- what is decoded and kept: the words, their order of loading, the lanes, the round limit; what memory says of word v before the run
--- touches it, and of word w that has left with values x after i iterations
+-- a run over real memory: the words, their order of loading, the lanes, the round limit; and what memory of some kind M says of word w:
+-- before the run touches it, if it is held at the end with values x after i iterations, and once it has left with values x after i iterations
 pub record Setup (X M : Type 0) : Type 0 where
   pub words : Words X
   pub order : List ℕ
   pub lanes : ℕ
   pub round-limit : ℕ
   pub before : ℕ → M
+  pub during : ℕ → X → ℕ → M
   pub after : ℕ → X → ℕ → M
 
 module _ {X : Type 0} where
@@ -146,29 +147,44 @@ module _ {X : Type 0} where
   unfolding rows
   held-next held′ iters col l = held-append (row held′ iters col) 0 l ∙ ap (λ n. held (table (row held′ iters col) 0 l) + held (row held′ iters col n ∷ [])) (zero-add l)
 
-  -- whether a lane below l is held
-  abbrev pub busy-below : List ℕ → List ℕ → (ℕ → X) → ℕ → Bool
-  busy-below held′ iters col l = not (eqb (held (rows l held′ iters col)) 0)
-
   one-held : (h : ℕ) (x : X) (i : ℕ) → h ≢ 0 → held (lane-of h x i ∷ []) ≡ 1
   unfolding lane-of held
   one-held zero x i n = absurd (n refl)
   one-held (suc w) x i n = refl
 
-  pub busy-start : (held′ iters : List ℕ) (col : ℕ → X) → false ≡ busy-below held′ iters col 0
-  unfolding held rows table
-  busy-start held′ iters col = refl
+  none-held : (h : ℕ) (x : X) (i : ℕ) → h ≡ 0 → held (lane-of h x i ∷ []) ≡ 0
+  unfolding lane-of held
+  none-held h x i e = ap (λ h. held (lane-of h x i ∷ [])) e
 
-  pub busy-some : (held′ iters : List ℕ) (col : ℕ → X) (l : ℕ) → getD held′ l 0 ≢ 0 → true ≡ busy-below held′ iters col (l + 1)
-  busy-some held′ iters col l n =
-      sym (ap not (ap (λ k. eqb (held (rows k held′ iters col)) 0) (add-one l)
-      ∙ ne-eqb (held (rows (suc l) held′ iters col)) 0 (λ z. omega (arith, held-next held′ iters col l, one-held (getD held′ l 0) (col l) (getD iters l 0) n))))
+-- whether a lane below l is held
+unfoldable pub any-held : List ℕ → ℕ → Bool
+any-held held zero = false
+any-held held (suc l) = cond (eqb (getD held l 0) 0) (any-held held l) true
 
-  pub busy-none : (held′ iters : List ℕ) (col : ℕ → X) (l : ℕ) (any : Bool) → getD held′ l 0 ≡ 0 → any ≡ busy-below held′ iters col l → any ≡ busy-below held′ iters col (l + 1)
-  unfolding held lane-of
-  busy-none held′ iters col l any z e =
-      let a : held (rows l held′ iters col) ≡ held (rows (suc l) held′ iters col) = omega (arith, held-next held′ iters col l, ap (λ h. held (lane-of h (col l) (getD iters l 0) ∷ [])) z) in
-      e ∙ ap (λ n. not (eqb n 0)) (a ∙ ap (λ k. held (rows k held′ iters col)) (sym (add-one l)))
+pub any-start : (held : List ℕ) → false ≡ any-held held 0
+unfolding any-held
+any-start held = refl
+
+pub any-some : (held : List ℕ) (l : ℕ) → getD held l 0 ≢ 0 → true ≡ any-held held (l + 1)
+unfolding any-held
+any-some held l n = sym (ap (any-held held) (add-one l) ∙ ap (λ b. cond b (any-held held l) true) (ne-eqb (getD held l 0) 0 n))
+
+pub any-none : (held : List ℕ) (l : ℕ) (any : Bool) → getD held l 0 ≡ 0 → any ≡ any-held held l → any ≡ any-held held (l + 1)
+unfolding any-held
+any-none held l any z e = e ∙ sym (ap (any-held held) (add-one l) ∙ ap (λ b. cond b (any-held held l) true) (eq-eqb (getD held l 0) 0 z))
+
+pub any-is : {X : Type 0} (lanes : ℕ) (held′ iters : List ℕ) (col : ℕ → X) → any-held held′ lanes ≡ not (eqb (held (rows lanes held′ iters col)) 0)
+unfolding any-held
+any-is zero held′ iters col = unfold rows table held in refl
+any-is (suc l) held′ iters col = at (eqb (getD held′ l 0) 0) refl (any-is l held′ iters col)
+  where
+    at : (b : Bool) → eqb (getD held′ l 0) 0 ≡ b → any-held held′ l ≡ not (eqb (held (rows l held′ iters col)) 0)
+        → cond b (any-held held′ l) true ≡ not (eqb (held (rows (suc l) held′ iters col)) 0)
+    at true e r =
+        let same : held (rows l held′ iters col) ≡ held (rows (suc l) held′ iters col) = omega (arith, held-next held′ iters col l, none-held (getD held′ l 0) (col l) (getD iters l 0) (eqb-true _ 0 e)) in
+        r ∙ ap (λ n. not (eqb n 0)) same
+    at false e r =
+        sym (ap not (ne-eqb (held (rows (suc l) held′ iters col)) 0 (λ z. omega (arith, held-next held′ iters col l, one-held (getD held′ l 0) (col l) (getD iters l 0) (eqb-false _ 0 e)))))
 
 -- ---- memory that keeps the log
 module _ {X M : Type 0} (R : Setup X M) where

@@ -11,3 +11,5 @@ pub mod Example
 pub mod Lanes
 pub mod Refill
 pub mod Round
+pub mod Loop
+pub mod Close

@@ -13,7 +13,7 @@ use lib.ListN.{length, getD, take, drop, set, length-set, drop-of-length-le}
 use lib.Seq.{getD-set-same, getD-set-other, drop-cons}
 use Rattle.laws.specs.Choice.{by-bool}
 use Rattle.schedule.specs.Run.{Words, Lane, empty, holds, Left, Stock, Turn, each, held, over, logged, load, fill}
-use Rattle.schedule.specs.Lanes.{Setup, lane-of, row, rows, length-rows, getD-rows, rows-ext, set-rows, from, from-start, from-end, from-step, from-same, busy-below, Kept, kept-more, stock, Stands, Sized}
+use Rattle.schedule.specs.Lanes.{Setup, lane-of, row, rows, length-rows, getD-rows, rows-ext, set-rows, from, from-start, from-end, from-step, from-same, any-held, Kept, kept-more, stock, Stands, Sized}
 
 module _ {X : Type 0} (words : Words X) where
   -- ---- the test: met, or the limit reached
@@ -98,7 +98,7 @@ module _ {X M : Type 0} (R : Setup X M) where
     pub in-order : next ≤ length (R .order)
     pub sized : Sized held₀ iters₀ → Sized held′ iters
     pub after-refill : (log : List (Left X)) → Kept R log memory₀ → Stands R (each F (rows (R .lanes) held₀ iters₀ col₀) (stock R next₀ log)) held′ iters col next memory
-    pub busy-is : busy ≡ busy-below held′ iters col (R .lanes)
+    pub busy-is : busy ≡ any-held held′ (R .lanes)
 
   -- refilling from here leaves what it leaves from there
   pub record Filling (held₀ iters₀ : List ℕ) (col₀ : ℕ → X) (next₀ : ℕ) (memory₀ : ℕ → M) (held′ iters : List ℕ) (col : ℕ → X) (next : ℕ) (memory : ℕ → M) : Type 0 where
@@ -183,7 +183,7 @@ module _ {X M : Type 0} (R : Setup X M) where
   -- every lane is held, or no word waits
   pub filling-end : (held₀ iters₀ : List ℕ) (col₀ : ℕ → X) (next₀ : ℕ) (memory₀ : ℕ → M) (held′ iters : List ℕ) (col : ℕ → X) (next : ℕ) (memory : ℕ → M) (busy : Bool)
       → Filling held₀ iters₀ col₀ next₀ memory₀ held′ iters col next memory → (next < length (R .order) → (k : ℕ) → k < R .lanes → getD held′ k 0 ≢ 0)
-      → busy ≡ busy-below held′ iters col (R .lanes)
+      → busy ≡ any-held held′ (R .lanes)
       → Refilled held₀ iters₀ col₀ next₀ memory₀ held′ iters col next busy memory
   filling-end held₀ iters₀ col₀ next₀ memory₀ held′ iters col next memory busy f p b =
       record {
@@ -213,3 +213,57 @@ module _ {X M : Type 0} (R : Setup X M) where
             queue-is = ap (λ (t : List (Lane X) × Stock X). t .1 .queue) e;
             log-is = subst (λ (d : List (Left X)). Kept R d memory) (ap (λ (t : List (Lane X) × Stock X). t .1 .log) e) (x .1);
           }
+
+  -- ---- columns loaded later, all in one pass: a held lane with 0 iterations has just been filled
+  unfoldable pub fresh : List ℕ → List ℕ → (ℕ → X) → ℕ → X
+  fresh held′ iters col l = cond (eqb (getD iters l 0) 0) (R .words .begin (getD held′ l 0 - 1)) (col l)
+
+  -- the lane takes the word, and its column waits
+  pub filling-hold-later : (held′ iters : List ℕ) (col : ℕ → X) (next : ℕ) (memory : ℕ → M) (l : ℕ) → l < R .lanes → ((k : ℕ) → k < l → getD held′ k 0 ≢ 0) → getD held′ l 0 ≡ 0
+      → next < length (R .order) → R .lanes ≤ length held′ → R .lanes ≤ length iters → over (R .words) (R .words .begin (getD (R .order) next 0)) 0 ≡ false
+      → Filling held′ iters (fresh held′ iters col) next memory
+      (set held′ l (getD (R .order) next 0 + 1)) (set iters l 0) (fresh (set held′ l (getD (R .order) next 0 + 1)) (set iters l 0) col) (next + 1) memory
+  unfolding fresh
+  filling-hold-later held′ iters col next memory l h p none some a b z =
+      filling-hold held′ iters (fresh held′ iters col) next memory l h p none some (fresh (set held′ l (W + 1)) (set iters l 0) col) a b z
+      (ap (λ t. cond t (R .words .begin (getD (set held′ l (W + 1)) l 0 - 1)) (col l)) (eq-eqb _ 0 (getD-set-same iters l 0 0 (omega arith)))
+      ∙ ap (λ n. R .words .begin (n - 1)) (getD-set-same held′ l (W + 1) 0 (omega arith)) ∙ ap (R .words .begin) less)
+      (λ k g n. ap₂ (λ i h. cond (eqb i 0) (R .words .begin (h - 1)) (col k)) (getD-set-other iters l k 0 0 n) (getD-set-other held′ l k (W + 1) 0 n))
+    where
+      W : ℕ
+      W = getD (R .order) next 0
+
+      less : W + 1 - 1 ≡ W
+      less = omega arith
+
+  lane-same : (h : ℕ) (x y : X) (i : ℕ) → (h ≢ 0 → x ≡ y) → lane-of h x i ≡ lane-of h y i
+  unfolding lane-of
+  lane-same zero x y i e = refl
+  lane-same (suc w) x y i e = ap (λ x. holds w x i) (e (λ z. omega arith))
+
+  -- before refilling every held lane has had an iteration; afterwards the columns of the lanes just filled are loaded, and the others kept
+  pub refilled-later : (held₀ iters₀ : List ℕ) (col₀ : ℕ → X) (next₀ : ℕ) (memory₀ : ℕ → M) (held′ iters : List ℕ) (col : ℕ → X) (next : ℕ) (busy : Bool) (memory : ℕ → M)
+      → ((l : ℕ) → l < R .lanes → getD held₀ l 0 ≢ 0 → getD iters₀ l 0 ≢ 0)
+      → Refilled held₀ iters₀ (fresh held₀ iters₀ col₀) next₀ memory₀ held′ iters (fresh held′ iters col₀) next busy memory
+      → ((l : ℕ) → l < R .lanes → getD held′ l 0 ≢ 0 → col l ≡ fresh held′ iters col₀ l)
+      → Refilled held₀ iters₀ col₀ next₀ memory₀ held′ iters col next busy memory
+  refilled-later held₀ iters₀ col₀ next₀ memory₀ held′ iters col next busy memory begun r loaded =
+      record {
+        in-order = r .in-order;
+        sized = r .sized;
+        after-refill = λ log k.
+            let s = r .after-refill log k in
+            let e : rows (R .lanes) held₀ iters₀ (fresh held₀ iters₀ col₀) ≡ rows (R .lanes) held₀ iters₀ col₀ = at-start in
+            subst (λ (ls : List (Lane X)). Stands R (each F ls (stock R next₀ log)) held′ iters col next memory) e
+            (record { lanes-are = at-end ∙ s .lanes-are; queue-is = s .queue-is; log-is = s .log-is });
+        busy-is = r .busy-is;
+      }
+    where
+      kept-col : (l : ℕ) → l < R .lanes → getD held₀ l 0 ≢ 0 → fresh held₀ iters₀ col₀ l ≡ col₀ l
+      kept-col l h n = unfold fresh in ap (λ t. cond t (R .words .begin (getD held₀ l 0 - 1)) (col₀ l)) (ne-eqb (getD iters₀ l 0) 0 (begun l h n))
+
+      at-start : rows (R .lanes) held₀ iters₀ (fresh held₀ iters₀ col₀) ≡ rows (R .lanes) held₀ iters₀ col₀
+      at-start = rows-ext (R .lanes) held₀ iters₀ held₀ iters₀ _ _ (λ l h. lane-same (getD held₀ l 0) _ _ (getD iters₀ l 0) (kept-col l h))
+
+      at-end : rows (R .lanes) held′ iters col ≡ rows (R .lanes) held′ iters (fresh held′ iters col₀)
+      at-end = rows-ext (R .lanes) held′ iters held′ iters _ _ (λ l h. lane-same (getD held′ l 0) _ _ (getD iters l 0) (loaded l h))
