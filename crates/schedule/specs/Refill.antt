@@ -236,6 +236,10 @@ module _ {X M : Type 0} (R : Setup X M) where
       less : W + 1 - 1 ≡ W
       less = omega arith
 
+  -- what refilling leaves while columns wait
+  pub record Assigned (held₀ iters₀ : List ℕ) (next₀ : ℕ) (memory₀ : ℕ → M) (held′ iters : List ℕ) (next : ℕ) (busy : Bool) (memory : ℕ → M) : Type 0 where
+    pub refilled : (col : ℕ → X) → Refilled held₀ iters₀ (fresh held₀ iters₀ col) next₀ memory₀ held′ iters (fresh held′ iters col) next busy memory
+
   lane-same : (h : ℕ) (x y : X) (i : ℕ) → (h ≢ 0 → x ≡ y) → lane-of h x i ≡ lane-of h y i
   unfolding lane-of
   lane-same zero x y i e = refl
@@ -244,19 +248,19 @@ module _ {X M : Type 0} (R : Setup X M) where
   -- before refilling every held lane has had an iteration; afterwards the columns of the lanes just filled are loaded, and the others kept
   pub refilled-later : (held₀ iters₀ : List ℕ) (col₀ : ℕ → X) (next₀ : ℕ) (memory₀ : ℕ → M) (held′ iters : List ℕ) (col : ℕ → X) (next : ℕ) (busy : Bool) (memory : ℕ → M)
       → ((l : ℕ) → l < R .lanes → getD held₀ l 0 ≢ 0 → getD iters₀ l 0 ≢ 0)
-      → Refilled held₀ iters₀ (fresh held₀ iters₀ col₀) next₀ memory₀ held′ iters (fresh held′ iters col₀) next busy memory
+      → Assigned held₀ iters₀ next₀ memory₀ held′ iters next busy memory
       → ((l : ℕ) → l < R .lanes → getD held′ l 0 ≢ 0 → col l ≡ fresh held′ iters col₀ l)
       → Refilled held₀ iters₀ col₀ next₀ memory₀ held′ iters col next busy memory
   refilled-later held₀ iters₀ col₀ next₀ memory₀ held′ iters col next busy memory begun r loaded =
       record {
-        in-order = r .in-order;
-        sized = r .sized;
+        in-order = r .refilled col₀ .in-order;
+        sized = r .refilled col₀ .sized;
         after-refill = λ log k.
-            let s = r .after-refill log k in
+            let s = r .refilled col₀ .after-refill log k in
             let e : rows (R .lanes) held₀ iters₀ (fresh held₀ iters₀ col₀) ≡ rows (R .lanes) held₀ iters₀ col₀ = at-start in
             subst (λ (ls : List (Lane X)). Stands R (each F ls (stock R next₀ log)) held′ iters col next memory) e
             (record { lanes-are = at-end ∙ s .lanes-are; queue-is = s .queue-is; log-is = s .log-is });
-        busy-is = r .busy-is;
+        busy-is = r .refilled col₀ .busy-is;
       }
     where
       kept-col : (l : ℕ) → l < R .lanes → getD held₀ l 0 ≢ 0 → fresh held₀ iters₀ col₀ l ≡ col₀ l
