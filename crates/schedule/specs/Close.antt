@@ -150,13 +150,13 @@ module _ {X M : Type 0} (R : Setup X M) where
     closing-end l memory e c v = c .told-so v ∙ ap (λ a. told v (seek v (lane-words a ++ log-words log))) (take-all l ls (omega (arith, length-rows (R .lanes) held′ iters col)))
 
   -- ---- the run's own lanes and log
-  module _ (n : ℕ) (once : (w : ℕ) → count w (R .order) ≤ 1) (some : 1 ≤ R .lanes) where
-    pub demanded : Demand (R .words) (R .order) (R .lanes) (R .round-limit) (result R n)
-    demanded = demand (R .words) (R .order) once (R .lanes) some (R .round-limit)
+  module _ (n round-limit : ℕ) (once : (w : ℕ) → count w (R .order) ≤ 1) (some : 1 ≤ R .lanes) where
+    pub demanded : Demand (R .words) (R .order) (R .lanes) round-limit (result R n round-limit)
+    demanded = demand (R .words) (R .order) once (R .lanes) some round-limit
 
-    module _ (ended : Bool) (rounds : ℕ) (held′ iters : List ℕ) (col : ℕ → X) (next : ℕ) (memory : ℕ → M) (r : Runs R n ended rounds held′ iters col next memory) where
+    module _ (ended : Bool) (rounds : ℕ) (held′ iters : List ℕ) (col : ℕ → X) (next : ℕ) (memory : ℕ → M) (r : Runs R n round-limit ended rounds held′ iters col next memory) where
       abbrev s : State X
-      s = result R n .last
+      s = result R n round-limit .last
 
       pub close-start : Closing held′ iters col (s .stock .log) 0 memory
       close-start =

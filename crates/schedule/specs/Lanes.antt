@@ -15,13 +15,12 @@ use lib.Seq.{getD-set-same, getD-set-other, ext-getD, set-getD}
 use Rattle.schedule.specs.Run.{Words, Lane, empty, holds, Left, Stock, State, Turn, each, held, logged}
 use Rattle.schedule.specs.Status.{Status, waiting, holding, done, log-words, seek}
 
--- a run over real memory: the words, their order of loading, the lanes, the round limit; and what memory of some kind M says of word w:
+-- a run over real memory: the words, their order of loading, the lanes; and what memory of some kind M says of word w:
 -- before the run touches it, if it is held at the end with values x after i iterations, and once it has left with values x after i iterations
 pub record Setup (X M : Type 0) : Type 0 where
   pub words : Words X
   pub order : List ℕ
   pub lanes : ℕ
-  pub round-limit : ℕ
   pub before : ℕ → M
   pub during : ℕ → X → ℕ → M
   pub after : ℕ → X → ℕ → M

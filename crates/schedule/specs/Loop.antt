@@ -90,9 +90,9 @@ module _ {X : Type 0} (words : Words X) (n : ℕ) where
   known-at f (y ∷ ls) z zero w x i e = omega (arith, ap (in-lane f) e)
   known-at f (y ∷ ls) z (suc k) w x i e = known-at f ls (omega arith) k w x i e
 
-module _ {X M : Type 0} (R : Setup X M) (n : ℕ) where
+module _ {X M : Type 0} (R : Setup X M) (n round-limit : ℕ) where
   abbrev pub result : Result X
-  result = run (R .words) (R .order) (R .lanes) (R .round-limit)
+  result = run (R .words) (R .order) (R .lanes) round-limit
 
   -- ending, rounds, lanes, queue and log are the run's
   pub record Runs (ended : Bool) (rounds : ℕ) (held′ iters : List ℕ) (col : ℕ → X) (next : ℕ) (memory : ℕ → M) : Type 0 where
@@ -133,24 +133,24 @@ module _ {X M : Type 0} (R : Setup X M) (n : ℕ) where
   pub record Going (held′ iters : List ℕ) (col : ℕ → X) (next rounds : ℕ) (memory : ℕ → M) : Type 0 where
     pub sized : Sized held′ iters
     pub in-order : next ≤ length (R .order)
-    pub in-limit : rounds ≤ R .round-limit
+    pub in-limit : rounds ≤ round-limit
     pub begun : (l : ℕ) → l < R .lanes → getD held′ l 0 ≢ 0 → getD iters l 0 ≢ 0
     pub log : List (Left X)
     pub log-is : Kept R log memory
     pub safe : Safe (R .words) n (rows (R .lanes) held′ iters col) (stock R next log)
-    pub goes : go (R .words) (R .round-limit - rounds) (made held′ iters col next rounds log) ≡ result
+    pub goes : go (R .words) (round-limit - rounds) (made held′ iters col next rounds log) ≡ result
 
   -- ---- after refilling
   pub record Pausing (held′ iters : List ℕ) (col : ℕ → X) (next rounds : ℕ) (busy : Bool) (memory : ℕ → M) : Type 0 where
     pub sized : Sized held′ iters
     pub in-order : next ≤ length (R .order)
-    pub in-limit : rounds ≤ R .round-limit
+    pub in-limit : rounds ≤ round-limit
     pub busy-is : busy ≡ any-held held′ (R .lanes)
     pub is-ready : Ready held′ iters
     pub log : List (Left X)
     pub log-is : Kept R log memory
     pub safe : Safe (R .words) n (rows (R .lanes) held′ iters col) (stock R next log)
-    pub goes : settle (R .round-limit - rounds) (made held′ iters col next rounds log) ≡ result
+    pub goes : settle (round-limit - rounds) (made held′ iters col next rounds log) ≡ result
 
   zeros : (held′ iters : List ℕ) (col : ℕ → X) → ((k : ℕ) → k < R .lanes → getD held′ k 0 ≡ 0) → rows (R .lanes) held′ iters col ≡ replicate (R .lanes) empty
   unfolding lane-of
@@ -193,7 +193,7 @@ module _ {X M : Type 0} (R : Setup X M) (n : ℕ) where
         goes = ap₂ (λ k ls. go (R .words) k (record { lanes = ls; stock = record { queue = R .order; log = [] }; rounds = 0 })) none (zeros held′ iters col z);
       }
     where
-      none : R .round-limit - 0 ≡ R .round-limit
+      none : round-limit - 0 ≡ round-limit
       none = omega arith
 
   pub pausing : (held₀ iters₀ : List ℕ) (col₀ : ℕ → X) (next₀ : ℕ) (memory₀ : ℕ → M) (held′ iters : List ℕ) (col : ℕ → X) (next : ℕ) (busy : Bool) (memory : ℕ → M) (rounds : ℕ)
@@ -210,8 +210,8 @@ module _ {X M : Type 0} (R : Setup X M) (n : ℕ) where
         log = t .1 .log;
         log-is = s .log-is;
         safe = ok;
-        goes = ap₂ (λ ls q. settle (R .round-limit - rounds) (record { lanes = ls; stock = record { queue = q; log = t .1 .log }; rounds = rounds })) (s .lanes-are) (s .queue-is)
-            ∙ sym (go-settle (R .round-limit - rounds) (made held₀ iters₀ col₀ next₀ rounds (g .log))) ∙ g .goes;
+        goes = ap₂ (λ ls q. settle (round-limit - rounds) (record { lanes = ls; stock = record { queue = q; log = t .1 .log }; rounds = rounds })) (s .lanes-are) (s .queue-is)
+            ∙ sym (go-settle (round-limit - rounds) (made held₀ iters₀ col₀ next₀ rounds (g .log))) ∙ g .goes;
       }
     where
       t : List (Lane X) × Stock X
@@ -252,22 +252,22 @@ module _ {X M : Type 0} (R : Setup X M) (n : ℕ) where
     -- no lane is held
     pub ends-finished : busy ≡ false → (ended : Bool) → ended ≡ false → Runs ended rounds held′ iters col next memory
     unfolding T is-stopped
-    ends-finished b = stands-so finished (sym (p .goes) ∙ idle (R .round-limit - rounds) (not-false _ (sym busy-rows ∙ b)))
+    ends-finished b = stands-so finished (sym (p .goes) ∙ idle (round-limit - rounds) (not-false _ (sym busy-rows ∙ b)))
 
     -- the limit is used up
-    pub ends-stopped : busy ≡ true → rounds ≡ R .round-limit → (ended : Bool) → ended ≡ true → Runs ended rounds held′ iters col next memory
+    pub ends-stopped : busy ≡ true → rounds ≡ round-limit → (ended : Bool) → ended ≡ true → Runs ended rounds held′ iters col next memory
     unfolding settle T made is-stopped
     ends-stopped b r =
         stands-so stopped (sym (p .goes) ∙ ap (λ k. settle k T) zero-left ∙ ap (λ b. cond b (record { ending = finished; last = T }) (record { ending = stopped; last = T })) busy-held)
       where
-        zero-left : R .round-limit - rounds ≡ 0
+        zero-left : round-limit - rounds ≡ 0
         zero-left = omega arith
 
         busy-held : eqb (held (rows (R .lanes) held′ iters col)) 0 ≡ false
         busy-held = not-true _ (sym busy-rows ∙ b)
 
     -- else a round
-    pub goes-on : (held″ iters″ : List ℕ) (col″ : ℕ → X) (memory″ : ℕ → M) → busy ≡ true → rounds ≢ R .round-limit
+    pub goes-on : (held″ iters″ : List ℕ) (col″ : ℕ → X) (memory″ : ℕ → M) → busy ≡ true → rounds ≢ round-limit
         → Advanced R held′ iters col memory held″ iters″ col″ memory″ → Going held″ iters″ col″ next (rounds + 1) memory″
     unfolding settle T made round
     goes-on held″ iters″ col″ memory″ b r a =
@@ -282,9 +282,9 @@ module _ {X M : Type 0} (R : Setup X M) (n : ℕ) where
           log-is = x .1;
           safe = subst (λ (t : List (Lane X) × Stock X). Safe (R .words) n (t .0) (t .1)) (x .2) (safe-round (R .words) n _ _ (p .safe));
           goes =
-              ap (λ (m : ℕ). go (R .words) (R .round-limit - (rounds + 1)) (record { lanes = rows (R .lanes) held″ iters″ col″; stock = record { queue = drop next (R .order); log = x .0 }; rounds = m })) (add-one rounds)
-              ∙ ap (λ (t : List (Lane X) × Stock X). go (R .words) (R .round-limit - (rounds + 1)) (record { lanes = t .0; stock = t .1; rounds = suc rounds })) (sym (x .2))
-              ∙ sym (ap (λ b. cond b (record { ending = finished; last = T }) (go (R .words) (R .round-limit - (rounds + 1)) (round (R .words) T))) busy-held)
+              ap (λ (m : ℕ). go (R .words) (round-limit - (rounds + 1)) (record { lanes = rows (R .lanes) held″ iters″ col″; stock = record { queue = drop next (R .order); log = x .0 }; rounds = m })) (add-one rounds)
+              ∙ ap (λ (t : List (Lane X) × Stock X). go (R .words) (round-limit - (rounds + 1)) (record { lanes = t .0; stock = t .1; rounds = suc rounds })) (sym (x .2))
+              ∙ sym (ap (λ b. cond b (record { ending = finished; last = T }) (go (R .words) (round-limit - (rounds + 1)) (round (R .words) T))) busy-held)
               ∙ ap (λ k. settle k T) (sym one-less) ∙ p .goes;
         }
       where
@@ -307,7 +307,7 @@ module _ {X M : Type 0} (R : Setup X M) (n : ℕ) where
             (each-all (leave (R .words)) (Held Begun) (Held Begun) (λ _. Unit {0}) (λ l s q _. (leave-held (R .words) Begun l s q, tt)) _ _
             (iterated-all (R .words) (λ w x i. Unit {0}) Begun (λ w x i _. omega arith) (rows (R .lanes) held′ iters col) (any-lane (rows (R .lanes) held′ iters col))) tt .0)
 
-        one-less : R .round-limit - rounds ≡ suc (R .round-limit - (rounds + 1))
+        one-less : round-limit - rounds ≡ suc (round-limit - (rounds + 1))
         one-less = omega (arith, p .in-limit)
 
         busy-held : eqb (held (rows (R .lanes) held′ iters col)) 0 ≡ false
