@@ -218,27 +218,82 @@ module _ {X M : Type 0} (R : Setup X M) where
   unfoldable pub fresh : List ℕ → List ℕ → (ℕ → X) → ℕ → X
   fresh held′ iters col l = cond (eqb (getD iters l 0) 0) (R .words .begin (getD held′ l 0 - 1)) (col l)
 
-  -- the lane takes the word, and its column waits
-  pub filling-hold-later : (held′ iters : List ℕ) (col : ℕ → X) (next : ℕ) (memory : ℕ → M) (l : ℕ) → l < R .lanes → ((k : ℕ) → k < l → getD held′ k 0 ≢ 0) → getD held′ l 0 ≡ 0
-      → next < length (R .order) → R .lanes ≤ length held′ → R .lanes ≤ length iters → over (R .words) (R .words .begin (getD (R .order) next 0)) 0 ≡ false
-      → Filling held′ iters (fresh held′ iters col) next memory
-      (set held′ l (getD (R .order) next 0 + 1)) (set iters l 0) (fresh (set held′ l (getD (R .order) next 0 + 1)) (set iters l 0) col) (next + 1) memory
-  unfolding fresh
-  filling-hold-later held′ iters col next memory l h p none some a b z =
-      filling-hold held′ iters (fresh held′ iters col) next memory l h p none some (fresh (set held′ l (W + 1)) (set iters l 0) col) a b z
-      (ap (λ t. cond t (R .words .begin (getD (set held′ l (W + 1)) l 0 - 1)) (col l)) (eq-eqb _ 0 (getD-set-same iters l 0 0 (omega arith)))
-      ∙ ap (λ n. R .words .begin (n - 1)) (getD-set-same held′ l (W + 1) 0 (omega arith)) ∙ ap (R .words .begin) less)
-      (λ k g n. ap₂ (λ i h. cond (eqb i 0) (R .words .begin (h - 1)) (col k)) (getD-set-other iters l k 0 0 n) (getD-set-other held′ l k (W + 1) 0 n))
-    where
-      W : ℕ
-      W = getD (R .order) next 0
-
-      less : W + 1 - 1 ≡ W
-      less = omega arith
-
   -- what refilling leaves while columns wait
   pub record Assigned (held₀ iters₀ : List ℕ) (next₀ : ℕ) (memory₀ : ℕ → M) (held′ iters : List ℕ) (next : ℕ) (busy : Bool) (memory : ℕ → M) : Type 0 where
     pub refilled : (col : ℕ → X) → Refilled held₀ iters₀ (fresh held₀ iters₀ col) next₀ memory₀ held′ iters (fresh held′ iters col) next busy memory
+
+  pub record Assigning (held₀ iters₀ : List ℕ) (next₀ : ℕ) (memory₀ : ℕ → M) (held′ iters : List ℕ) (next : ℕ) (memory : ℕ → M) : Type 0 where
+    pub later : next₀ ≤ next
+    pub in-order : next ≤ length (R .order)
+    pub held-fit : length held′ ≡ length held₀
+    pub iters-fit : length iters ≡ length iters₀
+    pub filling : (col : ℕ → X) → Filling held₀ iters₀ (fresh held₀ iters₀ col) next₀ memory₀ held′ iters (fresh held′ iters col) next memory
+
+  pub assigning-start : (held′ iters : List ℕ) (next : ℕ) (memory : ℕ → M) → next ≤ length (R .order) → Assigning held′ iters next memory held′ iters next memory
+  assigning-start held′ iters next memory h =
+      record { later = omega arith; in-order = h; held-fit = refl; iters-fit = refl; filling = λ col. filling-start held′ iters _ next memory h }
+
+  pub assigning-on : {held₀ iters₀ : List ℕ} {next₀ : ℕ} {memory₀ : ℕ → M} {held₁ iters₁ : List ℕ} {next₁ : ℕ} {memory₁ : ℕ → M} {held′ iters : List ℕ} {next : ℕ} {memory : ℕ → M}
+      → Assigning held₀ iters₀ next₀ memory₀ held₁ iters₁ next₁ memory₁ → Assigning held₁ iters₁ next₁ memory₁ held′ iters next memory
+      → Assigning held₀ iters₀ next₀ memory₀ held′ iters next memory
+  assigning-on a b =
+      record {
+        later = omega (arith, a .later, b .later);
+        in-order = b .in-order;
+        held-fit = b .held-fit ∙ a .held-fit;
+        iters-fit = b .iters-fit ∙ a .iters-fit;
+        filling = λ col. filling-on (a .filling col) (b .filling col);
+      }
+
+  -- lane l is the lowest empty lane, and a word waits
+  module _ (held′ iters : List ℕ) (next : ℕ) (memory : ℕ → M) (l : ℕ) (in-lanes : l < R .lanes) (p : (k : ℕ) → k < l → getD held′ k 0 ≢ 0) (none : getD held′ l 0 ≡ 0)
+      (some : next < length (R .order)) where
+    abbrev W : ℕ
+    W = getD (R .order) next 0
+
+    -- the word leaves at once: memory says so
+    pub assigning-quick : (memory′ : ℕ → M) → over (R .words) (R .words .begin W) 0 ≡ true → memory′ W ≡ R .after W (R .words .begin W) 0 → ((v : ℕ) → v ≢ W → memory′ v ≡ memory v)
+        → Assigning held′ iters next memory held′ iters (next + 1) memory′
+    assigning-quick memory′ z new others =
+        record {
+          later = omega arith;
+          in-order = omega arith;
+          held-fit = refl;
+          iters-fit = refl;
+          filling = λ col. filling-quick held′ iters (fresh held′ iters col) next memory l in-lanes p none some memory′ z new others;
+        }
+
+    -- the lane takes the word, and its column waits
+    pub assigning-hold : R .lanes ≤ length held′ → R .lanes ≤ length iters → over (R .words) (R .words .begin W) 0 ≡ false
+        → Assigning held′ iters next memory (set held′ l (W + 1)) (set iters l 0) (next + 1) memory
+    assigning-hold a b z =
+        record {
+          later = omega arith;
+          in-order = omega arith;
+          held-fit = length-set held′ l (W + 1);
+          iters-fit = length-set iters l 0;
+          filling = λ col. filling-hold held′ iters (fresh held′ iters col) next memory l in-lanes p none some (fresh (set held′ l (W + 1)) (set iters l 0) col) a b z (new col) (others col);
+        }
+      where
+        less : W + 1 - 1 ≡ W
+        less = omega arith
+
+        new : (col : ℕ → X) → fresh (set held′ l (W + 1)) (set iters l 0) col l ≡ R .words .begin W
+        new col =
+            unfold fresh in
+            (ap (λ t. cond t (R .words .begin (getD (set held′ l (W + 1)) l 0 - 1)) (col l)) (eq-eqb _ 0 (getD-set-same iters l 0 0 (omega arith)))
+            ∙ ap (λ n. R .words .begin (n - 1)) (getD-set-same held′ l (W + 1) 0 (omega arith)) ∙ ap (R .words .begin) less)
+
+        others : (col : ℕ → X) (k : ℕ) → k < R .lanes → k ≢ l → fresh (set held′ l (W + 1)) (set iters l 0) col k ≡ fresh held′ iters col k
+        others col k g n =
+            unfold fresh in ap₂ (λ i h. cond (eqb i 0) (R .words .begin (h - 1)) (col k)) (getD-set-other iters l k 0 0 n) (getD-set-other held′ l k (W + 1) 0 n)
+
+  -- every lane is held, or no word waits
+  pub assigning-end : (held₀ iters₀ : List ℕ) (next₀ : ℕ) (memory₀ : ℕ → M) (held′ iters : List ℕ) (next : ℕ) (memory : ℕ → M) (busy : Bool)
+      → Assigning held₀ iters₀ next₀ memory₀ held′ iters next memory → (next < length (R .order) → (k : ℕ) → k < R .lanes → getD held′ k 0 ≢ 0)
+      → busy ≡ any-held held′ (R .lanes) → Assigned held₀ iters₀ next₀ memory₀ held′ iters next busy memory
+  assigning-end held₀ iters₀ next₀ memory₀ held′ iters next memory busy f p b =
+      record { refilled = λ col. filling-end held₀ iters₀ _ next₀ memory₀ held′ iters _ next memory busy (f .filling col) p b }
 
   lane-same : (h : ℕ) (x y : X) (i : ℕ) → (h ≢ 0 → x ≡ y) → lane-of h x i ≡ lane-of h y i
   unfolding lane-of
