@@ -57,38 +57,49 @@ module _ {X M : Type 0} (R : Setup X M) where
         → (log′ : List (Left X)) × Kept R log′ memory
         × (each A (map (iterated (R .words)) (rows (R .lanes) held₀ iters₀ col₀)) (record { queue = queue; log = log }) ≡ (rows (R .lanes) held iters col, record { queue = queue; log = log′ }))
 
+  -- the second half of it, over columns that have had their iteration
+  pub record Retired (held₀ iters₀ : List ℕ) (memory₀ : ℕ → M) (held iters : List ℕ) (col : ℕ → X) (memory : ℕ → M) : Type 0 where
+    pub sized : Sized held iters
+    pub after-turns : (queue : List ℕ) (log : List (Left X)) → Kept R log memory₀
+        → (log′ : List (Left X)) × Kept R log′ memory
+        × (each A (table (mixed 0 held₀ iters₀ col) 0 (R .lanes)) (record { queue = queue; log = log }) ≡ (rows (R .lanes) held iters col, record { queue = queue; log = log′ }))
+
+  -- a round: every held lane's column is iterated, then the lanes have their turns
+  pub advanced : (held₀ iters₀ : List ℕ) (col₀ : ℕ → X) (memory₀ : ℕ → M) (held iters : List ℕ) (col : ℕ → X) (memory : ℕ → M)
+      → ((l : ℕ) → l < R .lanes → getD held₀ l 0 ≢ 0 → col l ≡ R .words .iterate (col₀ l)) → Retired held₀ iters₀ memory₀ held iters col memory
+      → Advanced held₀ iters₀ col₀ memory₀ held iters col memory
+  unfolding rows
+  advanced held₀ iters₀ col₀ memory₀ held iters col memory h r =
+      record {
+        sized = r .sized;
+        after-round = λ q d m. let x = r .after-turns q d m in (x .0, x .1, ap (λ ls. each A ls (record { queue = q; log = d })) lanes-are ∙ x .2);
+      }
+    where
+      lanes-are : map (iterated (R .words)) (table (row held₀ iters₀ col₀) 0 (R .lanes)) ≡ table (mixed 0 held₀ iters₀ col) 0 (R .lanes)
+      lanes-are =
+          map-table (iterated (R .words)) (row held₀ iters₀ col₀) 0 (R .lanes)
+          ∙ table-ext _ _ 0 (R .lanes) (λ l p q. iterated-lane (R .words) (getD held₀ l 0) (col₀ l) (col l) (getD iters₀ l 0) (h l (omega (arith, zero-add (R .lanes))))
+          ∙ sym (mixed-from 0 held₀ iters₀ col l (omega arith)))
+
   -- lanes below l have had their turn
-  pub record Leaving (held₀ iters₀ : List ℕ) (col₀ : ℕ → X) (memory₀ : ℕ → M) (l : ℕ) (held iters : List ℕ) (col : ℕ → X) (memory : ℕ → M) : Type 0 where
+  pub record Leaving (held₀ iters₀ : List ℕ) (memory₀ : ℕ → M) (l : ℕ) (held iters : List ℕ) (col : ℕ → X) (memory : ℕ → M) : Type 0 where
     pub sized : Sized held iters
     pub untouched : (k : ℕ) → l ≤ k → (getD held k 0 ≡ getD held₀ k 0) × (getD iters k 0 ≡ getD iters₀ k 0)
     pub same : (queue : List ℕ) (log₀ : List (Left X)) → Kept R log₀ memory₀
         → (log : List (Left X)) × Kept R log memory
-        × (each A (map (iterated (R .words)) (rows (R .lanes) held₀ iters₀ col₀)) (record { queue = queue; log = log₀ })
+        × (each A (table (mixed 0 held₀ iters₀ col) 0 (R .lanes)) (record { queue = queue; log = log₀ })
         ≡ from A l (table (mixed l held iters col) 0 (R .lanes)) (record { queue = queue; log = log }))
 
-  -- every held lane's column has been iterated
-  pub leaving-start : (held iters : List ℕ) (col₀ col : ℕ → X) (memory : ℕ → M) → Sized held iters → ((l : ℕ) → l < R .lanes → getD held l 0 ≢ 0 → col l ≡ R .words .iterate (col₀ l))
-      → Leaving held iters col₀ memory 0 held iters col memory
-  unfolding rows
-  leaving-start held iters col₀ col memory z h =
+  pub leaving-start : (held iters : List ℕ) (col : ℕ → X) (memory : ℕ → M) → Sized held iters → Leaving held iters memory 0 held iters col memory
+  leaving-start held iters col memory z =
       record {
         sized = z;
         untouched = λ k _. (refl, refl);
-        same = λ q d m. (
-          d,
-          m,
-          ap (λ ls. each A ls (record { queue = q; log = d })) lanes-are ∙ sym (from-start A (table (mixed 0 held iters col) 0 (R .lanes)) _),
-        );
+        same = λ q d m. (d, m, sym (from-start A (table (mixed 0 held iters col) 0 (R .lanes)) _));
       }
-    where
-      lanes-are : map (iterated (R .words)) (table (row held iters col₀) 0 (R .lanes)) ≡ table (mixed 0 held iters col) 0 (R .lanes)
-      lanes-are =
-          map-table (iterated (R .words)) (row held iters col₀) 0 (R .lanes)
-          ∙ table-ext _ _ 0 (R .lanes) (λ l p q. iterated-lane (R .words) (getD held l 0) (col₀ l) (col l) (getD iters l 0) (h l (omega (arith, zero-add (R .lanes))))
-          ∙ sym (mixed-from 0 held iters col l (omega arith)))
 
-  module _ (held₀ iters₀ : List ℕ) (col₀ : ℕ → X) (memory₀ : ℕ → M) (l : ℕ) (held iters : List ℕ) (col : ℕ → X) (memory : ℕ → M)
-      (a : Leaving held₀ iters₀ col₀ memory₀ l held iters col memory) (h : l < R .lanes) (fit : R .lanes ≤ 64) where
+  module _ (held₀ iters₀ : List ℕ) (memory₀ : ℕ → M) (l : ℕ) (held iters : List ℕ) (col : ℕ → X) (memory : ℕ → M)
+      (a : Leaving held₀ iters₀ memory₀ l held iters col memory) (h : l < R .lanes) (fit : R .lanes ≤ 64) where
     abbrev H : ℕ
     H = getD held l 0
 
@@ -105,7 +116,7 @@ module _ {X M : Type 0} (R : Setup X M) where
     here = getD-table (mixed l held iters col) 0 (R .lanes) l h ∙ ap (mixed l held iters col) (zero-add l) ∙ mixed-from l held iters col l (omega arith)
 
     -- an empty lane
-    pub leaving-skip : H ≡ 0 → Leaving held₀ iters₀ col₀ memory₀ (l + 1) held iters col memory
+    pub leaving-skip : H ≡ 0 → Leaving held₀ iters₀ memory₀ (l + 1) held iters col memory
     unfolding leave lane-of
     leaving-skip e =
         record {
@@ -138,7 +149,7 @@ module _ {X M : Type 0} (R : Setup X M) where
         (e ∙ a .untouched k (omega arith) .0, getD-set-other iters l k (I + 1) 0 n ∙ a .untouched k (omega arith) .1)
 
     -- a word that stays
-    pub leaving-stay : H ≢ 0 → over (R .words) (col l) (I + 1) ≡ false → Leaving held₀ iters₀ col₀ memory₀ (l + 1) held (set iters l (I + 1)) col memory
+    pub leaving-stay : H ≢ 0 → over (R .words) (col l) (I + 1) ≡ false → Leaving held₀ iters₀ memory₀ (l + 1) held (set iters l (I + 1)) col memory
     unfolding leave
     leaving-stay n o =
         record {
@@ -169,7 +180,7 @@ module _ {X M : Type 0} (R : Setup X M) where
 
     -- a word that leaves: memory says so
     pub leaving-leave : (memory′ : ℕ → M) → H ≢ 0 → over (R .words) (col l) (I + 1) ≡ true → memory′ (H - 1) ≡ R .after (H - 1) (col l) (I + 1)
-        → ((v : ℕ) → v ≢ H - 1 → memory′ v ≡ memory v) → Leaving held₀ iters₀ col₀ memory₀ (l + 1) (set held l 0) (set iters l (I + 1)) col memory′
+        → ((v : ℕ) → v ≢ H - 1 → memory′ v ≡ memory v) → Leaving held₀ iters₀ memory₀ (l + 1) (set held l 0) (set iters l (I + 1)) col memory′
     unfolding leave lane-of
     leaving-leave memory′ n o new others =
         record {
@@ -197,18 +208,18 @@ module _ {X M : Type 0} (R : Setup X M) where
             ∙ ap (λ h. lane-of h (col l) (getD (set iters l (I + 1)) l 0)) (getD-set-same held l 0 0 (omega (arith, a .sized .held-fit))))
             (λ k e n. mixed-other l held iters (set held l 0) (set iters l (I + 1)) col k n (getD-set-other held l k 0 0 n) (getD-set-other iters l k (I + 1) 0 n))
 
-  pub leaving-as : {held₀ iters₀ : List ℕ} {col₀ : ℕ → X} {memory₀ : ℕ → M} {l : ℕ} {held iters : List ℕ} {col : ℕ → X} {memory : ℕ → M} {held′ iters′ : List ℕ} {memory′ : ℕ → M}
-      → held′ ≡ held → iters′ ≡ iters → memory′ ≡ memory → Leaving held₀ iters₀ col₀ memory₀ l held iters col memory → Leaving held₀ iters₀ col₀ memory₀ l held′ iters′ col memory′
-  leaving-as {held₀} {iters₀} {col₀} {memory₀} {l} {held} {iters} {col} p q r a = subst₃ (λ x y z. Leaving held₀ iters₀ col₀ memory₀ l x y col z) (sym p) (sym q) (sym r) a
+  pub leaving-as : {held₀ iters₀ : List ℕ} {memory₀ : ℕ → M} {l : ℕ} {held iters : List ℕ} {col : ℕ → X} {memory : ℕ → M} {held′ iters′ : List ℕ} {memory′ : ℕ → M}
+      → held′ ≡ held → iters′ ≡ iters → memory′ ≡ memory → Leaving held₀ iters₀ memory₀ l held iters col memory → Leaving held₀ iters₀ memory₀ l held′ iters′ col memory′
+  leaving-as {held₀} {iters₀} {memory₀} {l} {held} {iters} {col} p q r a = subst₃ (λ x y z. Leaving held₀ iters₀ memory₀ l x y col z) (sym p) (sym q) (sym r) a
 
   -- every lane has had its turn
-  pub leaving-end : (held₀ iters₀ : List ℕ) (col₀ : ℕ → X) (memory₀ : ℕ → M) (l : ℕ) (held iters : List ℕ) (col : ℕ → X) (memory : ℕ → M)
-      → Leaving held₀ iters₀ col₀ memory₀ l held iters col memory → R .lanes ≡ l → Advanced held₀ iters₀ col₀ memory₀ held iters col memory
+  pub leaving-end : (held₀ iters₀ : List ℕ) (memory₀ : ℕ → M) (l : ℕ) (held iters : List ℕ) (col : ℕ → X) (memory : ℕ → M)
+      → Leaving held₀ iters₀ memory₀ l held iters col memory → R .lanes ≡ l → Retired held₀ iters₀ memory₀ held iters col memory
   unfolding rows
-  leaving-end held₀ iters₀ col₀ memory₀ l held iters col memory a e =
+  leaving-end held₀ iters₀ memory₀ l held iters col memory a e =
       record {
         sized = a .sized;
-        after-round = λ q d m.
+        after-turns = λ q d m.
             let x = a .same q d m in (
               x .0,
               x .1,
