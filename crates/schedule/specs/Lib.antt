@@ -13,3 +13,4 @@ pub mod Refill
 pub mod Round
 pub mod Loop
 pub mod Close
+pub mod Together

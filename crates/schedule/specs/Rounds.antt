@@ -61,7 +61,7 @@ module _ {X : Type 0} (words : Words X) where
   Ended w x i = (x ≡ after-alone w i) × (i ≡ ends-alone w)
 
   -- in a round, after the iteration
-  abbrev Testing : ℕ → X → ℕ → Type 0
+  abbrev pub Testing : ℕ → X → ℕ → Type 0
   Testing w x i = (x ≡ after-alone w i) × (i ≤ ends-alone w)
 
   -- the test on the lane's own values is the test whether the word alone is at its end
@@ -69,17 +69,17 @@ module _ {X : Type 0} (words : Words X) where
   unfolding over
   own-test w x i e h = rw e (end-test (words .begin w) (words .iterate) (words .met) (words .iteration-limit) i h)
 
-  out : (w : ℕ) (x : X) (i : ℕ) → Testing w x i → over words x i ≡ true → Ended w x i
+  pub out : (w : ℕ) (x : X) (i : ℕ) → Testing w x i → over words x i ≡ true → Ended w x i
   out w x i p e = (p .0, sym (eqb-true _ i (sym (own-test w x i (p .0) (p .1)) ∙ e)))
 
-  stays : (w : ℕ) (x : X) (i : ℕ) → Testing w x i → over words x i ≡ false → Running w x i
+  pub stays : (w : ℕ) (x : X) (i : ℕ) → Testing w x i → over words x i ≡ false → Running w x i
   stays w x i p e = (p .0, omega (arith, p .1, eqb-false (ends-alone w) i (sym (own-test w x i (p .0) (p .1)) ∙ e)))
 
-  begins : (w : ℕ) → Testing w (words .begin w) 0
+  pub begins : (w : ℕ) → Testing w (words .begin w) 0
   unfolding after
   begins w = (refl, omega arith)
 
-  one-more : (w : ℕ) (x : X) (i : ℕ) → Running w x i → Testing w (words .iterate x) (suc i)
+  pub one-more : (w : ℕ) (x : X) (i : ℕ) → Running w x i → Testing w (words .iterate x) (suc i)
   unfolding after
   one-more w x i p = (ap (words .iterate) (p .0), p .1)
 
