@@ -14,7 +14,8 @@ use lib.Seq.{take-suc, take-all}
 use Rattle.laws.specs.Choice.{by-bool, by-cond, same, same-self}
 use Rattle.schedule.specs.Run.{Words, Lane, empty, holds, Left, Stock, State, Result, held, run}
 use Rattle.schedule.specs.Status.{Status, waiting, holding, done, lane-words, log-words, queue-words, all-words, seek, status, times, count}
-use Rattle.schedule.specs.Demand.{Demand, demand}
+use Rattle.schedule.specs.Demand.{Demand}
+use Rattle.schedule.specs.Theorem.{demand}
 use Rattle.schedule.specs.Lanes.{Setup, lane-of, row, rows, length-rows, getD-rows, lane-held, kept, Kept, Stands}
 use Rattle.schedule.specs.Loop.{result, Runs}
 

@@ -16,7 +16,8 @@ use Rattle.schedule.specs.Run.{Words, Lane, empty, holds, Left, Stock, S
 use Rattle.schedule.specs.Status.{Status, waiting, holding, done, lane-words, log-words, queue-words, all-words, seek, status, times, count}
 use Rattle.schedule.specs.Sums.{in-lane, in-lanes, in-queue, in-log, in-stock, Held, AllLanes, AllLog, each-all, each-sum, fill-sum, leave-sum, iterated-sum, iterated-all, fill-all, leave-all, leave-held}
 use Rattle.schedule.specs.Places.{weigh, weigh-append, times-weigh}
-use Rattle.schedule.specs.Demand.{Demand, demand}
+use Rattle.schedule.specs.Demand.{Demand}
+use Rattle.schedule.specs.Theorem.{demand}
 use Rattle.schedule.specs.Lanes.{Setup, lane-of, row, rows, length-rows, getD-rows, lane-held, any-held, any-is, kept, Kept, kept-start, stock, Stands, Sized}
 use Rattle.schedule.specs.Refill.{Refilled}
 use Rattle.schedule.specs.Round.{Advanced}

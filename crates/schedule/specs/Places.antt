@@ -10,7 +10,7 @@ use lib.Dec.{eqb, ltb}
 use lib.ListN.{length, getD}
 use Rattle.laws.specs.Choice.{by-cond, by-bool, eqb-sym, same, same-self, same-sym, same-le}
 use Rattle.schedule.specs.Run.{Words, Lane, empty, holds, Left, Stock, State, held}
-use Rattle.schedule.specs.Status.{Status, waiting, holding, done, spent, lane-words, log-words, queue-words, all-words, seek, status, times, count, sum, largest}
+use Rattle.schedule.specs.Status.{Status, waiting, holding, done, spent, lane-words, log-words, queue-words, all-words, seek, status, times, count, sum, largest, case, Places, Where}
 use Rattle.schedule.specs.Sums.{in-lane, in-lanes, in-queue, in-log, in-stock, one, iterations-of, Held, AllLanes, AllLog}
 use Rattle.schedule.specs.Rounds.{total, spent-so-far, above}
 
@@ -197,12 +197,6 @@ module _ {X : Type 0} where
         seek-all (By-status H D) v _ (all-append _ (lane-words (s .lanes)) _ (all-lanes (s .lanes) p) (all-append _ (log-words (s .stock .log)) _ (all-log (s .stock .log) q) (all-queue (s .stock .queue)))) tt
 
   -- ---- where a word is, by its status
-  -- one number for each status
-  abbrev pub case : ℕ → ℕ → ℕ → Status X → ℕ
-  case a b c waiting = a
-  case a b c (holding x i) = b
-  case a b c (done x i) = c
-
   module _ (k : ℕ → ℕ) (a b c : ℕ) where
     case-lanes : (ls : List (Lane X)) → weigh (λ w st. k w * case a b c st) (lane-words ls) ≡ b * weigh (λ w st. k w) (lane-words ls)
     unfolding weigh lane-words
@@ -219,15 +213,6 @@ module _ {X : Type 0} where
         ≡ a * sum k (s .stock .queue) + b * weigh (λ w st. k w) (lane-words (s .lanes)) + c * weigh (λ w st. k w) (log-words (s .stock .log))
     weigh-case s =
         omega (arith, weigh-parts (λ w st. k w * case a b c st) s, case-lanes (s .lanes), case-log (s .stock .log), sum-times k a (s .stock .queue))
-
-  -- how often a word stands in the queue, in lanes, in the log
-  abbrev pub Places : State X → ℕ → ℕ → ℕ → ℕ → Type 0
-  Places s v a b c = (count v (s .stock .queue) ≡ a) × (times v (lane-words (s .lanes)) ≡ b) × (times v (log-words (s .stock .log)) ≡ c)
-
-  abbrev pub Where : State X → ℕ → Status X → Type 0
-  Where s v waiting = Places s v 1 0 0
-  Where s v (holding x i) = Places s v 0 1 0
-  Where s v (done x i) = Places s v 0 0 1
 
   case-at : (a b c v : ℕ) (s : State X) → times v (all-words s) ≡ 1
       → a * count v (s .stock .queue) + b * times v (lane-words (s .lanes)) + c * times v (log-words (s .stock .log)) ≡ case a b c (status s v)

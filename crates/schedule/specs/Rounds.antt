@@ -10,7 +10,8 @@ use lib.Dec.{eqb, ltb}
 use lib.ListN.{length, replicate, length-replicate, length-map}
 use Rattle.laws.specs.Choice.{by-cond, by-bool}
 use Rattle.schedule.specs.Run.{Words, Lane, empty, holds, Left, Stock, State, Turn, Ending, finished, stopped, Result, each, held, over, fill, iterated, leave, refill, round, go, start, run}
-use Rattle.schedule.specs.Alone.{after, ends, Ends, ends-so, end-test}
+use Rattle.schedule.specs.Alone.{after, end-test}
+use Rattle.schedule.specs.Demand.{after-alone, ends-alone}
 use Rattle.schedule.specs.Sums.{in-lane, in-lanes, in-queue, in-log, in-stock, one, iterations-of, Held, AllLanes, AllLog, Some, held-one, each-length, each-sum, each-all, each-before, each-queue, fill-sum, iterated-sum, iterated-all, leave-sum, leave-queue, fill-all, leave-all, leave-held, refill-full, fill-before, fill-fresh}
 
 -- every word of a state, once
@@ -47,25 +48,19 @@ module _ {X : Type 0} where
 
 -- ---- a run's words, each alone
 module _ {X : Type 0} (words : Words X) where
-  abbrev pub after-alone : ℕ → ℕ → X
-  after-alone w i = after (words .begin w) (words .iterate) i
-
-  abbrev pub ends-alone : ℕ → ℕ
-  ends-alone w = ends (words .begin w) (words .iterate) (words .met) (words .iteration-limit)
-
   -- a word in a lane has its values alone after its iterations, and has not reached its end; a word that has left was at its end
   abbrev pub Running : ℕ → X → ℕ → Type 0
-  Running w x i = (x ≡ after-alone w i) × (i < ends-alone w)
+  Running w x i = (x ≡ after-alone words w i) × (i < ends-alone words w)
 
   abbrev pub Ended : ℕ → X → ℕ → Type 0
-  Ended w x i = (x ≡ after-alone w i) × (i ≡ ends-alone w)
+  Ended w x i = (x ≡ after-alone words w i) × (i ≡ ends-alone words w)
 
   -- in a round, after the iteration
   abbrev pub Testing : ℕ → X → ℕ → Type 0
-  Testing w x i = (x ≡ after-alone w i) × (i ≤ ends-alone w)
+  Testing w x i = (x ≡ after-alone words w i) × (i ≤ ends-alone words w)
 
   -- the test on the lane's own values is the test whether the word alone is at its end
-  pub own-test : (w : ℕ) (x : X) (i : ℕ) → x ≡ after-alone w i → i ≤ ends-alone w → over words x i ≡ eqb (ends-alone w) i
+  pub own-test : (w : ℕ) (x : X) (i : ℕ) → x ≡ after-alone words w i → i ≤ ends-alone words w → over words x i ≡ eqb (ends-alone words w) i
   unfolding over
   own-test w x i e h = rw e (end-test (words .begin w) (words .iterate) (words .met) (words .iteration-limit) i h)
 
@@ -73,7 +68,7 @@ module _ {X : Type 0} (words : Words X) where
   out w x i p e = (p .0, sym (eqb-true _ i (sym (own-test w x i (p .0) (p .1)) ∙ e)))
 
   pub stays : (w : ℕ) (x : X) (i : ℕ) → Testing w x i → over words x i ≡ false → Running w x i
-  stays w x i p e = (p .0, omega (arith, p .1, eqb-false (ends-alone w) i (sym (own-test w x i (p .0) (p .1)) ∙ e)))
+  stays w x i p e = (p .0, omega (arith, p .1, eqb-false (ends-alone words w) i (sym (own-test w x i (p .0) (p .1)) ∙ e)))
 
   pub begins : (w : ℕ) → Testing w (words .begin w) 0
   unfolding after

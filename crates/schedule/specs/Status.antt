@@ -1,4 +1,5 @@
 -- What a run's last state says of each word: "A word waits until a lane takes it, is held until it leaves, and is then finished" (01, "A word alone").
+use mathlib.Core.Path.{_≡_}
 use mathlib.Core.Bool.{cond}
 use mathlib.Core.List.{List, [], _∷_, _++_}
 use Prim.Native.Nat.{ℕ, zero, suc, _+_, max}
@@ -59,6 +60,22 @@ sum f (w ∷ ws) = f w + sum f ws
 unfoldable pub largest : (ℕ → ℕ) → List ℕ → ℕ
 largest f [] = 0
 largest f (w ∷ ws) = max (f w) (largest f ws)
+
+module _ {X : Type 0} where
+  -- one number for each status: waiting, held, finished
+  abbrev pub case : ℕ → ℕ → ℕ → Status X → ℕ
+  case a b c waiting = a
+  case a b c (holding x i) = b
+  case a b c (done x i) = c
+
+  -- how often a word stands in the queue, in lanes, in the log
+  abbrev pub Places : State X → ℕ → ℕ → ℕ → ℕ → Type 0
+  Places s v a b c = (count v (s .stock .queue) ≡ a) × (times v (lane-words (s .lanes)) ≡ b) × (times v (log-words (s .stock .log)) ≡ c)
+
+  abbrev pub Where : State X → ℕ → Status X → Type 0
+  Where s v waiting = Places s v 1 0 0
+  Where s v (holding x i) = Places s v 0 1 0
+  Where s v (done x i) = Places s v 0 0 1
 
 -- "iterations given are their sum over all words, and the longest word's is the largest of them"
 module _ {X : Type 0} (order : List ℕ) (s : State X) where

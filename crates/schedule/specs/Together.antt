@@ -12,11 +12,12 @@ use lib.Dec.{eqb}
 use lib.ListN.{length, replicate, length-replicate, length-map}
 use Rattle.laws.specs.Choice.{by-cond, by-bool, same}
 use Rattle.schedule.specs.Run.{Words, Lane, empty, holds, Left, Stock, State, Turn, Ending, finished, stopped, Result, each, held, over, logged, load, fill, iterated, leave, refill, round, go, start, run}
-use Rattle.schedule.specs.Status.{Status, waiting, holding, done, spent, lane-words, log-words, all-words, seek, status, times, count, sum}
+use Rattle.schedule.specs.Status.{Status, waiting, holding, done, spent, lane-words, log-words, all-words, seek, status, times, count, sum, case}
 use Rattle.schedule.specs.Sums.{Held, AllLanes, AllLog, each-length, each-all, each-queue, iterated-all, leave-queue, leave-all, leave-held}
-use Rattle.schedule.specs.Rounds.{after-alone, ends-alone, Running, Ended, Testing, out, stays, begins, one-more, Good, run-good}
-use Rattle.schedule.specs.Places.{weigh, times-weigh, weigh-parts, only-found, case, By-status, by-status}
-use Rattle.schedule.specs.Demand.{demand}
+use Rattle.schedule.specs.Demand.{after-alone, ends-alone}
+use Rattle.schedule.specs.Rounds.{Running, Ended, Testing, out, stays, begins, one-more, Good, run-good}
+use Rattle.schedule.specs.Places.{weigh, times-weigh, weigh-parts, only-found, By-status, by-status}
+use Rattle.schedule.specs.Theorem.{demand}
 
 module _ {X : Type 0} (words : Words X) where
   -- ---- the definition
