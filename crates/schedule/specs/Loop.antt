@@ -19,7 +19,7 @@ use Rattle.schedule.specs.Places.{weigh, weigh-append, times-weigh}
 use Rattle.schedule.specs.Demand.{Demand}
 use Rattle.schedule.specs.Theorem.{demand}
 use Rattle.schedule.specs.Lanes.{Setup, lane-of, row, rows, length-rows, getD-rows, lane-held, any-held, any-is, kept, Kept, kept-start, stock, Stands, Sized}
-use Rattle.schedule.specs.Refill.{Refilled}
+use Rattle.schedule.specs.Refill.{Refilled, Assigned, fresh, refilled-later}
 use Rattle.schedule.specs.Round.{Advanced}
 
 unfoldable pub is-stopped : Ending → Bool
@@ -225,6 +225,19 @@ module _ {X M : Type 0} (R : Setup X M) (n round-limit : ℕ) where
       ok =
           subst (λ (ls : List (Lane X)). Safe (R .words) n ls (stock R next (t .1 .log))) (sym (s .lanes-are))
           (subst (λ (q : List ℕ). Safe (R .words) n (t .0) (record { queue = q; log = t .1 .log })) (sym (s .queue-is)) (safe-fill (R .words) n _ _ (g .safe)))
+
+  -- the same with columns loaded after the words are assigned: first what loading may rely on, then the columns as loaded
+  module _ (held₀ iters₀ : List ℕ) (col₀ : ℕ → X) (next₀ : ℕ) (memory₀ : ℕ → M) (held′ iters : List ℕ) (next : ℕ) (busy : Bool) (memory : ℕ → M) (rounds : ℕ)
+      (g : Going held₀ iters₀ col₀ next₀ rounds memory₀) (r : Assigned R held₀ iters₀ next₀ memory₀ held′ iters next busy memory) where
+    pub pausing-later : (col : ℕ → X) → ((l : ℕ) → l < R .lanes → getD held′ l 0 ≢ 0 → col l ≡ fresh R held′ iters col₀ l) → Pausing held′ iters col next rounds busy memory
+    pausing-later col h =
+        pausing held₀ iters₀ col₀ next₀ memory₀ held′ iters col next busy memory rounds g (refilled-later R held₀ iters₀ col₀ next₀ memory₀ held′ iters col next busy memory (g .begun) r h)
+
+    pub ready-later : Ready held′ iters
+    ready-later = pausing-later (fresh R held′ iters col₀) (λ l _ _. refl) .is-ready
+
+    pub sized-later : Sized held′ iters
+    sized-later = r .refilled col₀ .sized (g .sized)
 
   module _ (held′ iters : List ℕ) (col : ℕ → X) (next rounds : ℕ) (busy : Bool) (memory : ℕ → M) (p : Pausing held′ iters col next rounds busy memory) where
     T : State X
