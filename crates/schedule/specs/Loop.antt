@@ -281,11 +281,11 @@ module _ {X M : Type 0} (R : Setup X M) (n round-limit : ℕ) where
         busy-held = not-true _ (sym busy-rows ∙ b)
 
     -- else a round
-    pub goes-on : (held″ iters″ : List ℕ) (col″ : ℕ → X) (memory″ : ℕ → M) → busy ≡ true → rounds ≢ round-limit
-        → Advanced R held′ iters col memory held″ iters″ col″ memory″ → Going held″ iters″ col″ next (rounds + 1) memory″
+    pub goes-on : (held″ iters″ : List ℕ) (col″ : ℕ → X) (next″ : ℕ) (memory″ : ℕ → M) → next″ ≡ next → busy ≡ true → rounds ≢ round-limit
+        → Advanced R held′ iters col memory held″ iters″ col″ memory″ → Going held″ iters″ col″ next″ (rounds + 1) memory″
     unfolding settle T made round
-    goes-on held″ iters″ col″ memory″ b r a =
-        record {
+    goes-on held″ iters″ col″ next″ memory″ same-next b r a =
+        subst (λ k. Going held″ iters″ col″ k (rounds + 1) memory″) (sym same-next) (record {
           sized = a .sized;
           in-order = p .in-order;
           in-limit = omega (arith, p .in-limit);
@@ -300,7 +300,7 @@ module _ {X M : Type 0} (R : Setup X M) (n round-limit : ℕ) where
               ∙ ap (λ (t : List (Lane X) × Stock X). go (R .words) (round-limit - (rounds + 1)) (record { lanes = t .0; stock = t .1; rounds = suc rounds })) (sym (x .2))
               ∙ sym (ap (λ b. cond b (record { ending = finished; last = T }) (go (R .words) (round-limit - (rounds + 1)) (round (R .words) T))) busy-held)
               ∙ ap (λ k. settle k T) (sym one-less) ∙ p .goes;
-        }
+        })
       where
         x : (log′ : List (Left X)) × Kept R log′ memory″
             × (each (leave (R .words)) (map (iterated (R .words)) (rows (R .lanes) held′ iters col)) (record { queue = drop next (R .order); log = p .log })
