@@ -1,10 +1,10 @@
 -- After the last round: the words still held are written, lane by lane. Then memory says of each word what its status says, and
 -- demand 3 speaks of memory.
-use mathlib.Core.Path.{_≡_, refl, sym, ap, ap₂, _∙_, subst}
+use mathlib.Core.Path.{_≡_, refl, sym, ap, _∙_}
 use mathlib.Core.Logic.{_≢_}
 use mathlib.Core.Bool.{Bool, true, false, cond}
 use mathlib.Core.List.{List, [], _∷_, _++_, append-assoc}
-use Prim.Native.Nat.{ℕ, zero, suc, _+_, _-_, _≤_, _<_}
+use Prim.Native.Nat.{ℕ, suc, _+_, _-_, _≤_, _<_}
 use native.Mathlib.Numerals.{add-one}
 use native.Mathlib.Omega.{arith}
 use borrow.Author.Tests.{eqb-true, eqb-false, eq-eqb, ne-eqb}
@@ -12,11 +12,11 @@ use lib.Dec.{eqb}
 use lib.ListN.{length, getD, take, drop, length-append, length-drop, take-append-drop}
 use lib.Seq.{take-suc, take-all}
 use Rattle.laws.specs.Choice.{by-bool, by-cond, same, same-self}
-use Rattle.schedule.specs.Run.{Words, Lane, empty, holds, Left, Stock, State, Result, held, run}
+use Rattle.schedule.specs.Run.{Lane, empty, holds, Left, State, held, run}
 use Rattle.schedule.specs.Status.{Status, waiting, holding, done, lane-words, log-words, queue-words, all-words, seek, status, times, count}
 use Rattle.schedule.specs.Demand.{Demand}
 use Rattle.schedule.specs.Theorem.{demand}
-use Rattle.schedule.specs.Lanes.{Setup, lane-of, row, rows, length-rows, getD-rows, lane-held, kept, Kept, Stands}
+use Rattle.schedule.specs.Lanes.{Setup, lane-of, row, rows, length-rows, getD-rows, lane-held, kept, Kept}
 use Rattle.schedule.specs.Loop.{result, Runs}
 
 module _ {X : Type 0} where

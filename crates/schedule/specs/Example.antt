@@ -1,11 +1,11 @@
 -- Two runs, computed: a word's values are what it has left to do, 2, 0, 1, 3 and 0 iterations for five words; two lanes, iteration limit 2.
 -- Word 3 leaves unmet, with 1 left.
 use mathlib.Core.Path.{_≡_, refl}
-use mathlib.Core.List.{List, [], _∷_}
+use mathlib.Core.List.{[], _∷_}
 use Prim.Native.Nat.{ℕ, _-_}
 use lib.Dec.{eqb}
 use lib.ListN.{getD}
-use Rattle.schedule.specs.Run.{Words, Lane, empty, holds, Left, finished, stopped, each, held, over, logged, load, fill, iterated, leave, refill, round, go, start, run}
+use Rattle.schedule.specs.Run.{Words, empty, holds, Left, finished, stopped, each, held, over, logged, load, fill, iterated, leave, refill, round, go, start, run}
 
 five : Words ℕ
 five = record { begin = λ w. getD (2 ∷ 0 ∷ 1 ∷ 3 ∷ 0 ∷ []) w 0; iterate = λ x. x - 1; met = λ x. eqb x 0; iteration-limit = 2 }

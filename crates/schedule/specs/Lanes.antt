@@ -1,5 +1,5 @@
 -- How arrays and columns of memory stand for the run's lanes, queue and log, and how code that goes from lane to lane meets `each`.
-use mathlib.Core.Path.{_≡_, refl, sym, ap, ap₂, _∙_, subst}
+use mathlib.Core.Path.{_≡_, refl, sym, ap, ap₂, _∙_}
 use mathlib.Core.Logic.{_≢_}
 use mathlib.Core.Bool.{Bool, true, false, cond, not}
 use mathlib.Core.List.{List, [], _∷_, _++_}
@@ -12,7 +12,7 @@ use borrow.Author.Tests.{eqb-true, eqb-false, eq-eqb, ne-eqb}
 use lib.Dec.{eqb}
 use lib.ListN.{length, getD, take, drop, set, length-set}
 use lib.Seq.{getD-set-same, getD-set-other, ext-getD, set-getD}
-use Rattle.schedule.specs.Run.{Words, Lane, empty, holds, Left, Stock, State, Turn, each, held, logged}
+use Rattle.schedule.specs.Run.{Words, Lane, empty, holds, Left, Stock, Turn, each, held, logged}
 use Rattle.schedule.specs.Status.{Status, waiting, holding, done, log-words, seek}
 
 -- a run over real memory: the words, their order of loading, the lanes; and what memory of some kind M says of word w:

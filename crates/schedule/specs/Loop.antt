@@ -2,22 +2,17 @@
 use mathlib.Core.Path.{_≡_, refl, sym, ap, ap₂, _∙_, subst}
 use mathlib.Core.Logic.{_≢_}
 use mathlib.Core.Bool.{Bool, true, false, cond, not, _||_}
-use mathlib.Core.List.{List, [], _∷_, _++_, map, append-assoc}
+use mathlib.Core.List.{List, [], _∷_, map}
 use Prim.Native.Nat.{ℕ, zero, suc, _+_, _-_, _≤_, _<_}
-use native.Mathlib.Nat.{not-suc-le-zero}
 use native.Mathlib.Numerals.{add-one}
 use native.Mathlib.Omega.{arith}
-use borrow.Author.Tests.{not-true, not-false, eqb-true, eqb-false, eq-eqb, ne-eqb, ltb-true, ltb-false, lt-ltb, le-ltb}
+use borrow.Author.Tests.{not-true, not-false, eqb-false, ltb-true, lt-ltb}
 use lib.Dec.{eqb, ltb}
-use lib.ListN.{length, getD, take, drop, replicate, length-replicate, getD-replicate}
-use lib.Seq.{ext-getD, take-suc, take-all}
-use Rattle.laws.specs.Choice.{by-bool, by-cond, same, same-self}
-use Rattle.schedule.specs.Run.{Words, Lane, empty, holds, Left, Stock, State, Turn, Ending, finished, stopped, Result, each, held, over, fill, iterated, leave, refill, round, go, start, run}
-use Rattle.schedule.specs.Status.{Status, waiting, holding, done, lane-words, log-words, queue-words, all-words, seek, status, times, count}
+use lib.ListN.{length, getD, drop, replicate, length-replicate, getD-replicate}
+use lib.Seq.{ext-getD}
+use Rattle.laws.specs.Choice.{by-bool, by-cond, same}
+use Rattle.schedule.specs.Run.{Words, Lane, empty, holds, Left, Stock, State, Ending, finished, stopped, Result, each, held, over, fill, iterated, leave, refill, round, go, start, run}
 use Rattle.schedule.specs.Sums.{in-lane, in-lanes, in-queue, in-log, in-stock, Held, AllLanes, AllLog, each-all, each-sum, fill-sum, leave-sum, iterated-sum, iterated-all, fill-all, leave-all, leave-held}
-use Rattle.schedule.specs.Places.{weigh, weigh-append, times-weigh}
-use Rattle.schedule.specs.Demand.{Demand}
-use Rattle.schedule.specs.Theorem.{demand}
 use Rattle.schedule.specs.Lanes.{Setup, lane-of, row, rows, length-rows, getD-rows, lane-held, any-held, any-is, kept, Kept, kept-start, stock, Stands, Sized}
 use Rattle.schedule.specs.Refill.{Refilled, Assigned, fresh, refilled-later}
 use Rattle.schedule.specs.Round.{Advanced}

@@ -1,18 +1,17 @@
 -- Each word of a run is in one place: lists of words with their status, each word once.
 use mathlib.Core.Path.{_≡_, refl, sym, ap, ap₂, _∙_, subst}
-use mathlib.Core.Bool.{Bool, true, false, cond}
+use mathlib.Core.Bool.{true, cond}
 use mathlib.Core.List.{List, [], _∷_, _++_}
-use Prim.Native.Nat.{ℕ, zero, suc, _+_, _*_, _≤_, _<_, max}
-use native.Mathlib.Nat.{not-suc-le-zero, add-assoc}
+use Prim.Native.Nat.{ℕ, zero, suc, _+_, _*_, _≤_, max}
+use native.Mathlib.Nat.{not-suc-le-zero}
 use native.Mathlib.Omega.{arith}
-use borrow.Author.Tests.{eqb-true, eqb-false, eq-eqb, ne-eqb, le-ltb}
-use lib.Dec.{eqb, ltb}
-use lib.ListN.{length, getD}
-use Rattle.laws.specs.Choice.{by-cond, by-bool, eqb-sym, same, same-self, same-sym, same-le}
-use Rattle.schedule.specs.Run.{Words, Lane, empty, holds, Left, Stock, State, held}
-use Rattle.schedule.specs.Status.{Status, waiting, holding, done, spent, lane-words, log-words, queue-words, all-words, seek, status, times, count, sum, largest, case, Places, Where}
-use Rattle.schedule.specs.Sums.{in-lane, in-lanes, in-queue, in-log, in-stock, one, iterations-of, Held, AllLanes, AllLog}
-use Rattle.schedule.specs.Rounds.{total, spent-so-far, above}
+use borrow.Author.Tests.{eqb-true}
+use lib.Dec.{eqb}
+use Rattle.laws.specs.Choice.{by-cond, by-bool, same, same-self, same-sym}
+use Rattle.schedule.specs.Run.{Lane, empty, holds, Left, State}
+use Rattle.schedule.specs.Status.{Status, waiting, holding, done, spent, lane-words, log-words, queue-words, all-words, seek, status, times, count, sum, largest, case, Where}
+use Rattle.schedule.specs.Sums.{in-lane, in-lanes, in-queue, in-log, in-stock, one, Held, AllLanes, AllLog}
+use Rattle.schedule.specs.Rounds.{total}
 
 -- ---- sums over an order
 pub queue-sum : (f : ℕ → ℕ → ℕ) (q : List ℕ) → in-queue f q ≡ sum (λ w. f w 0) q

@@ -1,6 +1,6 @@
 -- What a run keeps from round to round, and what holds at its end: of every order of loading, lane count and round limit.
 use mathlib.Core.Path.{_≡_, refl, sym, ap, _∙_, subst}
-use mathlib.Core.Bool.{Bool, true, false, cond}
+use mathlib.Core.Bool.{true, false, cond}
 use mathlib.Core.List.{List, [], _∷_, _++_, map, append-assoc}
 use Prim.Native.Nat.{ℕ, zero, suc, _+_, _*_, _≤_, _<_}
 use native.Mathlib.Nat.{not-suc-le-zero, mul-le-mul-left}
@@ -8,8 +8,8 @@ use native.Mathlib.Omega.{arith}
 use borrow.Author.Tests.{eqb-true, eqb-false, ltb-false}
 use lib.Dec.{eqb, ltb}
 use lib.ListN.{length, replicate, length-replicate, length-map}
-use Rattle.laws.specs.Choice.{by-cond, by-bool}
-use Rattle.schedule.specs.Run.{Words, Lane, empty, holds, Left, Stock, State, Turn, Ending, finished, stopped, Result, each, held, over, fill, iterated, leave, refill, round, go, start, run}
+use Rattle.laws.specs.Choice.{by-cond}
+use Rattle.schedule.specs.Run.{Words, Lane, empty, holds, Stock, State, finished, stopped, Result, each, held, over, fill, iterated, leave, refill, round, go, start, run}
 use Rattle.schedule.specs.Alone.{after, end-test}
 use Rattle.schedule.specs.Demand.{after-alone, ends-alone}
 use Rattle.schedule.specs.Sums.{in-lane, in-lanes, in-queue, in-log, in-stock, one, iterations-of, Held, AllLanes, AllLog, Some, held-one, each-length, each-sum, each-all, each-before, each-queue, fill-sum, iterated-sum, iterated-all, leave-sum, leave-queue, fill-all, leave-all, leave-held, refill-full, fill-before, fill-fresh}

@@ -2,10 +2,10 @@
 use mathlib.Core.Path.{_≡_}
 use mathlib.Core.Bool.{cond}
 use mathlib.Core.List.{List, [], _∷_, _++_}
-use Prim.Native.Nat.{ℕ, zero, suc, _+_, max}
+use Prim.Native.Nat.{ℕ, _+_, max}
 use lib.Dec.{eqb}
 use Rattle.laws.specs.Choice.{same}
-use Rattle.schedule.specs.Run.{Lane, empty, holds, Left, Stock, State}
+use Rattle.schedule.specs.Run.{Lane, empty, holds, Left, State}
 
 pub data Status (X : Type 0) : Type 0 where
   waiting : Status X

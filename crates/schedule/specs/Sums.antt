@@ -1,13 +1,12 @@
 -- What a turn for each lane keeps: sums over words, facts of every lane, full lanes while a word waits.
 use mathlib.Core.Path.{_≡_, refl, sym, ap, _∙_}
-use mathlib.Core.Bool.{Bool, true, false, cond}
+use mathlib.Core.Bool.{true, false, cond}
 use mathlib.Core.List.{List, [], _∷_, _++_, map, append-assoc}
-use Prim.Native.Nat.{ℕ, zero, suc, _+_, _≤_, _<_}
+use Prim.Native.Nat.{ℕ, suc, _+_}
 use native.Mathlib.Omega.{arith}
-use lib.Dec.{eqb}
 use lib.ListN.{length}
 use Rattle.laws.specs.Choice.{by-cond}
-use Rattle.schedule.specs.Run.{Words, Lane, empty, holds, Left, Stock, State, Turn, each, held, over, logged, load, fill, iterated, leave}
+use Rattle.schedule.specs.Run.{Words, Lane, empty, holds, Left, Stock, Turn, each, held, over, logged, load, fill, iterated, leave}
 
 -- ---- sums over words: f w i for a word w that has had i iterations
 module _ {X : Type 0} where

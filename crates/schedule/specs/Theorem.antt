@@ -1,7 +1,7 @@
 -- Demand 3 of the schedule holds of every run: every order of loading that has each word once, every lane count, every round limit.
 use mathlib.Core.Path.{_≡_, refl, sym, ap, ap₂, _∙_, subst}
 use mathlib.Core.Logic.{_↔_, _⊎_, inl, inr}
-use mathlib.Core.Bool.{Bool, true, false, cond}
+use mathlib.Core.Bool.{true, false, cond}
 use mathlib.Core.List.{List, [], _∷_, _++_}
 use Prim.Native.Nat.{ℕ, zero, suc, _+_, _-_, _*_, _≤_, _<_}
 use native.Mathlib.Nat.{not-suc-le-zero, zero-add}
@@ -14,10 +14,10 @@ use lib.Seq.{ext-getD}
 use Rattle.laws.specs.Choice.{by-cond, same, same-self}
 use Rattle.schedule.specs.Run.{Words, Lane, empty, holds, Left, State, Ending, finished, stopped, Result, held, run}
 use Rattle.schedule.specs.Alone.{Ends, ends-so}
-use Rattle.schedule.specs.Status.{Status, waiting, holding, done, spent, lane-words, log-words, queue-words, all-words, seek, status, times, count, sum, largest, given, longest, case, Where}
+use Rattle.schedule.specs.Status.{Status, waiting, holding, done, spent, lane-words, log-words, all-words, status, times, count, sum, largest, given, longest, case, Where}
 use Rattle.schedule.specs.Demand.{after-alone, ends-alone, Finished, As-alone, Demand}
 use Rattle.schedule.specs.Sums.{in-lane, in-lanes, in-queue, in-log, in-stock, one, iterations-of, Held, AllLanes, AllLog, Some, held-one}
-use Rattle.schedule.specs.Rounds.{total, total-spent, spent-so-far, above, Running, Ended, Inv, Good, run-good}
+use Rattle.schedule.specs.Rounds.{total, total-spent, spent-so-far, above, Running, Ended, Good, run-good}
 use Rattle.schedule.specs.Places.{sum-ext, largest-le, largest-sum, queue-sum, count-sum, weigh, times-weigh, sum-status, by-iterations, weigh-total, weigh-case, By-status, by-status, in-one-place}
 
 module _ {X : Type 0} where

@@ -3,16 +3,15 @@
 use mathlib.Core.Path.{_≡_, refl, sym, ap, ap₂, _∙_, subst}
 use mathlib.Core.Logic.{_⊎_, inl, inr}
 use mathlib.Core.Bool.{Bool, true, false, cond, true≢false, false≢true}
-use mathlib.Core.List.{List, [], _∷_, _++_, map}
+use mathlib.Core.List.{List, [], _∷_, map}
 use Prim.Native.Nat.{ℕ, zero, suc, _+_, _-_, _*_, _≤_, _<_}
 use native.Mathlib.Nat.{not-suc-le-zero}
 use native.Mathlib.Omega.{arith}
-use borrow.Author.Tests.{eqb-true, eqb-false}
 use lib.Dec.{eqb}
-use lib.ListN.{length, replicate, length-replicate, length-map}
+use lib.ListN.{length, replicate, length-map}
 use Rattle.laws.specs.Choice.{by-cond, by-bool, same}
-use Rattle.schedule.specs.Run.{Words, Lane, empty, holds, Left, Stock, State, Turn, Ending, finished, stopped, Result, each, held, over, logged, load, fill, iterated, leave, refill, round, go, start, run}
-use Rattle.schedule.specs.Status.{Status, waiting, holding, done, spent, lane-words, log-words, all-words, seek, status, times, count, sum, case}
+use Rattle.schedule.specs.Run.{Words, Lane, empty, holds, Left, Stock, State, Turn, finished, stopped, Result, each, held, over, logged, load, fill, iterated, leave, refill, round, go, start, run}
+use Rattle.schedule.specs.Status.{Status, waiting, holding, done, spent, lane-words, log-words, all-words, status, times, count, sum, case}
 use Rattle.schedule.specs.Sums.{Held, AllLanes, AllLog, each-length, each-all, each-queue, iterated-all, leave-queue, leave-all, leave-held}
 use Rattle.schedule.specs.Demand.{after-alone, ends-alone}
 use Rattle.schedule.specs.Rounds.{Running, Ended, Testing, out, stays, begins, one-more, Good, run-good}
