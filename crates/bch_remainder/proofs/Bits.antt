@@ -2,6 +2,8 @@
 -- Assumes nothing.
 use mathlib.Core.Path.{_≡_, refl, sym, ap, ap₂, _∙_, subst}
 use mathlib.Core.List.{List, [], _∷_, _++_}
+use mir.Syntax.{Width}
+use mir.Val.{Fits, bits}
 use Prim.Native.Nat.{ℕ, zero, suc, _+_, _-_, _*_, _/_, _%_, _^_, _≤_, _<_}
 use native.Mathlib.Nat.{not-suc-le-zero, le-of-suc-le-suc, mod-lt, suc-sub-suc, sub-zero, zero-add, suc-add, add-comm, mod-mod, lt-of-lt-of-le, le-of-lt, le-of-eq}
 use native.Mathlib.Numerals.{add-one}
@@ -20,6 +22,9 @@ low-bit x = and-mask x 1
 
 pub bit-lt : (x : ℕ) → bitAnd x 1 < 2
 bit-lt x = subst (λ (n : ℕ). n < 2) (sym (low-bit x)) (mod-lt x two-pos)
+
+pub bit-fits : (w : Width) (x : ℕ) → 1 < bits w → Fits w (bitAnd x 1)
+bit-fits w x h = record { fits = lt-of-lt-of-le (bit-lt x) (pow-mono {i = 1} (le-of-lt h)) }
 
 -- ---- pack
 pub number-none : number [] ≡ 0

@@ -7,7 +7,7 @@ use Prim.Native.Nat.{ℕ, _+_, _-_, _≤_}
 use native.Mathlib.Nat.{lt-of-lt-of-le}
 use lib.Dec.{lit≤}
 use lib.ListN.{getD, take, drop}
-use Rattle.bch_remainder.proofs.Bits.{number-none, bit-lt, pack-again}
+use Rattle.bch_remainder.proofs.Bits.{number-none, bit-fits, pack-again}
 use Rattle.bch_remainder.specs.Word.{number}
 use Rattle.bch_remainder.proofs.pack.Statement.{statement}
 use Rattle.bch_remainder.proofs.pack.Tie as tie
@@ -28,7 +28,7 @@ shared-slice-read-v : tie.Need-shared-slice-read-v Inv-loop μ-loop
 shared-slice-read-v c = search needs
 
 cast-v : tie.Need-cast-v Inv-loop μ-loop
-cast-v c = record { fits = lt-of-lt-of-le (bit-lt (getD (c .before .before .before .args .word .now) (c .before .before .before .args .from + c .before .before .loop .i) 0)) (lit≤ tt) }
+cast-v c = search (bit-fits, needs)
 
 add-i : tie.Need-add-i Inv-loop μ-loop
 add-i c = search needs

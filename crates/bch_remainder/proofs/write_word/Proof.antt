@@ -8,7 +8,7 @@ use native.Mathlib.Nat.{lt-of-lt-of-le}
 use lib.Dec.{lit≤}
 use lib.ListN.{length}
 use lib.Seq.{paste, paste-zero}
-use Rattle.bch_remainder.proofs.Bits.{bit-lt, written-length, write-again}
+use Rattle.bch_remainder.proofs.Bits.{bit-fits, written-length, write-again}
 use Rattle.bch_remainder.specs.Word.{bitsOf}
 use Rattle.bch_remainder.proofs.write_word.Statement.{statement}
 use Rattle.bch_remainder.proofs.write_word.Tie as tie
@@ -29,7 +29,7 @@ shr-out : tie.Need-shr-out Inv-loop μ-loop
 shr-out c = search needs
 
 cast-out : tie.Need-cast-out Inv-loop μ-loop
-cast-out c = record { fits = lt-of-lt-of-le (bit-lt (c .before .before .args .v / 2 ^ (63 - c .before .loop .i))) (lit≤ tt) }
+cast-out c = search (bit-fits, needs)
 
 add-out : tie.Need-add-out Inv-loop μ-loop
 add-out c = search needs
