@@ -26,10 +26,12 @@ fn pack(word: &[u8], from: usize, count: usize) -> u64
 pub fn parity_register(message: &[u8]) -> Reg
     ensures { λ r. ⌜ valueOf r ≡ parityOf (now (message .entry)) ⌝ }
 {
+    let table = bch_table::table();
     let n = message.len();
     let short = n % 8;
     let first = pack(message, 0, short) as u8;
     let mut r = bch_table::step(
+        &table[..],
         Reg {
             hi: 0,
             mid: 0,
@@ -40,7 +42,7 @@ pub fn parity_register(message: &[u8]) -> Reg
     let mut i = short;
     while i < n {
         let b = pack(message, i, 8) as u8;
-        r = bch_table::step(r, b);
+        r = bch_table::step(&table[..], r, b);
         i += 8;
     }
     r

@@ -5,7 +5,7 @@ ghost use lib.ListN.{length};
 ghost use Rattle.laws.specs.Xor.{_⊕_};
 ghost use Rattle.laws.specs.Poly.{clmul};
 ghost use Rattle.bch_table.specs.Generator.{generator, digitsOf, polyOf};
-ghost use Rattle.bch_table.specs.Table.{wordOf, timesPower};
+ghost use Rattle.bch_table.specs.Table.{wordOf, timesPower, byteTable};
 ghost use Rattle.bch_table.specs.Step.{valueOf, stepOf};
 
 // Table 3.4-1: the twelve polynomials, bit e of an entry set where x^e occurs.
@@ -842,12 +842,19 @@ const TABLE: [u64; 768] = [
     0x61e7a45b0afa64ee,
 ];
 
+// The table, for callers to hold and lend: each use of a constant writes it out anew.
+pub fn table() -> [u64; 768]
+    ensures { λ r. ⌜ r ≡ byteTable ⌝ }
+{
+    TABLE
+}
+
 // Word w of the register of t.
-pub fn word_at(t: usize, w: usize) -> u64
-    requires { ⌜ (t < 256) × (w < 3) ⌝ }
+pub fn word_at(table: &[u64], t: usize, w: usize) -> u64
+    requires { ⌜ (now table ≡ byteTable) × (t < 256) × (w < 3) ⌝ }
     ensures { λ r. ⌜ r ≡ wordOf w (timesPower 192 t) ⌝ }
 {
-    TABLE[t * 3 + w]
+    table[t * 3 + w]
 }
 
 // The 192-bit remainder, the highest word first.
@@ -858,16 +865,17 @@ pub struct Reg {
 }
 
 // The remainder after one more byte of the message.
-pub fn step(r: Reg, b: u8) -> Reg
+pub fn step(table: &[u64], r: Reg, b: u8) -> Reg
+    requires { ⌜ now table ≡ byteTable ⌝ }
     ensures { λ q. ⌜ valueOf q ≡ stepOf (valueOf r) b ⌝ }
 {
     let hi = r.hi;
     let mid = r.mid;
     let lo = r.lo;
     let t = ((hi >> 56) ^ (b as u64)) as usize;
-    let t0 = word_at(t, 0);
-    let t1 = word_at(t, 1);
-    let t2 = word_at(t, 2);
+    let t0 = word_at(table, t, 0);
+    let t1 = word_at(table, t, 1);
+    let t2 = word_at(table, t, 2);
     Reg {
         hi: ((hi << 8) ^ (mid >> 56)) ^ t0,
         mid: ((mid << 8) ^ (lo >> 56)) ^ t1,
