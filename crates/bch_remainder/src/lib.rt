@@ -16,7 +16,7 @@ fn pack(word: &[u8], from: usize, count: usize) -> u64
     let mut v: u64 = 0;
     let mut i: usize = 0;
     while i < count {
-        v = (v << 1) | ((word[from + i] & 1) as u64);
+        v = (v << 1) | ((word[from + i] as u64) & 1);
         i += 1;
     }
     v
@@ -29,7 +29,7 @@ pub fn parity_register(message: &[u8]) -> Reg
     let table = bch_table::table();
     let n = message.len();
     let short = n % 8;
-    let first = pack(message, 0, short) as u8;
+    let first = pack(message, 0, short);
     let mut r = bch_table::step(
         &table[..],
         Reg {
@@ -41,7 +41,7 @@ pub fn parity_register(message: &[u8]) -> Reg
     );
     let mut i = short;
     while i < n {
-        let b = pack(message, i, 8) as u8;
+        let b = pack(message, i, 8);
         r = bch_table::step(&table[..], r, b);
         i += 8;
     }

@@ -865,14 +865,14 @@ pub struct Reg {
 }
 
 // The remainder after one more byte of the message.
-pub fn step(table: &[u64], r: Reg, b: u8) -> Reg
-    requires { ⌜ now table ≡ byteTable ⌝ }
+pub fn step(table: &[u64], r: Reg, b: u64) -> Reg
+    requires { ⌜ (now table ≡ byteTable) × (b < 256) ⌝ }
     ensures { λ q. ⌜ valueOf q ≡ stepOf (valueOf r) b ⌝ }
 {
     let hi = r.hi;
     let mid = r.mid;
     let lo = r.lo;
-    let t = ((hi >> 56) ^ (b as u64)) as usize;
+    let t = ((hi >> 56) ^ b) as usize;
     let t0 = word_at(table, t, 0);
     let t1 = word_at(table, t, 1);
     let t2 = word_at(table, t, 2);

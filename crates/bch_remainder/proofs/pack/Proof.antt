@@ -28,7 +28,7 @@ shared-slice-read-v : tie.Need-shared-slice-read-v Inv-loop μ-loop
 shared-slice-read-v c = search needs
 
 cast-v : tie.Need-cast-v Inv-loop μ-loop
-cast-v c = search (bit-fits, needs)
+cast-v c = omega (arith, c .shared-slice-known .given (c .before .before .before .args .from + c .before .before .loop .i))
 
 add-i : tie.Need-add-i Inv-loop μ-loop
 add-i c = search needs

@@ -25,16 +25,13 @@ table-requires c κs = search needs
 pack-requires : tie.Need-pack-requires Inv-loop μ-loop
 pack-requires c κs = search needs
 
-cast-first : tie.Need-cast-first Inv-loop μ-loop
-cast-first c =
-    let m = c .before .before .before .args .message .now in
-    record { fits = subst (λ (v : ℕ). v < 2 ^ 8) (sym (c .pack .ensures)) (packed-lt m 0 (length m % 8) 8 (omega arith)) }
-
 slice-aggregate-step : tie.Need-slice-aggregate-step Inv-loop μ-loop
 slice-aggregate-step c = sym (ap length (c .before .before .table .ensures) ∙ table-length)
 
 step-requires : tie.Need-step-requires Inv-loop μ-loop
-step-requires c κs = c .before .before .table .ensures
+step-requires c κs =
+    let m = c .before .before .before .before .args .message .now in
+    (c .before .before .table .ensures, subst (λ (v : ℕ). v < 2 ^ 8) (sym (c .before .pack .ensures)) (packed-lt m 0 (length m % 8) 8 (omega arith)))
 
 loop-holds : tie.Need-loop-holds Inv-loop μ-loop
 loop-holds c = divide-start (c .before .before .before .before .before .args .message .now) (valueOf (c .step .result)) (c .before .before .pack .result) (c .before .before .pack .ensures) (c .step .ensures)
@@ -45,16 +42,13 @@ pack-requires-2 c κs =
     let l = c .before .loop in
     (byte-left m (length m) (valueOf (l .r)) (l .i) (l .inv) (c .loop-test .taken), lit≤ tt)
 
-cast-b : tie.Need-cast-b Inv-loop μ-loop
-cast-b c =
-    let m = c .before .before .before .before .before .before .before .before .args .message .now in
-    record { fits = subst (λ (v : ℕ). v < 2 ^ 8) (sym (c .pack2 .ensures)) (packed-lt m (c .before .before .loop .i) 8 8 (le-refl 8)) }
-
 slice-aggregate-step-2 : tie.Need-slice-aggregate-step-2 Inv-loop μ-loop
 slice-aggregate-step-2 c = sym (ap length (c .before .before .before .before .before .before .before .table .ensures) ∙ table-length)
 
 step-requires-2 : tie.Need-step-requires-2 Inv-loop μ-loop
-step-requires-2 c κs = c .before .before .before .before .before .before .before .table .ensures
+step-requires-2 c κs =
+    let m = c .before .before .before .before .before .before .before .before .before .args .message .now in
+    (c .before .before .before .before .before .before .before .table .ensures, subst (λ (v : ℕ). v < 2 ^ 8) (sym (c .before .pack2 .ensures)) (packed-lt m (c .before .before .before .loop .i) 8 8 (le-refl 8)))
 
 add-i : tie.Need-add-i Inv-loop μ-loop
 add-i c = search needs
@@ -82,12 +76,10 @@ parity-register-spec =
     μ-loop
     table-requires
     pack-requires
-    cast-first
     slice-aggregate-step
     step-requires
     loop-holds
     pack-requires-2
-    cast-b
     slice-aggregate-step-2
     step-requires-2
     add-i

@@ -15,16 +15,16 @@ fit : (c : tie.Start) → (c .args .r .hi < 2 ^ 64) × (c .args .r .mid < 2 ^ 64
 fit c = let o = LL.owed T.the-type T′.the-laws (c .args .r) _ (c .good .1 .0) in (o .0 .1, o .1 .0 .1, o .1 .1 .0 .1)
 
 index : (c : tie.Start) → bitXor (c .args .r .hi / 2 ^ 56) (c .args .b) < 256
-index c = let h = fit c .0 in xor-lt 8 (c .args .r .hi / 2 ^ 56) (c .args .b) (top-lt (c .args .r .hi) h) (c .fits .b .fits)
+index c = let h = fit c .0 in xor-lt 8 (c .args .r .hi / 2 ^ 56) (c .args .b) (top-lt (c .args .r .hi) h) (c .pre .1)
 
 word-at-requires : tie.Need-word-at-requires
-word-at-requires c κs = (c .before .pre, index (c .before), lit< tt)
+word-at-requires c κs = (c .before .pre .0, index (c .before), lit< tt)
 
 word-at-requires-2 : tie.Need-word-at-requires-2
-word-at-requires-2 c κs = (c .before .before .pre, index (c .before .before), lit< tt)
+word-at-requires-2 c κs = (c .before .before .pre .0, index (c .before .before), lit< tt)
 
 word-at-requires-3 : tie.Need-word-at-requires-3
-word-at-requires-3 c κs = (c .before .before .before .pre, index (c .before .before .before), lit< tt)
+word-at-requires-3 c κs = (c .before .before .before .pre .0, index (c .before .before .before), lit< tt)
 
 returns : tie.Need-returns
 returns c =
