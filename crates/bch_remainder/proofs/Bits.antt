@@ -35,33 +35,32 @@ number-one : (b : ℕ) → number (b ∷ []) ≡ b % 2
 unfolding number number-from
 number-one b = zero-add (b % 2)
 
--- one bit more, read at from + i
-pub pack-again : (w : List ℕ) (from i v : ℕ) → i < 64 → from + i < length w → v ≡ number (take i (drop from w))
-    → bitOr (v * 2 % 2 ^ 64) (bitAnd (getD w (from + i) 0) 1) ≡ number (take (i + 1) (drop from w))
-pack-again w from i v hi h e =
-    ap₂ (λ (x y : ℕ). bitOr x y) whole (low-bit b) ∙ or-shifted v 1 (b % 2) (mod-lt b two-pos)
-    ∙ ap₂ (λ (x y : ℕ). x * 2 + y) e (ap (λ (x : ℕ). x % 2) (sym (getD-drop from w i 0)) ∙ sym (number-one (getD l i 0)))
-    ∙ sym (number-append (take i l) (getD l i 0 ∷ [])) ∙ ap number (sym (take-suc l i 0 inside) ∙ ap (λ (n : ℕ). take n l) (sym (add-one i)))
+-- what is packed of i bits is below 2 ^ i
+packed-below : (w : List ℕ) (from i v : ℕ) → i ≤ 63 → from + i < length w → v ≡ number (take i (drop from w)) → v < 2 ^ 63
+packed-below w from i v hi h e =
+    lt-of-lt-of-le (subst (λ (x : ℕ). x < 2 ^ i) (sym e) (subst (λ (n : ℕ). number (take i l) < 2 ^ n) (length-take-le i l (le-of-lt inside)) (number-lt (take i l)))) (pow-mono hi)
   where
-    b : ℕ
-    b = getD w (from + i) 0
-
     l : List ℕ
     l = drop from w
 
     inside : i < length l
     inside = omega (arith, length-drop from w)
 
-    small : v < 2 ^ i
-    small = subst (λ (x : ℕ). x < 2 ^ i) (sym e) (subst (λ (n : ℕ). number (take i l) < 2 ^ n) (length-take-le i l (le-of-lt inside)) (number-lt (take i l)))
+pub pack-room : (w : List ℕ) (from i v : ℕ) → i < 64 → from + i < length w → v ≡ number (take i (drop from w)) → v * 2 + bitAnd (getD w (from + i) 0) 1 < 2 ^ 64
+pack-room w from i v hi h e = omega (arith, packed-below w from i v (le-of-suc-le-suc hi) h e, bit-lt (getD w (from + i) 0))
 
-    below : v < 2 ^ 63
-    below =
-        let h : i ≤ 63 = omega arith in
-        lt-of-lt-of-le small (pow-mono h)
+-- one bit more, read at from + i
+pub pack-again : (w : List ℕ) (from i v : ℕ) → from + i < length w → v ≡ number (take i (drop from w))
+    → v * 2 + bitAnd (getD w (from + i) 0) 1 ≡ number (take (i + 1) (drop from w))
+pack-again w from i v h e =
+    ap₂ (λ (x y : ℕ). x * 2 + y) e (low-bit (getD w (from + i) 0) ∙ ap (λ (x : ℕ). x % 2) (sym (getD-drop from w i 0)) ∙ sym (number-one (getD l i 0)))
+    ∙ sym (number-append (take i l) (getD l i 0 ∷ [])) ∙ ap number (sym (take-suc l i 0 inside) ∙ ap (λ (n : ℕ). take n l) (sym (add-one i)))
+  where
+    l : List ℕ
+    l = drop from w
 
-    whole : v * 2 % 2 ^ 64 ≡ v * 2
-    whole = omega (arith, below)
+    inside : i < length l
+    inside = omega (arith, length-drop from w)
 
 -- ---- write_word
 bit-at : (k r i : ℕ) → i ≤ k → getD (bitsOf (suc k) r) i 0 ≡ r / 2 ^ (k - i) % 2

@@ -16,7 +16,7 @@ fn pack(word: &[u8], from: usize, count: usize) -> u64
     let mut v: u64 = 0;
     let mut i: usize = 0;
     while i < count {
-        v = (v << 1) | ((word[from + i] as u64) & 1);
+        v = v * 2 + ((word[from + i] as u64) & 1);
         i += 1;
     }
     v
