@@ -196,7 +196,7 @@ module _ {F : Type 0} (K : Field F) where
   abbrev pub Syndromes : ℕ → (ℕ → F) → ℕ → ℕ → (ℕ → F) → (ℕ → F) → Type 0
   Syndromes n x b k ε s = (j : ℕ) → j < k → s j ≡ sum R₂ n (λ p. ε p ⊠ pow R₂ (x p) (b + j))
 
-  shift : (a u : F) (b j : ℕ) → a ⊠ pow R₂ u (b + j) ≡ a ⊠ pow R₂ u b ⊠ pow R₂ u j
+  pub shift : (a u : F) (b j : ℕ) → a ⊠ pow R₂ u (b + j) ≡ a ⊠ pow R₂ u b ⊠ pow R₂ u j
   shift a u b j = ap (λ w. a ⊠ w) (pow-add R₂ u b j) ∙ sym (⊠-assoc a _ _)
 
   -- the values of the word ε at the powers b, b + 1, .. of α are its syndromes, X_p being α^p
