@@ -1,7 +1,7 @@
 -- The other direction: a shortest register with as many roots among the places as its length tells an error of that weight,
 -- wrong exactly at the roots, with the given syndromes; and that error is binary when the syndromes are those of a binary word.
 use mathlib.Core.Path.{_≡_, refl, sym, ap, ap₂, _∙_, subst}
-use mathlib.Core.Logic.{_≢_, _⊎_, inl, inr, ite, if-pos, if-neg}
+use mathlib.Core.Logic.{_≢_, _⊎_, _↔_, ite, if-pos, if-neg}
 use Prim.Native.Nat.{ℕ, zero, suc, _+_, _*_, _≤_, _<_}
 use native.Mathlib.Nat.{not-suc-le-zero, le-refl}
 use native.Mathlib.Decide.{ℕ-discrete, decLe}
@@ -130,6 +130,13 @@ module _ {F : Type 0} (K : Field F) where
       pick (yes e) r r′ = omega (arith, r, zeros-more n v (ap v (sym e) ∙ zero-at l (le-refl (suc l))))
       pick (no ne) r r′ = omega (arith, r′ (all-before ne) zero-at, more (K .dec (v n) 𝟘))
 
+  -- ---- the error ε has the k syndromes s, as many places as the register c is long, and those are c's roots among the n places
+  pub record Found (n : ℕ) (x : ℕ → F) (b k : ℕ) (s c : ℕ → F) (l : ℕ) (ε : ℕ → F) : Type 0 where
+    pub syndromes : Syndromes K n x b k ε s
+    pub count : weight K n ε ≡ l
+    pub wrong : (p : ℕ) → p < n → ε p ≢ 𝟘 → chien K c l x p ≡ 𝟘
+    pub right : (p : ℕ) → p < n → chien K c l x p ≡ 𝟘 → ε p ≢ 𝟘
+
   -- ---- n places with locators x
   module _ (n : ℕ) (x : ℕ → F) (x-nz : (p : ℕ) → p < n → x p ≢ 𝟘) (x-d : Distinct n x) where
     -- a register has at most as many roots as it is long
@@ -153,16 +160,9 @@ module _ {F : Type 0} (K : Field F) where
         pick (yes h) = absurd (many (subst (λ (m : ℕ). suc l ≤ m) (zeros-mark n v) h))
         pick (no h) = omega arith
 
-    -- the error ε explains what a register of length l finds in the k syndromes s
-    pub record Found (b k : ℕ) (s c : ℕ → F) (l : ℕ) (ε : ℕ → F) : Type 0 where
-      pub syndromes : Syndromes K n x b k ε s
-      pub count : weight K n ε ≡ l
-      pub wrong : (p : ℕ) → p < n → ε p ≢ 𝟘 → chien K c l x p ≡ 𝟘
-      pub right : (p : ℕ) → p < n → chien K c l x p ≡ 𝟘 → ε p ≢ 𝟘
-
     module _ (b k : ℕ) (s c : ℕ → F) (l : ℕ) (S : Shortest R₃ s k c l) where
       -- an error of at most half as many places as there are syndromes is found,
-      pub found : (ε : ℕ → F) → Syndromes K n x b k ε s → weight K n ε + weight K n ε ≤ k → Found b k s c l ε
+      pub found : (ε : ℕ → F) → Syndromes K n x b k ε s → weight K n ε + weight K n ε ≤ k → Found n x b k s c l ε
       found ε s-is enough =
           record {
             syndromes = s-is;
@@ -172,7 +172,7 @@ module _ {F : Type 0} (K : Field F) where
           }
 
       -- and a found error's places are the register's roots, as many as it is long
-      pub found-count : (ε : ℕ → F) → Found b k s c l ε → zeros n (chien K c l x) ≡ l
+      pub found-count : (ε : ℕ → F) → Found n x b k s c l ε → zeros n (chien K c l x) ≡ l
       found-count ε f = zeros-weight n (chien K c l x) ε (f .wrong) (f .right) ∙ f .count
 
       -- ---- as many roots as the register is long: they are the places of an error with these syndromes
@@ -231,7 +231,7 @@ module _ {F : Type 0} (K : Field F) where
             let b = no-longer K n x x-nz b k error s error-syndromes c l S in
             omega (arith, zeros-mark n v, full)
 
-        pub corrected : (ε : ℕ → F) × Found b k s c l ε
+        pub corrected : (ε : ℕ → F) × Found n x b k s c l ε
         unfolding v
         corrected = (
           error,
@@ -242,6 +242,11 @@ module _ {F : Type 0} (K : Field F) where
             right = all-roots;
           },
         )
+
+    -- l roots, listed in order, are all that there are
+    pub all-listed : (c : ℕ → F) (l : ℕ) → c 0 ≡ 𝟙 → (place : ℕ → ℕ) → ((i j : ℕ) → i < j → j < l → place i < place j)
+        → ((i : ℕ) → i < l → place i < n) → ((i : ℕ) → i < l → chien K c l x (place i) ≡ 𝟘) → zeros n (chien K c l x) ≡ l
+    all-listed c l head place order inside root = omega (arith, roots-fit c l head, zeros-listed n (chien K c l x) place l order inside root)
 
     -- ---- the binary case: S_2i = S_i² for i = 1 .. t, S_1 being s_0, and at most t errors: each is 1
     pub binary : (k t : ℕ) (ε s : ℕ → F) → Syndromes K n x 1 k ε s → t + t ≤ k → weight K n ε ≤ t
@@ -282,3 +287,32 @@ module _ {F : Type 0} (K : Field F) where
         none =
             min-distance K n X (λ p a e. x-nz p a (domain K (x p) (x p) e (x-nz p a)))
             (λ i j a a′ e. x-d i j a a′ (square-inj K (x i) (x j) e)) 1 t η η-light zero-at
+
+    -- ---- corrected exactly when: the shortest register of at least 2 t syndromes is at most t long and all its roots are places,
+    -- if and only if an error of weight at most t has these syndromes
+    module _ (k t : ℕ) (s c : ℕ → F) (l : ℕ) (S : Shortest R₃ s k c l) (enough : t + t ≤ k) where
+      pub corrects-exactly : (b : ℕ) → ((l ≤ t) × (zeros n (chien K c l x) ≡ l)) ↔ ((ε : ℕ → F) × Syndromes K n x b k ε s × (weight K n ε ≤ t))
+      corrects-exactly b = (there, back)
+        where
+          there : (l ≤ t) × (zeros n (chien K c l x) ≡ l) → (ε : ℕ → F) × Syndromes K n x b k ε s × (weight K n ε ≤ t)
+          there h =
+              let r = corrected b k s c l S (h .1) in
+              let a : l ≤ t = h .0 in
+              (r .0, r .1 .syndromes, omega (arith, a, r .1 .count))
+
+          back : (ε : ℕ → F) × Syndromes K n x b k ε s × (weight K n ε ≤ t) → (l ≤ t) × (zeros n (chien K c l x) ≡ l)
+          back r =
+              let a : weight K n (r .0) ≤ t = r .2 in
+              let f = found b k s c l S (r .0) (r .1) (omega arith) in
+              (omega (arith, a, f .count), found-count b k s c l S (r .0) f)
+
+      -- and the error is binary, if the syndromes are those of a binary word
+      pub corrects-binary : ((i : ℕ) → i < t → s (suc (i + i)) ≡ s i ⊠ s i)
+          → ((l ≤ t) × (zeros n (chien K c l x) ≡ l))
+          ↔ ((ε : ℕ → F) × Syndromes K n x 1 k ε s × (weight K n ε ≤ t) × ((p : ℕ) → p < n → (ε p ≡ 𝟘) ⊎ (ε p ≡ 𝟙)))
+      corrects-binary squares = (
+        λ h.
+            let r = corrects-exactly 1 .0 h in
+            (r .0, r .1, r .2, binary k t (r .0) s (r .1) enough (r .2) squares),
+        λ r. corrects-exactly 1 .1 (r .0, r .1, r .2),
+      )
