@@ -9,6 +9,7 @@ pub mod Unique
 pub mod Locator
 pub mod Split
 pub mod Errors
+pub mod Places
 pub mod Corrects
 pub mod Gf
 pub mod GfField
