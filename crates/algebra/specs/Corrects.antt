@@ -6,10 +6,10 @@ use Prim.Native.Nat.{ℕ, zero, suc, _+_, _*_, _≤_, _<_}
 use native.Mathlib.Decide.{decLe}
 use native.Mathlib.Omega.{arith}
 use Rattle.algebra.specs.Ring.{Ring, Field, zero-⊠, one-⊠, ⊠-swap, ⊞-cancel, dist-⊠}
-use Rattle.algebra.specs.Series.{sum, sum-ext, sum-add, sum-square, pow, pow-add, eval}
+use Rattle.algebra.specs.Series.{sum, sum-ext, sum-add, sum-square, pow, pow-add}
 use Rattle.algebra.specs.Power.{square-pow}
 use Rattle.algebra.specs.Roots.{Distinct, domain, pow-nz, inv-inj, roots, square-inj, idempotent}
-use Rattle.algebra.specs.Massey.{Gen, Shortest}
+use Rattle.algebra.specs.Massey.{Shortest}
 use Rattle.algebra.specs.Locator.{syndrome}
 use Rattle.algebra.specs.Split.{split}
 use Rattle.algebra.specs.Errors.{weight, weight-mono, weight-strict, Listing, listing, Syndromes, chien, shift, no-longer, length-right, found-wrong, found-right, min-distance}

@@ -4,8 +4,8 @@ use mathlib.Core.Path.{_≡_, refl, sym, ap, ap₂, _∙_}
 use mathlib.Core.Logic.{_≢_, _⊎_, inl, inr, ite, if-pos, if-neg}
 use Prim.Native.Nat.{ℕ, zero, suc, _+_, _≤_, _<_}
 use native.Mathlib.Omega.{arith}
-use Rattle.algebra.specs.Ring.{Ring, Field, ⊞-self-l, ⊞-cancel, zero-⊞}
-use Rattle.algebra.specs.Series.{sum, sum-ext, pow}
+use Rattle.algebra.specs.Ring.{Ring, Field, ⊞-self-l, zero-⊞}
+use Rattle.algebra.specs.Series.{sum-ext, pow}
 use Rattle.algebra.specs.Roots.{Distinct}
 use Rattle.algebra.specs.Massey.{Shortest}
 use Rattle.algebra.specs.Errors.{weight, weight-ext, Syndromes, syndromes-add, chien}
