@@ -13,7 +13,6 @@ pub mod Split
 pub mod Errors
 pub mod Places
 pub mod Corrects
-pub mod Decodes
 -- the fields of 2 ^ m elements
 pub mod Gf
 pub mod GfField
