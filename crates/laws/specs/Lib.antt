@@ -2,3 +2,4 @@
 pub mod Xor
 pub mod Tests
 pub mod Poly
+pub mod Signed
