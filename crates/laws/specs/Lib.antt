@@ -3,3 +3,4 @@ pub mod Xor
 pub mod Tests
 pub mod Poly
 pub mod Signed
+pub mod Lists
