@@ -1,0 +1,3 @@
+pub mod AtAlpha
+pub mod Product
+pub mod Powers

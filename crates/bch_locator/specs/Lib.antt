@@ -1,0 +1,2 @@
+-- What the locator of wrong bits finds: reading order Element, Syndromes, Register, Places.
+pub mod Element
