@@ -1,3 +1,4 @@
 pub mod AtAlpha
 pub mod Product
 pub mod Powers
+pub mod Steps

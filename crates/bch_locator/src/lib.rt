@@ -1,10 +1,12 @@
 // From the remainder of a BCH word to the places to flip.
 ghost use mathlib.Core.Path.{_≡_};
-ghost use Prim.Native.Nat.{_<_};
+ghost use Prim.Native.Nat.{ℕ, _+_, _<_, _≤_};
+ghost use lib.ListN.{length};
 ghost use Rattle.algebra.specs.Values.{ev};
 ghost use Rattle.gf16.specs.Alpha.{R16, α};
 ghost use Rattle.gf16.specs.Field16.{gf16};
 ghost use Rattle.bch_locator.specs.Element.{toEl};
+ghost use Rattle.bch_locator.specs.Register.{total, Mended, Register-of};
 
 // The polynomial x at α: the digits from 16 up go in below.
 fn fold(x: u32) -> u16
@@ -44,4 +46,74 @@ pub fn inverse(a: u16) -> u16
         i += 1;
     }
     r
+}
+
+// The sum of c[i] s[k - i] for i up to l.
+fn discrepancy(c: &[u16; 13], s: &[u16; 24], k: usize, l: usize) -> u16
+    requires { ⌜ (k < 24) × (l ≤ 12) × (l ≤ k) ⌝ }
+    ensures { λ r. ⌜ toEl r ≡ total (now (c .entry)) (now (s .entry)) k (l + 1) ⌝ }
+{
+    let mut d: u16 = 0;
+    let mut i: usize = 0;
+    while i <= l {
+        d = d ^ mul(c[i], s[k - i]);
+        i += 1;
+    }
+    d
+}
+
+// c + q x^m b, in c.
+fn mend(c: &mut [u16; 13], q: u16, m: usize, b: &[u16; 13])
+    requires { ⌜ length (now c) ≡ 13 ⌝ }
+    ensures { λ _. ⌜ Mended (now (c .exit)) (now (c .entry)) q m (now (b .entry)) ⌝ }
+{
+    let mut i = m;
+    while i < 13 {
+        c[i] = c[i] ^ mul(q, b[i - m]);
+        i += 1;
+    }
+}
+
+// The register 1 + c[1] x + .. + c[len] x^len; a length of 13 stands for any over 12.
+pub struct Register {
+    pub c: [u16; 13],
+    pub len: usize,
+}
+
+// Berlekamp-Massey over the 24 syndromes, as far as length 12.
+pub fn shortest(s: [u16; 24]) -> Register
+    ensures { λ r. ⌜ Register-of s (r .c) (r .len) ⌝ }
+{
+    let mut c = [0u16; 13];
+    c[0] = 1;
+    let mut b = [0u16; 13];
+    b[0] = 1;
+    let mut l: usize = 0;
+    let mut m: usize = 1;
+    let mut e: u16 = 1;
+    let mut k: usize = 0;
+    while k < 24 {
+        let d = discrepancy(&c, &s, k, l);
+        if d == 0 {
+            m += 1;
+        } else {
+            let q = mul(d, inverse(e));
+            if l + l <= k {
+                if 12 < k + 1 - l {
+                    return Register { c: c, len: 13 };
+                }
+                let t = c;
+                mend(&mut c, q, m, &b);
+                b = t;
+                l = k + 1 - l;
+                e = d;
+                m = 1;
+            } else {
+                mend(&mut c, q, m, &b);
+                m += 1;
+            }
+        }
+        k += 1;
+    }
+    Register { c: c, len: l }
 }
