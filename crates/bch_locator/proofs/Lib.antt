@@ -2,3 +2,4 @@ pub mod AtAlpha
 pub mod Product
 pub mod Powers
 pub mod Steps
+pub mod Filling

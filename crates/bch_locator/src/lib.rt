@@ -1,11 +1,12 @@
 // From the remainder of a BCH word to the places to flip.
 ghost use mathlib.Core.Path.{_≡_};
 ghost use Prim.Native.Nat.{ℕ, _+_, _<_, _≤_};
-ghost use lib.ListN.{length};
+ghost use lib.ListN.{getD, length};
 ghost use Rattle.algebra.specs.Values.{ev};
 ghost use Rattle.gf16.specs.Alpha.{R16, α};
 ghost use Rattle.gf16.specs.Field16.{gf16};
 ghost use Rattle.bch_locator.specs.Element.{toEl};
+ghost use Rattle.bch_locator.specs.Lanes.{Lanes, Products};
 ghost use Rattle.bch_locator.specs.Register.{total, Mended, Register-of};
 
 // The polynomial x at α: the digits from 16 up go in below.
@@ -116,4 +117,18 @@ pub fn shortest(s: [u16; 24]) -> Register
         k += 1;
     }
     Register { c: c, len: l }
+}
+
+// Each lane of t times that of p, a power of two: times a power of α.
+fn times(t: [u16; 16], p: [u16; 16]) -> [u16; 16]
+    requires { ⌜ Lanes t × ((i : ℕ) → getD p i 0 ≤ 4096) ⌝ }
+    ensures { λ r. ⌜ Products r t p ⌝ }
+{
+    let mut r = [0u16; 16];
+    let mut i: usize = 0;
+    while i < 16 {
+        r[i] = fold((t[i] as u32) * (p[i] as u32));
+        i += 1;
+    }
+    r
 }
