@@ -3,3 +3,4 @@ pub mod Product
 pub mod Powers
 pub mod Steps
 pub mod Filling
+pub mod Search

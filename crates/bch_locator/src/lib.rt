@@ -1,12 +1,14 @@
 // From the remainder of a BCH word to the places to flip.
 ghost use mathlib.Core.Path.{_≡_};
-ghost use Prim.Native.Nat.{ℕ, _+_, _<_, _≤_};
+ghost use Prim.Native.Nat.{ℕ, suc, _+_, _<_, _≤_};
 ghost use lib.ListN.{getD, length};
+ghost use Rattle.algebra.specs.Series.{sum};
 ghost use Rattle.algebra.specs.Values.{ev};
 ghost use Rattle.gf16.specs.Alpha.{R16, α};
 ghost use Rattle.gf16.specs.Field16.{gf16};
-ghost use Rattle.bch_locator.specs.Element.{toEl};
-ghost use Rattle.bch_locator.specs.Lanes.{Lanes, Products};
+ghost use Rattle.bch_locator.specs.Element.{toEl, poly};
+ghost use Rattle.bch_locator.specs.Lanes.{Lanes, Products, PowersOf};
+ghost use Rattle.bch_locator.specs.Places.{Places-of, Reversed};
 ghost use Rattle.bch_locator.specs.Register.{total, Mended, Register-of};
 
 // The polynomial x at α: the digits from 16 up go in below.
@@ -131,4 +133,104 @@ fn times(t: [u16; 16], p: [u16; 16]) -> [u16; 16]
         i += 1;
     }
     r
+}
+
+// The sum of the lanes.
+fn lane_sum(t: [u16; 16]) -> u16
+    ensures { λ r. ⌜ toEl r ≡ sum R16 16 (poly t) ⌝ }
+{
+    let mut r: u16 = 0;
+    let mut i: usize = 0;
+    while i < 16 {
+        r = r ^ t[i];
+        i += 1;
+    }
+    r
+}
+
+fn entry(c: [u16; 13], i: usize) -> u16
+    requires { ⌜ i < 13 ⌝ }
+    ensures { λ r. ⌜ r ≡ getD c i 0 ⌝ }
+{
+    c[i]
+}
+
+// c[len - 1] down to c[0], and zeros.
+fn reversed(c: [u16; 13], len: usize) -> [u16; 16]
+    requires { ⌜ len ≤ 12 ⌝ }
+    ensures { λ r. ⌜ Reversed r c len ⌝ }
+{
+    let mut t = [0u16; 16];
+    let mut i: usize = 0;
+    while i < len {
+        t[i] = entry(c, len - 1 - i);
+        i += 1;
+    }
+    t
+}
+
+// 2 to the 1, 2, .. 12, and zeros.
+fn place_powers() -> [u16; 16]
+    ensures { λ r. ⌜ PowersOf r suc ⌝ }
+{
+    [
+        2,
+        4,
+        8,
+        16,
+        32,
+        64,
+        128,
+        256,
+        512,
+        1024,
+        2048,
+        4096,
+        0,
+        0,
+        0,
+        0,
+    ]
+}
+
+// The powers of the places, ascending, in the first `count` of `at`.
+pub struct Places {
+    pub at: [usize; 12],
+    pub count: usize,
+}
+
+// The search from power 0 up. Lane i has c[len - 1 - i], times α^(i + 1) for each power passed, so that c[len] and the lanes' sum are the
+// register at α^-p times a power of α.
+fn roots(c: [u16; 13], len: usize, n: usize) -> Places
+    requires { ⌜ (len ≤ 12) × (n ≤ 65535) × (poly c 0 ≡ R16 .𝟙) ⌝ }
+    ensures { λ r. ⌜ Places-of (r .at) (r .count) c len n ⌝ }
+{
+    let powers = place_powers();
+    let mut t = reversed(c, len);
+    let mut at = [0usize; 12];
+    let mut count: usize = 0;
+    let mut p: usize = 0;
+    while p < n {
+        if lane_sum(t) == entry(c, len) {
+            at[count] = p;
+            count += 1;
+        }
+        let next = times(t, powers);
+        t = next;
+        p += 1;
+    }
+    Places {
+        at: at,
+        count: count,
+    }
+}
+
+// The Chien search: the powers below n, which are those present, at which the register vanishes.
+pub fn chien(register: Register, n: usize) -> Places
+    requires { ⌜ (register .len ≤ 12) × (n ≤ 65535) × (poly (register .c) 0 ≡ R16 .𝟙) ⌝ }
+    ensures { λ r. ⌜ Places-of (r .at) (r .count) (register .c) (register .len) n ⌝ }
+{
+    let c = register.c;
+    let len = register.len;
+    roots(c, len, n)
 }
