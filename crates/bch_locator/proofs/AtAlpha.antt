@@ -4,7 +4,7 @@ use mathlib.Core.Path.{_≡_, refl, sym, ap, ap₂, _∙_, subst}
 use Prim.Native.Nat.{ℕ, zero, suc, _+_, _-_, _*_, _/_, _%_, _^_, _≤_, _<_}
 use native.Mathlib.Nat.{not-suc-le-zero, le-of-suc-le-suc, le-of-lt, mod-lt, add-zero, pow-suc, zero-mul, mod-eq-of-lt, div-eq-of-lt, mul-comm, mul-one, mul-assoc, le-refl}
 use native.Mathlib.Omega.{arith}
-use lib.Dec.{T, eqb, eqb→eq, lit<}
+use lib.Dec.{T, eqb, eqb→eq, ltb, ltb→lt, lit<}
 use lib.Bits.{xor-block, bitAnd, bitXor, and-mask}
 use lib.Pow.{pow-pos}
 use Rattle.laws.specs.Xor.{_⊕_, ⊕-zero, ⊕-self, ⊕-div, ⊕-mod, ⊕-swap, span, two-pos}
@@ -44,11 +44,8 @@ high x = x / 2 ^ 16
 unfoldable pub quotient : ℕ → ℕ
 quotient x = high x ⊕ high x / 2 ^ 4 ⊕ high x / 2 ^ 8 ⊕ high x / 2 ^ 12 ⊕ high x / 2 ^ 13
 
-unfoldable pub mixed : ℕ → ℕ
-mixed x = x ⊕ quotient x ⊕ quotient x * 2 ^ 1 % 2 ^ 32 ⊕ quotient x * 2 ^ 3 % 2 ^ 32 ⊕ quotient x * 2 ^ 12 % 2 ^ 32
-
 unfoldable pub folded : ℕ → ℕ
-folded x = mixed x % 2 ^ 16
+folded x = x % 2 ^ 16 ⊕ quotient x ⊕ quotient x * 2 ^ 1 % 2 ^ 16 ⊕ quotient x * 2 ^ 3 % 2 ^ 16 ⊕ quotient x * 2 ^ 12 % 2 ^ 16
 
 high-add : Additive high
 unfolding high
@@ -59,38 +56,37 @@ unfolding quotient
 quotient-add =
     add-sum _ _ (add-sum _ _ (add-sum _ _ (add-sum _ _ high-add (add-down high 4 high-add)) (add-down high 8 high-add)) (add-down high 12 high-add)) (add-down high 13 high-add)
 
-times-add : (k : ℕ) → Additive (λ x. quotient x * 2 ^ k % 2 ^ 32)
-times-add k = add-low (λ x. quotient x * 2 ^ k) 32 (add-up quotient k quotient-add)
+times-add : (k : ℕ) → Additive (λ x. quotient x * 2 ^ k % 2 ^ 16)
+times-add k = add-low (λ x. quotient x * 2 ^ k) 16 (add-up quotient k quotient-add)
 
 pub folded-add : Additive folded
-unfolding folded mixed
+unfolding folded
 folded-add =
-    add-low _ 16 (add-sum _ _ (add-sum _ _ (add-sum _ _ (add-sum _ _ (λ a b. refl) quotient-add) (times-add 1)) (times-add 3)) (times-add 12))
+    add-sum _ _ (add-sum _ _ (add-sum _ _ (add-sum _ _ (λ a b. ⊕-mod a b 16) quotient-add) (times-add 1)) (times-add 3)) (times-add 12)
 
 -- ---- at the powers of two
 steps-right : T (below 30 (λ i. eqb (folded (2 ^ suc i)) (mul 15 0x100B 2 (folded (2 ^ i)))))
-unfolding below folded mixed quotient high mul mulN xt _⊕_
+unfolding below folded quotient high mul mulN xt _⊕_
 steps-right = tt
 
-folded-lt : (x : ℕ) → folded x < 65536
-unfolding folded
-folded-lt x = mod-lt _ (lit< tt)
+steps-fit : T (below 31 (λ i. ltb (folded (2 ^ i)) 65536))
+unfolding below folded quotient high _⊕_
+steps-fit = tt
 
 folded-one : folded 1 ≡ 1
-unfolding folded mixed quotient high _⊕_
+unfolding folded quotient high _⊕_
 folded-one = refl
 
 folded-zero : folded 0 ≡ 0
-unfolding folded mixed quotient high _⊕_
+unfolding folded quotient high _⊕_
 folded-zero = refl
 
 -- below 2 ^ 16 there is nothing to fold
 small : (x : ℕ) → x < 65536 → folded x ≡ x
-unfolding folded mixed quotient high _⊕_
+unfolding folded quotient high _⊕_
 small x h =
-    ap (λ (z : ℕ). (bitXor (bitXor (bitXor (bitXor x (q z)) (q z * 2 % 4294967296)) (q z * 8 % 4294967296)) (q z * 4096 % 4294967296)) % 65536) (div-eq-of-lt h)
-    ∙ ap (λ (z : ℕ). bitXor (bitXor (bitXor z 0) 0) 0 % 65536) (⊕-zero x) ∙ ap (λ (z : ℕ). bitXor (bitXor z 0) 0 % 65536) (⊕-zero x)
-    ∙ ap (λ (z : ℕ). bitXor z 0 % 65536) (⊕-zero x) ∙ ap (λ (z : ℕ). z % 65536) (⊕-zero x) ∙ mod-eq-of-lt h
+    ap (λ (z : ℕ). bitXor (bitXor (bitXor (bitXor (x % 65536) (q z)) (q z * 2 % 65536)) (q z * 8 % 65536)) (q z * 4096 % 65536)) (div-eq-of-lt h)
+    ∙ ⊕-zero _ ∙ ⊕-zero _ ∙ ⊕-zero _ ∙ ⊕-zero _ ∙ mod-eq-of-lt h
   where
     q : ℕ → ℕ
     q z = bitXor (bitXor (bitXor (bitXor z (z / 16)) (z / 256)) (z / 4096)) (z / 8192)
@@ -99,7 +95,7 @@ power : (i : ℕ) → i < 31 → toEl (folded (2 ^ i)) ≡ pow R16 α i
 unfolding pow
 power zero h = ap toEl folded-one ∙ toEl-one
 power (suc i) h =
-    toEl-mul 2 (folded (2 ^ i)) _ (lit< tt) (folded-lt (2 ^ i)) (eqb→eq _ _ (below-at 30 _ steps-right i (le-of-suc-le-suc h)))
+    toEl-mul 2 (folded (2 ^ i)) _ (lit< tt) (ltb→lt _ _ (below-at 31 _ steps-fit i (le-of-lt h))) (eqb→eq _ _ (below-at 30 _ steps-right i (le-of-suc-le-suc h)))
     ∙ ap₂ (R16 ._⊠_) toEl-two (power i (le-of-lt h))
 
 pub ev-power : {F : Type 0} (R : Ring F) (k i : ℕ) (z : F) → i < k → ev R k (2 ^ i) z ≡ pow R z i
@@ -117,3 +113,11 @@ folded-law =
 -- an element is its own value at α
 pub ev-itself : (x : ℕ) → x < 65536 → ev R16 16 x α ≡ toEl x
 ev-itself x h = sym (ev-more R16 16 32 x α h (omega arith)) ∙ sym (folded-law x (omega arith)) ∙ ap toEl (small x h)
+
+-- the code's low half is a mask
+pub fold-is : (x r : ℕ) → x < 2147483648
+    → r ≡ bitAnd x 65535 ⊕ quotient x ⊕ quotient x * 2 ^ 1 % 2 ^ 16 ⊕ quotient x * 2 ^ 3 % 2 ^ 16 ⊕ quotient x * 2 ^ 12 % 2 ^ 16 → toEl r ≡ ev R16 32 x α
+unfolding folded
+fold-is x r h e =
+    ap toEl (e ∙ ap (λ (z : ℕ). z ⊕ quotient x ⊕ quotient x * 2 ^ 1 % 2 ^ 16 ⊕ quotient x * 2 ^ 3 % 2 ^ 16 ⊕ quotient x * 2 ^ 12 % 2 ^ 16) (and-mask x 16))
+    ∙ folded-law x h

@@ -19,9 +19,10 @@ fn fold(x: u32) -> u16
     requires { ⌜ x < 2147483648 ⌝ }
     ensures { λ r. ⌜ toEl r ≡ ev R16 32 x α ⌝ }
 {
-    let h = x >> 16;
+    let h = (x >> 16) as u16;
+    let l = (x & 65535) as u16;
     let g = h ^ (h >> 4) ^ (h >> 8) ^ (h >> 12) ^ (h >> 13);
-    ((x ^ g ^ (g << 1) ^ (g << 3) ^ (g << 12)) & 65535) as u16
+    l ^ g ^ (g << 1) ^ (g << 3) ^ (g << 12)
 }
 
 // The product: of the polynomials, the highest digit of b first, and that at α.
