@@ -1,0 +1,4 @@
+pub mod Stand
+pub mod Codeword
+pub mod Decode
+pub mod Coefficients
