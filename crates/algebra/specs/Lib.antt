@@ -5,6 +5,7 @@ pub mod Power
 pub mod Roots
 pub mod Values
 pub mod Massey
+pub mod Unique
 pub mod Locator
 pub mod Errors
 pub mod Gf

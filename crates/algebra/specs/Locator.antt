@@ -7,7 +7,7 @@ use native.Mathlib.Decide.{ℕ-discrete, decLe, decLt}
 use native.Mathlib.Omega.{arith}
 use Rattle.algebra.specs.Ring.{Ring, Field, ⊞-lc, ⊠-lc, zero-⊞, one-⊠, dist-⊠, ⊠-zero, zero-⊠, ⊞-self-l, ⊞-swap, ⊠-swap, ⊞-cancel}
 use Rattle.algebra.specs.Series.{sum, sum-ext, sum-zero, sum-none, sum-mul, sum-front, pow, pow-add, eval, eval-zero, eval-more, conv, up, conv-vanish, conv-add-r, conv-mul-r, conv-pow}
-use Rattle.algebra.specs.Roots.{Distinct, domain, roots, vandermonde}
+use Rattle.algebra.specs.Roots.{Distinct, domain, pow-nz, roots, vandermonde}
 use Rattle.algebra.specs.Massey.{Gen}
 
 module _ {F : Type 0} (R : Ring F) where
@@ -119,17 +119,12 @@ module _ {F : Type 0} (K : Field F) (e : ℕ) (y x : ℕ → F) where
               ∙ ap (λ w. y p ⊠ w) (⊠-zero R₁ _) ∙ ⊠-zero R₁ (y p));
         }
 
-    pow-nz : (a : F) (n : ℕ) → a ≢ 𝟘 → pow R₁ a n ≢ 𝟘
-    unfolding pow
-    pow-nz a zero nz q = K .one-nz q
-    pow-nz a (suc n) nz q = nz (domain K a (pow R₁ a n) q (pow-nz a n nz))
-
     module _ (y-nz : (p : ℕ) → p < e → y p ≢ 𝟘) (x-d : Distinct e x) (k : ℕ) (enough : e + e ≤ k) (c : ℕ → F) (l : ℕ)
         (gen : Gen R₁ (syndrome R₁ e y x) k c l) (fits : l ≤ e) where
       -- each error's inverse locator is a root
       pub all-roots : (p : ℕ) → p < e → eval R₁ (suc l) c (K .inv (x p)) ≡ 𝟘
       all-roots p h =
-          domain K _ (pow R₁ (x p) l) (⊠-comm _ _ ∙ domain K _ (y p) (⊠-comm _ (y p) ∙ vandermonde K e w x x-d eqs p h) (y-nz p h)) (pow-nz (x p) l (x-nz p h))
+          domain K _ (pow R₁ (x p) l) (⊠-comm _ _ ∙ domain K _ (y p) (⊠-comm _ (y p) ∙ vandermonde K e w x x-d eqs p h) (y-nz p h)) (pow-nz K (x p) l (x-nz p h))
         where
           v : ℕ → F
           v p = eval R₁ (suc l) c (K .inv (x p))

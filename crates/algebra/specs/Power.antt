@@ -1,4 +1,4 @@
--- Powers of an element of a ring, and powers by squaring.
+-- Powers of an element of a ring: by squaring, and what its order is a multiple of.
 use mathlib.Core.Path.{_≡_, refl, sym, ap, ap₂, _∙_, subst}
 use mathlib.Core.Logic.{_≢_, _⊎_, inl, inr}
 use mathlib.Core.Bool.{Bool, true, false, not}
@@ -6,7 +6,9 @@ use Prim.Native.Nat.{ℕ, zero, suc, _+_, _-_, _*_, _/_, _%_, _^_, _≤_, _<_}
 use native.Mathlib.Nat.{not-suc-le-zero, le-of-suc-le-suc, le-suc, le-refl, mul-suc, mul-zero, add-comm, div-add-mod', mul-comm, mod-lt, zero-lt-suc, zero-add, pow-suc, add-zero}
 use native.Mathlib.Omega.{arith}
 use lib.Arith.{lt-one}
-use Rattle.laws.specs.Xor.{_⊕_, two-cases, two-pos}
+use lib.Dec.{T, T-not}
+use Rattle.laws.specs.Tests.{both, both-l, both-r}
+use Rattle.laws.specs.Xor.{two-cases, two-pos}
 use Rattle.algebra.specs.Ring.{Ring, Field, one-⊠, ⊠-lc, ⊠-swap, ⊠-zero, zero-⊠}
 use Rattle.algebra.specs.Series.{pow, pow-add}
 
@@ -59,3 +61,43 @@ module _ {F : Type 0} (R : Ring F) where
     where
       back : e % 2 + 2 * (e / 2) ≡ e
       back = omega arith
+
+  -- ---- the order, a factor at a time: isOne is a test for 1 that a field computes
+  -- none of the first k of x, w x, w² x, .. is 1
+  unfoldable pub misses : (F → Bool) → ℕ → F → F → Bool
+  misses isOne zero w x = true
+  misses isOne (suc k) w x = both (not (isOne x)) (misses isOne k w (w ⊠ x))
+
+  module _ (isOne : F → Bool) (isOne-law : (a : F) → a ≡ 𝟙 → T (isOne a)) where
+    misses-at : (k : ℕ) (w x : F) → T (misses isOne k w x) → (j : ℕ) → j < k → pow R w j ⊠ x ≢ 𝟙
+    unfolding misses pow
+    misses-at zero w x t j h e = absurd (not-suc-le-zero h)
+    misses-at (suc k) w x t zero h e = T-not (isOne x) (both-l (not (isOne x)) (misses isOne k w (w ⊠ x)) t) (isOne-law x (sym (one-⊠ R x) ∙ e))
+    misses-at (suc k) w x t (suc j) h e =
+        misses-at k w (w ⊠ x) (both-r (not (isOne x)) (misses isOne k w (w ⊠ x)) t) j (le-of-suc-le-suc h)
+        (sym (⊠-assoc (pow R w j) w x) ∙ ap (λ z. z ⊠ x) (⊠-comm (pow R w j) w) ∙ e)
+
+    -- u to the q * suc k is 1, and w = u ^ q has none of its first k powers at 1: then what takes u to 1 is a multiple of suc k
+    pub order-part : (u : F) (k q : ℕ) → pow R u (q * suc k) ≡ 𝟙 → (w : F) → w ≡ pow R u q → T (misses isOne k w w)
+        → (i : ℕ) → pow R u i ≡ 𝟙 → i % suc k ≡ 0
+    order-part u k q full w same t i one = go (i % suc k) refl
+      where
+        w-full : pow R w (suc k) ≡ 𝟙
+        w-full = ap (λ z. pow R z (suc k)) same ∙ sym (pow-mul u q (suc k)) ∙ full
+
+        w-i : pow R w i ≡ 𝟙
+        w-i =
+            ap (λ z. pow R z i) same ∙ sym (pow-mul u q i) ∙ ap (pow R u) (mul-comm q i) ∙ pow-mul u i q
+            ∙ ap (λ z. pow R z q) one ∙ pow-one q
+
+        rest : pow R w (i % suc k) ≡ 𝟙
+        rest = sym (pow-mod w (suc k) i w-full) ∙ w-i
+
+        bound : i % suc k < suc k
+        bound = mod-lt i (zero-lt-suc k)
+
+        go : (r : ℕ) → i % suc k ≡ r → i % suc k ≡ 0
+        go zero d = d
+        go (suc j) d =
+            let h : suc j < suc k = subst (λ (z : ℕ). z < suc k) d bound in
+            absurd (misses-at k w w t j (le-of-suc-le-suc h) (⊠-comm _ w ∙ pow-suc′ w j ∙ ap (pow R w) (sym d) ∙ rest))

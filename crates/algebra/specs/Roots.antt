@@ -1,12 +1,13 @@
--- Over a field: a polynomial of n coefficients with n roots is zero; and a combination of n power sequences that vanishes n times is zero.
+-- Over a field: a polynomial of n coefficients with n roots is zero; a combination of n power sequences that vanishes n times is zero
+-- (Vandermonde), and one takes any n values; powers below the order differ.
 use mathlib.Core.Path.{_≡_, refl, sym, ap, ap₂, _∙_, subst, fun-ext}
 use mathlib.Core.Logic.{_≢_, _⊎_, inl, inr}
-use Prim.Native.Nat.{ℕ, zero, suc, _+_, _≤_, _<_}
+use Prim.Native.Nat.{ℕ, zero, suc, _+_, _-_, _≤_, _<_}
 use native.Mathlib.Nat.{not-suc-le-zero, le-of-suc-le-suc, le-suc, le-refl}
 use native.Mathlib.Decide.{ℕ-discrete}
 use native.Mathlib.Omega.{arith}
-use Rattle.algebra.specs.Ring.{Ring, Field, ⊞-lc, ⊠-lc, zero-⊞, one-⊠, dist-⊠, ⊠-zero, zero-⊠, ⊞-self-l, ⊞-swap, ⊠-swap, ⊞-cancel}
-use Rattle.algebra.specs.Series.{sum, sum-ext, sum-add, sum-mul, sum-zero, pow, eval, eval-zero}
+use Rattle.algebra.specs.Ring.{Ring, Field, ⊞-lc, ⊠-lc, zero-⊞, one-⊠, dist-⊠, ⊠-zero, zero-⊠, ⊞-self-l, ⊞-swap, ⊠-swap, ⊞-cancel, square-add}
+use Rattle.algebra.specs.Series.{sum, sum-ext, sum-add, sum-mul, sum-zero, pow, pow-add, eval, eval-zero}
 
 -- the first n of a sequence differ
 abbrev pub Distinct {ℓ} : {F : Type ℓ} → ℕ → (ℕ → F) → Type ℓ
@@ -25,8 +26,33 @@ module _ {F : Type 0} (K : Field F) where
   domain a b e nz =
       sym (⊠-one a) ∙ ap (λ y. a ⊠ y) (sym (K .inv-law b nz)) ∙ sym (⊠-assoc a b (K .inv b)) ∙ ap (λ y. y ⊠ K .inv b) e ∙ zero-⊠ R (K .inv b)
 
-  apart : (a b : F) → a ≢ b → a ⊞ b ≢ 𝟘
+  pub apart : (a b : F) → a ≢ b → a ⊞ b ≢ 𝟘
   apart a b ne e = ne (⊞-cancel R a b e)
+
+  pub pow-nz : (a : F) (n : ℕ) → a ≢ 𝟘 → pow R a n ≢ 𝟘
+  unfolding pow
+  pow-nz a zero nz q = K .one-nz q
+  pow-nz a (suc n) nz q = nz (domain a (pow R a n) q (pow-nz a n nz))
+
+  -- squares of different elements differ
+  pub square-inj : (a b : F) → a ⊠ a ≡ b ⊠ b → a ≡ b
+  square-inj a b e = pick (K .dec (a ⊞ b) 𝟘)
+    where
+      zero : (a ⊞ b) ⊠ (a ⊞ b) ≡ 𝟘
+      zero = square-add R a b ∙ ap (λ y. y ⊞ b ⊠ b) e ∙ ⊞-self (b ⊠ b)
+
+      pick : Dec (a ⊞ b ≡ 𝟘) → a ≡ b
+      pick (yes z) = ⊞-cancel R a b z
+      pick (no nz) = absurd (nz (domain (a ⊞ b) (a ⊞ b) zero nz))
+
+  -- only 0 and 1 are their own squares
+  pub idempotent : (a : F) → a ⊠ a ≡ a → (a ≡ 𝟘) ⊎ (a ≡ 𝟙)
+  idempotent a e = pick (K .dec a 𝟘)
+    where
+      pick : Dec (a ≡ 𝟘) → (a ≡ 𝟘) ⊎ (a ≡ 𝟙)
+      pick (yes z) = inl z
+      pick (no nz) =
+          inr (sym (⊠-one a) ∙ ap (λ y. a ⊠ y) (sym (K .inv-law a nz)) ∙ sym (⊠-assoc a a (K .inv a)) ∙ ap (λ y. y ⊠ K .inv a) e ∙ K .inv-law a nz)
 
   -- ---- division by x - a
   quot : F → ℕ → (ℕ → F) → ℕ → F
@@ -120,3 +146,23 @@ module _ {F : Type 0} (K : Field F) where
       (vandermonde n (λ p. y p ⊠ (x p ⊞ x n)) x (λ i j l k. d i j l (omega arith))
       (λ j k. shave n y x j (e j (omega arith)) (e (suc j) (omega arith))) p k)
       (apart (x p) (x n) (d p n k (le-refl (suc n))))) p h
+
+  -- ---- an element of order n: its powers are not zero, and the first n of them differ
+  pub power-nz : (a : F) (n : ℕ) → 0 < n → pow R a n ≡ 𝟙 → (i : ℕ) → pow R a i ≢ 𝟘
+  unfolding pow
+  power-nz a zero h e i = absurd (not-suc-le-zero h)
+  power-nz a (suc n) h e i = pow-nz a i (λ z. K .one-nz (sym e ∙ ap (λ y. y ⊠ pow R a n) z ∙ zero-⊠ R _))
+
+  pub power-distinct : (a : F) (n : ℕ) → pow R a n ≡ 𝟙 → ((i : ℕ) → 0 < i → i < n → pow R a i ≢ 𝟙) → Distinct n (pow R a)
+  power-distinct a n full order i j h h′ e = order (j - i) (omega arith) (omega arith) one
+    where
+      split : j ≡ i + (j - i)
+      split = omega arith
+
+      product : (pow R a (j - i) ⊞ 𝟙) ⊠ pow R a i ≡ 𝟘
+      product =
+          ⊠-comm _ _ ∙ ⊠-dist (pow R a i) (pow R a (j - i)) 𝟙
+          ∙ ap₂ _⊞_ (sym (pow-add R a i (j - i)) ∙ ap (pow R a) (sym split) ∙ sym e) (⊠-one _) ∙ ⊞-self _
+
+      one : pow R a (j - i) ≡ 𝟙
+      one = ⊞-cancel R _ _ (domain _ (pow R a i) product (power-nz a n (omega arith) full i))
