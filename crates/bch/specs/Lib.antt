@@ -2,3 +2,5 @@ pub mod Stand
 pub mod Codeword
 pub mod Decode
 pub mod Coefficients
+pub mod Difference
+pub mod Flips
