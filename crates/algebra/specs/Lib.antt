@@ -7,6 +7,7 @@ pub mod Values
 pub mod Massey
 pub mod Unique
 pub mod Locator
+pub mod Split
 pub mod Errors
 pub mod Gf
 pub mod GfField

@@ -103,7 +103,7 @@ module _ {F : Type 0} (K : Field F) (e : ℕ) (y x : ℕ → F) where
   R₁ = K .ring
 
   module _ (x-nz : (p : ℕ) → p < e → x p ≢ 𝟘) where
-    at-roots : (c : ℕ → F) (n : ℕ) → conv R₁ c (syndrome R₁ e y x) n ≡ sum R₁ e (λ p. y p ⊠ (pow R₁ (x p) n ⊠ eval R₁ (suc n) c (K .inv (x p))))
+    pub at-roots : (c : ℕ → F) (n : ℕ) → conv R₁ c (syndrome R₁ e y x) n ≡ sum R₁ e (λ p. y p ⊠ (pow R₁ (x p) n ⊠ eval R₁ (suc n) c (K .inv (x p))))
     at-roots c n =
         conv-syndrome R₁ e y x c n
         ∙ sum-ext R₁ e _ _ (λ p h. ap (λ w. y p ⊠ w) (conv-pow R₁ n c (x p) (K .inv (x p)) (K .inv-law (x p) (x-nz p h))))

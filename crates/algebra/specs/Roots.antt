@@ -1,5 +1,5 @@
 -- Over a field: a polynomial of n coefficients with n roots is zero; a combination of n power sequences that vanishes n times is zero
--- (Vandermonde), and one takes any n values; powers below the order differ.
+-- (Vandermonde); powers of an element below its order differ.
 use mathlib.Core.Path.{_≡_, refl, sym, ap, ap₂, _∙_, subst, fun-ext}
 use mathlib.Core.Logic.{_≢_, _⊎_, inl, inr}
 use Prim.Native.Nat.{ℕ, zero, suc, _+_, _-_, _≤_, _<_}
@@ -107,23 +107,23 @@ module _ {F : Type 0} (K : Field F) where
       (roots n (quot (x n) n (λ j. c (suc j))) x (λ i j l k. d i j l (omega arith)) (lower n c x d r))) i h
 
   -- ---- Vandermonde
+  pub weigh : (y x a q : F) → (y ⊠ (x ⊞ a)) ⊠ q ≡ y ⊠ (x ⊠ q) ⊞ a ⊠ (y ⊠ q)
+  weigh y x a q =
+      ap (λ z. z ⊠ q) (⊠-dist y x a) ∙ dist-⊠ R (y ⊠ x) (y ⊠ a) q
+      ∙ ap₂ _⊞_ (⊠-assoc y x q) (⊠-assoc y a q ∙ ⊠-lc R y a q)
+
   shave : (n : ℕ) (y x : ℕ → F) (j : ℕ)
       → sum R (suc n) (λ p. y p ⊠ pow R (x p) j) ≡ 𝟘 → sum R (suc n) (λ p. y p ⊠ pow R (x p) (suc j)) ≡ 𝟘
       → sum R n (λ p. (y p ⊠ (x p ⊞ x n)) ⊠ pow R (x p) j) ≡ 𝟘
   unfolding sum pow
   shave n y x j e e′ =
       sym (⊞-zero _) ∙ ap (λ z. sum R n (λ p. (y p ⊠ (x p ⊞ x n)) ⊠ pow R (x p) j) ⊞ z) (sym last)
-      ∙ sum-ext R (suc n) _ (λ p. y p ⊠ pow R (x p) (suc j) ⊞ x n ⊠ (y p ⊠ pow R (x p) j)) (λ p h. term (y p) (x p) (x n) (pow R (x p) j))
+      ∙ sum-ext R (suc n) _ (λ p. y p ⊠ pow R (x p) (suc j) ⊞ x n ⊠ (y p ⊠ pow R (x p) j)) (λ p h. weigh (y p) (x p) (x n) (pow R (x p) j))
       ∙ sum-add R (suc n) (λ p. y p ⊠ pow R (x p) (suc j)) (λ p. x n ⊠ (y p ⊠ pow R (x p) j))
       ∙ ap₂ _⊞_ e′ (sum-mul R (suc n) (x n) (λ p. y p ⊠ pow R (x p) j) ∙ ap (λ z. x n ⊠ z) e ∙ ⊠-zero R (x n)) ∙ ⊞-zero 𝟘
     where
       last : (y n ⊠ (x n ⊞ x n)) ⊠ pow R (x n) j ≡ 𝟘
       last = ap (λ z. (y n ⊠ z) ⊠ pow R (x n) j) (⊞-self (x n)) ∙ ap (λ z. z ⊠ pow R (x n) j) (⊠-zero R (y n)) ∙ zero-⊠ R _
-
-      term : (y x a q : F) → (y ⊠ (x ⊞ a)) ⊠ q ≡ y ⊠ (x ⊠ q) ⊞ a ⊠ (y ⊠ q)
-      term y x a q =
-          ap (λ z. z ⊠ q) (⊠-dist y x a) ∙ dist-⊠ R (y ⊠ x) (y ⊠ a) q
-          ∙ ap₂ _⊞_ (⊠-assoc y x q) (⊠-assoc y a q ∙ ⊠-lc R y a q)
 
   top : (n : ℕ) (y x : ℕ → F) → sum R (suc n) (λ p. y p ⊠ pow R (x p) 0) ≡ 𝟘 → ((p : ℕ) → p < n → y p ≡ 𝟘) → (p : ℕ) → p < suc n → y p ≡ 𝟘
   unfolding sum pow
