@@ -8,8 +8,8 @@ use native.Mathlib.Decide.{ℕ-discrete}
 use native.Mathlib.Omega.{arith}
 use lib.ListN.{length}
 use Rattle.laws.specs.Xor.{_⊕_, two-cases, two-pos}
-use Rattle.algebra.specs.Ring.{Ring, Field, zero-⊞}
-use Rattle.algebra.specs.Series.{sum, sum-ext, pow, eval}
+use Rattle.algebra.specs.Ring.{Ring, Field, zero-⊞, dist-⊠}
+use Rattle.algebra.specs.Series.{sum, sum-ext, sum-add, pow, eval}
 use Rattle.algebra.specs.Power.{pow-mul}
 use Rattle.algebra.specs.Values.{ev, bit, coeff, ev-eval}
 use Rattle.algebra.specs.Locator.{eval-add, eval-sums}
@@ -18,7 +18,8 @@ use Rattle.algebra.specs.GfField.{El}
 use Rattle.gf16.specs.Field16.{gf16}
 use Rattle.gf16.specs.Alpha.{R16, α}
 use Rattle.bch.specs.Stand.{number, number-lt}
-use Rattle.bch.specs.Codeword.{distance}
+use Rattle.gf16.specs.Roots16.{multiple-vanishes}
+use Rattle.bch.specs.Codeword.{Codeword, distance}
 use Rattle.bch.specs.Coefficients.{coeff-top, coeff-low}
 use Rattle.bch.specs.Decode.{syndrome}
 
@@ -97,3 +98,21 @@ syndrome-sum w j =
     swapped p =
         let e : (j + 1) * p ≡ p * (1 + j) = omega arith in
         sym (pow-mul R16 α (j + 1) p) ∙ ap (pow R16 α) e ∙ pow-mul R16 α p (1 + j)
+
+pub codeword-syndrome : (v : List ℕ) (j : ℕ) → Codeword v → j < 24 → syndrome v j ≡ R16 .𝟘
+unfolding syndrome Codeword
+codeword-syndrome v j c h = multiple-vanishes (length v) (c .0) (number v) (number-lt v) (c .1) j h
+
+-- the syndromes of two words of one length, added, are the sums over their difference
+pub syndrome-add : (w v : List ℕ) (j : ℕ) → length v ≡ length w
+    → R16 ._⊞_ (syndrome w j) (syndrome v j) ≡ sum R16 (length w) (λ p. R16 ._⊠_ (difference w v p) (pow R16 (pow R16 α p) (1 + j)))
+unfolding difference
+syndrome-add w v j e =
+    ap₂ (R16 ._⊞_) (syndrome-sum w j) (syndrome-sum v j ∙ ap (λ (n : ℕ). sum R16 n (λ p. R16 ._⊠_ (coeff R16 (number v) p) (pow R16 (pow R16 α p) (1 + j)))) e)
+    ∙ sym (sum-add R16 (length w) _ _)
+    ∙ sum-ext R16 (length w) _ _ (λ p _. sym (dist-⊠ R16 (coeff R16 (number w) p) (coeff R16 (number v) p) (pow R16 (pow R16 α p) (1 + j))))
+
+-- beside a codeword, the syndromes are those of the difference alone
+pub syndrome-difference : (w v : List ℕ) (j : ℕ) → length v ≡ length w → Codeword v → j < 24
+    → syndrome w j ≡ sum R16 (length w) (λ p. R16 ._⊠_ (difference w v p) (pow R16 (pow R16 α p) (1 + j)))
+syndrome-difference w v j e c h = sym (R16 .⊞-zero _) ∙ ap (R16 ._⊞_ (syndrome w j)) (sym (codeword-syndrome v j c h)) ∙ syndrome-add w v j e
