@@ -7,7 +7,7 @@ use native.Mathlib.Decide.{ℕ-discrete, decLe, decLt}
 use native.Mathlib.Omega.{arith}
 use Rattle.algebra.specs.Ring.{Ring, Field, ⊞-lc, ⊠-lc, zero-⊞, one-⊠, dist-⊠, ⊠-zero, zero-⊠, ⊞-self-l, ⊞-swap, ⊠-swap, ⊞-cancel}
 use Rattle.algebra.specs.Series.{sum, sum-ext, sum-zero, sum-none, sum-mul, sum-front, pow, pow-add, eval, eval-zero, eval-more, conv, up, conv-vanish, conv-add-r, conv-mul-r, conv-pow}
-use Rattle.algebra.specs.Roots.{Distinct, domain, pow-nz, roots, vandermonde}
+use Rattle.algebra.specs.Roots.{Distinct, domain, pow-nz, inv-inj, roots, vandermonde}
 use Rattle.algebra.specs.Massey.{Gen}
 
 module _ {F : Type 0} (R : Ring F) where
@@ -139,13 +139,8 @@ module _ {F : Type 0} (K : Field F) (e : ℕ) (y x : ℕ → F) where
               ∙ ap₂ _⊠_ (sym (pow-add R₁ (x p) l j)) (sym (eval-more R₁ (suc l) (suc (l + j)) c _ (omega arith) (λ i q. gen .supp i q)))))
               ∙ sym (at-roots c (l + j)) ∙ gen .zeros (l + j) (omega arith) (omega arith)
 
-      inv-inj : (p q : ℕ) → p < e → q < e → K .inv (x p) ≡ K .inv (x q) → x p ≡ x q
-      inv-inj p q hp hq d =
-          sym (⊠-one (x p)) ∙ ap (λ w. x p ⊠ w) (sym (K .inv-law (x q) (x-nz q hq))) ∙ ap (λ w. x p ⊠ (x q ⊠ w)) (sym d)
-          ∙ ⊠-lc R₁ (x p) (x q) _ ∙ ap (λ w. x q ⊠ w) (K .inv-law (x p) (x-nz p hp)) ∙ ⊠-one (x q)
-
       inv-distinct : Distinct e (λ p. K .inv (x p))
-      inv-distinct i j h h′ d = x-d i j h h′ (inv-inj i j (omega arith) h′ d)
+      inv-distinct i j h h′ d = x-d i j h h′ (inv-inj K (x i) (x j) (x-nz i (omega arith)) (x-nz j h′) d)
 
       too-many : (r : ℕ → F) → Distinct (suc l) r → ((p : ℕ) → p < suc l → eval R₁ (suc l) c (r p) ≡ 𝟘) → ⊥
       too-many r d z = K .one-nz (sym (gen .head) ∙ roots K (suc l) c r d z 0 (omega arith))

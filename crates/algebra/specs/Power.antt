@@ -30,6 +30,11 @@ module _ {F : Type 0} (R : Ring F) where
   pow-mul a i zero = ap (pow R a) (mul-zero i)
   pow-mul a i (suc j) = ap (pow R a) (mul-suc i j) ∙ pow-add R a (i * j) i ∙ ap (λ z. z ⊠ pow R a i) (pow-mul a i j) ∙ ⊠-comm _ _
 
+  pub pow-prod : (a b : F) (n : ℕ) → pow R a n ⊠ pow R b n ≡ pow R (a ⊠ b) n
+  unfolding pow
+  pow-prod a b zero = ⊠-one 𝟙
+  pow-prod a b (suc n) = ⊠-swap R a (pow R a n) b (pow R b n) ∙ ap (λ z. (a ⊠ b) ⊠ z) (pow-prod a b n)
+
   pub pow-mod : (u : F) (p i : ℕ) → pow R u p ≡ 𝟙 → pow R u i ≡ pow R u (i % p)
   pow-mod u p i e =
       ap (pow R u) (sym (div-add-mod' i p) ∙ ap (λ z. z + i % p) (mul-comm (i / p) p)) ∙ pow-add R u (p * (i / p)) (i % p)
@@ -48,7 +53,7 @@ module _ {F : Type 0} (R : Ring F) where
   unfolding digit pow
   digit-pow n a = two-cases (λ n. digit n a ≡ pow R a n) refl (sym (⊠-one a)) n
 
-  square-pow : (a : F) (j : ℕ) → pow R (a ⊠ a) j ≡ pow R a (2 * j)
+  pub square-pow : (a : F) (j : ℕ) → pow R (a ⊠ a) j ≡ pow R a (2 * j)
   unfolding pow
   square-pow a j = ap (λ z. pow R z j) (ap (λ z. a ⊠ z) (sym (⊠-one a))) ∙ sym (pow-mul a 2 j)
 

@@ -7,6 +7,7 @@ use native.Mathlib.Nat.{not-suc-le-zero, le-of-suc-le-suc, le-suc, le-refl}
 use native.Mathlib.Decide.{ℕ-discrete}
 use native.Mathlib.Omega.{arith}
 use Rattle.algebra.specs.Ring.{Ring, Field, ⊞-lc, ⊠-lc, zero-⊞, one-⊠, dist-⊠, ⊠-zero, zero-⊠, ⊞-self-l, ⊞-swap, ⊠-swap, ⊞-cancel, square-add}
+use Rattle.algebra.specs.Power.{pow-one, pow-prod}
 use Rattle.algebra.specs.Series.{sum, sum-ext, sum-add, sum-mul, sum-zero, pow, pow-add, eval, eval-zero}
 
 -- the first n of a sequence differ
@@ -33,6 +34,20 @@ module _ {F : Type 0} (K : Field F) where
   unfolding pow
   pow-nz a zero nz q = K .one-nz q
   pow-nz a (suc n) nz q = nz (domain a (pow R a n) q (pow-nz a n nz))
+
+  -- inverses of different elements differ
+  pub inv-inj : (a b : F) → a ≢ 𝟘 → b ≢ 𝟘 → K .inv a ≡ K .inv b → a ≡ b
+  inv-inj a b na nb e =
+      sym (⊠-one a) ∙ ap (λ w. a ⊠ w) (sym (K .inv-law b nb)) ∙ ap (λ w. a ⊠ (b ⊠ w)) (sym e)
+      ∙ ⊠-lc R a b _ ∙ ap (λ w. b ⊠ w) (K .inv-law a na) ∙ ⊠-one b
+
+  -- what makes 1 with a is its inverse
+  pub inv-is : (a b : F) → a ⊠ b ≡ 𝟙 → K .inv a ≡ b
+  inv-is a b e =
+      sym (⊠-one _) ∙ ap (λ w. K .inv a ⊠ w) (sym e) ∙ ⊠-lc R _ a b ∙ sym (⊠-assoc a _ b) ∙ ap (λ w. w ⊠ b) (K .inv-law a nz) ∙ one-⊠ R b
+    where
+      nz : a ≢ 𝟘
+      nz z = K .one-nz (sym e ∙ ap (λ w. w ⊠ b) z ∙ zero-⊠ R b)
 
   -- squares of different elements differ
   pub square-inj : (a b : F) → a ⊠ a ≡ b ⊠ b → a ≡ b
@@ -166,3 +181,7 @@ module _ {F : Type 0} (K : Field F) where
 
       one : pow R a (j - i) ≡ 𝟙
       one = ⊞-cancel R _ _ (domain _ (pow R a i) product (power-nz a n (omega arith) full i))
+
+  -- the inverse of a power is that power of the inverse
+  pub inv-pow : (a b : F) → a ⊠ b ≡ 𝟙 → (n : ℕ) → K .inv (pow R a n) ≡ pow R b n
+  inv-pow a b e n = inv-is (pow R a n) (pow R b n) (pow-prod R a b n ∙ ap (λ z. pow R z n) e ∙ pow-one R n)

@@ -1,7 +1,7 @@
 // The 256 registers of three u64 that divide a byte at a time.
 ghost use mathlib.Core.Path.{_≡_};
 ghost use Prim.Native.Nat.{_+_, _*_, _<_};
-ghost use Rattle.bch_table.specs.Divide.{wordOf, regOf};
+ghost use Rattle.bch_table.specs.Table.{wordOf, timesPower};
 ghost use Rattle.bch_table.specs.Step.{valueOf, stepOf};
 
 const TABLE: [u64; 768] = [
@@ -778,7 +778,7 @@ const TABLE: [u64; 768] = [
 // Word w of the register of t.
 pub fn word_at(t: usize, w: usize) -> u64
     requires { ⌜ (t < 256) × (w < 3) ⌝ }
-    ensures { λ r. ⌜ r ≡ wordOf w (regOf t) ⌝ }
+    ensures { λ r. ⌜ r ≡ wordOf w (timesPower 192 t) ⌝ }
 {
     TABLE[t * 3 + w]
 }

@@ -13,7 +13,8 @@ use lib.Dec.{T, ltb, ltb→lt, eqb, eqb→eq, eqb-refl, T-not, lit<}
 use lib.ListN.{getD, length}
 use Rattle.laws.specs.Xor.{_⊕_, ⊕-lt, two-cases, two-pos}
 use Rattle.laws.specs.Tests.{below, below-at, both, both-l, both-r}
-use Rattle.laws.specs.Poly.{clmul, rem, quo, division, rem-lt}
+use Rattle.laws.specs.Poly.{clmul, clmul-lt, rem, quo, division, rem-lt}
+use Rattle.bch_table.specs.Generator.{masks, product, generator, generator-lt, generator-top}
 use Rattle.algebra.specs.Gf.{mul, mulN, xt}
 use Rattle.algebra.specs.Ring.{Ring, Field, ⊠-zero, zero-⊠, ⊞-cancel, zero-⊞}
 use Rattle.algebra.specs.GfField.{El, gf-ring, gf-field, el-path}
@@ -22,27 +23,7 @@ use Rattle.algebra.specs.Power.{fast, digit, fast-pow, pow-mod}
 use Rattle.algebra.specs.Roots.{Distinct, domain}
 use Rattle.algebra.specs.Values.{ev, bit, ev-add, ev-square, ev-clmul, ev-more, multiple, vanishes}
 use Rattle.gf16.specs.Field16.{gf16}
-use Rattle.gf16.specs.Alpha.{R16, α, α-full, order16}
-
-unfoldable pub masks : List ℕ
-masks = 0x1100b ∷ 0x11b1d ∷ 0x12e8d ∷ 0x138cb ∷ 0x12baf ∷ 0x136c3 ∷ 0x18e47 ∷ 0x1934b ∷ 0x1bd53 ∷ 0x18f57 ∷ 0x1e741 ∷ 0x18cef ∷ []
-
-unfoldable pub products : List ℕ → ℕ
-products [] = 1
-products (m ∷ ms) = clmul 17 m (products ms)
-
-unfoldable pub generator : ℕ
-generator = products masks
-
-pub generator-is : generator ≡ 0x13b92f15b3078b68d77aa6c59656e8a4cfba9211137981c4b
-unfolding generator products masks clmul _⊕_
-generator-is = refl
-
-pub generator-lt : generator < 2 ^ 193
-generator-lt = subst (λ (z : ℕ). z < 2 ^ 193) (sym generator-is) (lit< tt)
-
-pub generator-top : generator / 2 ^ 192 ≡ 1
-generator-top = ap (λ (z : ℕ). z / 2 ^ 192) generator-is
+use Rattle.gf16.specs.Alpha.{R16, α, α-full, α-distinct}
 
 -- ---- entry i vanishes at alpha^(2i - 1), computed; here i counts from 0
 entries : T (below 12 (λ i. eqb ((ev R16 17 (getD masks i 0) (fast R16 16 α (2 * i + 1))) .0) 0))
@@ -53,36 +34,27 @@ pub entry-vanishes : (i : ℕ) → i < 12 → ev R16 17 (getD masks i 0) (pow R1
 unfolding gf16 gf-field gf-ring
 entry-vanishes i h = ap (ev R16 17 (getD masks i 0)) (sym (fast-pow R16 16 α (2 * i + 1) (omega arith))) ∙ el-path (eqb→eq _ _ (below-at 12 _ entries i h))
 
--- a product has as many digits as its factors together
-clmul-lt : (k q g d : ℕ) → g < 2 ^ d → clmul k q g < 2 ^ (k + d)
-unfolding clmul
-clmul-lt zero q g d h = pow-pos (zero + d)
-clmul-lt (suc k) q g d h =
-    let a : q % 2 * g < 2 ^ (suc k + d) = lt-of-lt-of-le (two-cases (λ t. t * g < 2 ^ d) (rw zero-mul (pow-pos d)) (rw one-mul h) (q % 2) (mod-lt q two-pos)) (pow-mono (omega arith)) in
-    let i = clmul-lt k (q / 2) g d h in
-    let e : 2 ^ (suc k + d) ≡ 2 ^ (k + d) * 2 = ap (λ (n : ℕ). 2 ^ n) (suc-add k d) ∙ pow-suc 2 (k + d) in
-    ⊕-lt (suc k + d) a (omega (arith, i, e))
-
-products-lt : (ms : List ℕ) → products ms < 2 ^ (17 * length ms + 1)
-unfolding products
-products-lt [] = lit< tt
-products-lt (m ∷ ms) =
+-- a product of k polynomials of 17 coefficients has at most 17 k + 1
+product-lt : (ms : List ℕ) → product ms < 2 ^ (17 * length ms + 1)
+unfolding product
+product-lt [] = lit< tt
+product-lt (m ∷ ms) =
     let e : 17 + (17 * length ms + 1) ≡ 17 * suc (length ms) + 1 = omega arith in
-    subst (λ (n : ℕ). clmul 17 m (products ms) < 2 ^ n) e (clmul-lt 17 m (products ms) (17 * length ms + 1) (products-lt ms))
+    subst (λ (n : ℕ). clmul 17 m (product ms) < 2 ^ n) e (clmul-lt 17 m (17 * length ms + 1) (product ms) (product-lt ms))
 
 -- a product vanishes where one of its factors does
-products-vanish : (ms : List ℕ) (i : ℕ) (z : El 15) → i < length ms → ev R16 17 (getD ms i 0) z ≡ R16 .𝟘 → ev R16 (17 * length ms + 1) (products ms) z ≡ R16 .𝟘
-unfolding products
-products-vanish [] i z h e = absurd (not-suc-le-zero h)
-products-vanish (m ∷ ms) i z h e =
+product-vanish : (ms : List ℕ) (i : ℕ) (z : El 15) → i < length ms → ev R16 17 (getD ms i 0) z ≡ R16 .𝟘 → ev R16 (17 * length ms + 1) (product ms) z ≡ R16 .𝟘
+unfolding product
+product-vanish [] i z h e = absurd (not-suc-le-zero h)
+product-vanish (m ∷ ms) i z h e =
     let n : 17 * suc (length ms) + 1 ≡ 17 + (17 * length ms + 1) = omega arith in
-    ap (λ (k : ℕ). ev R16 k (clmul 17 m (products ms)) z) n
-    ∙ ev-clmul R16 17 m (products ms) (17 * length ms + 1) (17 + (17 * length ms + 1)) z (products-lt ms) (le-refl _)
-    ∙ factor (λ j. products-vanish ms j z) i h e
+    ap (λ (k : ℕ). ev R16 k (clmul 17 m (product ms)) z) n
+    ∙ ev-clmul R16 17 m (product ms) (17 * length ms + 1) (17 + (17 * length ms + 1)) z (product-lt ms) (le-refl _)
+    ∙ factor (λ j. product-vanish ms j z) i h e
   where
-    factor : ((j : ℕ) → j < length ms → ev R16 17 (getD ms j 0) z ≡ R16 .𝟘 → ev R16 (17 * length ms + 1) (products ms) z ≡ R16 .𝟘)
-        → (i : ℕ) → i < suc (length ms) → ev R16 17 (getD (m ∷ ms) i 0) z ≡ R16 .𝟘 → R16 ._⊠_ (ev R16 17 m z) (ev R16 (17 * length ms + 1) (products ms) z) ≡ R16 .𝟘
-    factor rest zero h e = ap (λ y. R16 ._⊠_ y (ev R16 (17 * length ms + 1) (products ms) z)) e ∙ zero-⊠ R16 _
+    factor : ((j : ℕ) → j < length ms → ev R16 17 (getD ms j 0) z ≡ R16 .𝟘 → ev R16 (17 * length ms + 1) (product ms) z ≡ R16 .𝟘)
+        → (i : ℕ) → i < suc (length ms) → ev R16 17 (getD (m ∷ ms) i 0) z ≡ R16 .𝟘 → R16 ._⊠_ (ev R16 17 m z) (ev R16 (17 * length ms + 1) (product ms) z) ≡ R16 .𝟘
+    factor rest zero h e = ap (λ y. R16 ._⊠_ y (ev R16 (17 * length ms + 1) (product ms) z)) e ∙ zero-⊠ R16 _
     factor rest (suc i) h e = ap (R16 ._⊠_ (ev R16 17 m z)) (rest i (le-of-suc-le-suc h) e) ∙ ⊠-zero R16 _
 
 twelve : (i : ℕ) → i < 12 → i < length masks
@@ -92,29 +64,7 @@ twelve i h = h
 pub generator-odd : (i : ℕ) → i < 12 → ev R16 193 generator (pow R16 α (2 * i + 1)) ≡ R16 .𝟘
 unfolding generator masks
 generator-odd i h =
-    sym (ev-more R16 193 205 generator _ generator-lt (omega arith)) ∙ products-vanish masks i _ (twelve i h) (entry-vanishes i h)
-
--- ---- powers of alpha below 65,535 are not zero, and differ
-pub α-nz : (a : ℕ) → a < 65535 → pow R16 α a ≢ R16 .𝟘
-α-nz a h z =
-    gf16 .one-nz (sym α-full ∙ ap (pow R16 α) back ∙ pow-add R16 α a (65535 - a) ∙ ap (λ w. R16 ._⊠_ w (pow R16 α (65535 - a))) z ∙ zero-⊠ R16 _)
-  where
-    back : 65535 ≡ a + (65535 - a)
-    back = omega arith
-
-pub α-distinct : Distinct 65535 (pow R16 α)
-α-distinct a b h h′ e = order16 (b - a) (omega arith) (omega arith) one
-  where
-    split : b ≡ a + (b - a)
-    split = omega arith
-
-    zero-product : R16 ._⊠_ (R16 ._⊞_ (pow R16 α (b - a)) (R16 .𝟙)) (pow R16 α a) ≡ R16 .𝟘
-    zero-product =
-        R16 .⊠-comm _ _ ∙ R16 .⊠-dist (pow R16 α a) (pow R16 α (b - a)) (R16 .𝟙)
-        ∙ ap₂ (R16 ._⊞_) (sym (pow-add R16 α a (b - a)) ∙ ap (pow R16 α) (sym split) ∙ sym e) (R16 .⊠-one _) ∙ R16 .⊞-self _
-
-    one : pow R16 α (b - a) ≡ R16 .𝟙
-    one = ⊞-cancel R16 _ _ (domain gf16 _ (pow R16 α a) zero-product (α-nz a (omega arith)))
+    sym (ev-more R16 193 205 generator _ generator-lt (omega arith)) ∙ product-vanish masks i _ (twelve i h) (entry-vanishes i h)
 
 -- ---- the 192 roots
 unfoldable pub ex : ℕ → ℕ

@@ -1,4 +1,4 @@
--- `table::step` meets its contract: the three words, shifted and xored, are one number's.
+-- `bch_table::step` meets its contract: the three words, shifted and xored, are one number's.
 -- Assumes nothing.
 use Prim.Native.Nat.{ℕ, _<_, _/_, _^_}
 use native.Mathlib.Omega.{arith}
