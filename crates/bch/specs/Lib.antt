@@ -4,3 +4,4 @@ pub mod Decode
 pub mod Coefficients
 pub mod Difference
 pub mod Flips
+pub mod Within
