@@ -7,10 +7,10 @@ use native.Mathlib.Nat.{not-suc-le-zero, le-refl, mul-comm}
 use native.Mathlib.Decide.{ℕ-discrete, decLe, decLt}
 use native.Mathlib.Omega.{arith}
 use Rattle.algebra.specs.Ring.{Ring, Field, zero-⊠, dist-⊠, ⊞-cancel}
-use Rattle.algebra.specs.Series.{sum, sum-ext, sum-add, pow, pow-add, eval, conv, conv-ext}
+use Rattle.algebra.specs.Series.{sum, sum-ext, sum-add, pow, pow-add, eval}
 use Rattle.algebra.specs.Power.{pow-mul}
 use Rattle.algebra.specs.Roots.{Distinct, domain, pow-nz, inv-inj, vandermonde}
-use Rattle.algebra.specs.Massey.{Gen, Shortest}
+use Rattle.algebra.specs.Massey.{Gen, Shortest, gen-ext}
 use Rattle.algebra.specs.Locator.{syndrome, eval-sums, locator, locator-gen, all-roots, only-roots, length-is}
 
 module _ {F : Type 0} (K : Field F) where
@@ -196,7 +196,7 @@ module _ {F : Type 0} (K : Field F) where
   abbrev pub Syndromes : ℕ → (ℕ → F) → ℕ → ℕ → (ℕ → F) → (ℕ → F) → Type 0
   Syndromes n x b k ε s = (j : ℕ) → j < k → s j ≡ sum R₂ n (λ p. ε p ⊠ pow R₂ (x p) (b + j))
 
-  shift : (a u : F) (b j : ℕ) → a ⊠ pow R₂ u (b + j) ≡ a ⊠ pow R₂ u b ⊠ pow R₂ u j
+  pub shift : (a u : F) (b j : ℕ) → a ⊠ pow R₂ u (b + j) ≡ a ⊠ pow R₂ u b ⊠ pow R₂ u j
   shift a u b j = ap (λ w. a ⊠ w) (pow-add R₂ u b j) ∙ sym (⊠-assoc a _ _)
 
   -- the values of the word ε at the powers b, b + 1, .. of α are its syndromes, X_p being α^p
@@ -231,10 +231,7 @@ module _ {F : Type 0} (K : Field F) where
         ∙ sum-ext R₂ e _ _ (λ i _. shift (ε (L .place i)) (x (L .place i)) b j)
 
     gen-there : (c : ℕ → F) (l : ℕ) → Gen R₂ s k c l → Gen R₂ (syndrome R₂ e y₀ x₀) k c l
-    gen-there c l g = record { head = g .head; supp = g .supp; zeros = λ n h h′. sym (conv-ext R₂ n c s _ (λ j a. agree j (omega arith))) ∙ g .zeros n h h′ }
-
-    gen-back : (c : ℕ → F) (l : ℕ) → Gen R₂ (syndrome R₂ e y₀ x₀) k c l → Gen R₂ s k c l
-    gen-back c l g = record { head = g .head; supp = g .supp; zeros = λ n h h′. conv-ext R₂ n c s _ (λ j a. agree j (omega arith)) ∙ g .zeros n h h′ }
+    gen-there c l g = gen-ext R₂ s (syndrome R₂ e y₀ x₀) k c l agree g
 
     nz₀ : (p : ℕ) → p < e → x₀ p ≢ 𝟘
     unfolding e x₀ L
@@ -247,7 +244,7 @@ module _ {F : Type 0} (K : Field F) where
     -- the locator polynomial, the product of 1 + X_p x over the wrong places, is a register of the error's weight
     pub locator-serves : Gen R₂ s k (locator R₂ x₀ (weight n ε)) (weight n ε)
     unfolding e
-    locator-serves = gen-back _ _ (locator-gen K e y₀ x₀ nz₀ k)
+    locator-serves = gen-ext R₂ (syndrome R₂ e y₀ x₀) s k _ _ (λ j h. sym (agree j h)) (locator-gen K e y₀ x₀ nz₀ k)
 
     -- so a shortest register is no longer than the error's weight
     pub no-longer : (c : ℕ → F) (l : ℕ) → Shortest R₂ s k c l → l ≤ weight n ε

@@ -9,5 +9,6 @@ pub mod Unique
 pub mod Locator
 pub mod Split
 pub mod Errors
+pub mod Corrects
 pub mod Gf
 pub mod GfField
