@@ -23,6 +23,11 @@ unfoldable pub bitsOf : List ℕ → List ℕ
 bitsOf [] = []
 bitsOf (b ∷ w) = b % 2 ∷ bitsOf w
 
+-- the other bits of its bytes
+unfoldable pub restOf : List ℕ → List ℕ
+restOf [] = []
+restOf (b ∷ w) = b / 2 ∷ restOf w
+
 pub codeword-zero : (w : List ℕ) → Codeword w → remainderOf w ≡ 0
 unfolding Codeword remainderOf
 codeword-zero w c =

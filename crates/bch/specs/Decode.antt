@@ -13,6 +13,7 @@ use Rattle.algebra.specs.Series.{pow, eval}
 use Rattle.algebra.specs.Values.{ev}
 use Rattle.algebra.specs.Massey.{Shortest, shortest-exists}
 use Rattle.algebra.specs.Unique.{same-length, only-register}
+use Rattle.algebra.specs.Corrects.{zeros}
 use Rattle.algebra.specs.GfField.{El}
 use Rattle.gf16.specs.Field16.{gf16}
 use Rattle.gf16.specs.Alpha.{R16, α}
@@ -39,8 +40,7 @@ flipped c l (b ∷ w) = whereRoot c l (length w) (b ⊕ 1) b ∷ flipped c l w
 
 -- how many of the positions of powers below n are flipped
 unfoldable pub flips : (ℕ → El 15) → ℕ → ℕ → ℕ
-flips c l zero = 0
-flips c l (suc n) = whereRoot c l n 1 0 + flips c l n
+flips c l n = zeros gf16 n (valueAt c l)
 
 -- the answer to a word that is no codeword, and the bytes that it leaves, by a shortest register
 unfoldable pub answerBy : (ℕ → El 15) → ℕ → List ℕ → Decoded

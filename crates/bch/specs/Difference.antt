@@ -13,7 +13,7 @@ use Rattle.algebra.specs.Series.{sum, sum-ext, sum-add, pow, eval}
 use Rattle.algebra.specs.Power.{pow-mul}
 use Rattle.algebra.specs.Values.{ev, bit, coeff, ev-eval}
 use Rattle.algebra.specs.Locator.{eval-add, eval-sums}
-use Rattle.algebra.specs.Errors.{weight, one-more}
+use Rattle.algebra.specs.Errors.{weight, weight-none, weight-same, weight-more, weight-mono}
 use Rattle.algebra.specs.GfField.{El}
 use Rattle.gf16.specs.Field16.{gf16}
 use Rattle.gf16.specs.Alpha.{R16, α}
@@ -29,25 +29,10 @@ difference w v p = R16 ._⊞_ (coeff R16 (number w) p) (coeff R16 (number v) p)
 
 -- ---- distance
 pub weight-ext : (n : ℕ) (ε δ : ℕ → El 15) → ((p : ℕ) → p < n → ε p ≡ δ p) → weight gf16 n ε ≡ weight gf16 n δ
-unfolding weight one-more
-weight-ext zero ε δ h = refl
-weight-ext (suc n) ε δ h = ap₂ (λ (z : El 15) (k : ℕ). one-more gf16 (gf16 .dec z (R16 .𝟘)) k) (h n (le-refl (suc n))) (weight-ext n ε δ (λ p g. h p (omega arith)))
-
-pub weight-same : (n : ℕ) (ε : ℕ → El 15) → ε n ≡ R16 .𝟘 → weight gf16 (suc n) ε ≡ weight gf16 n ε
-unfolding weight one-more
-weight-same n ε z = pick (gf16 .dec (ε n) (R16 .𝟘))
-  where
-    pick : (d : Dec (ε n ≡ R16 .𝟘)) → one-more gf16 d (weight gf16 n ε) ≡ weight gf16 n ε
-    pick (yes _) = refl
-    pick (no ne) = absurd (ne z)
-
-pub weight-more : (n : ℕ) (ε : ℕ → El 15) → ε n ≢ R16 .𝟘 → weight gf16 (suc n) ε ≡ suc (weight gf16 n ε)
-unfolding weight one-more
-weight-more n ε ne = pick (gf16 .dec (ε n) (R16 .𝟘))
-  where
-    pick : (d : Dec (ε n ≡ R16 .𝟘)) → one-more gf16 d (weight gf16 n ε) ≡ suc (weight gf16 n ε)
-    pick (yes z) = absurd (ne z)
-    pick (no _) = refl
+weight-ext n ε δ h =
+    let a = weight-mono gf16 n ε δ (λ p g ne z. ne (h p g ∙ z)) in
+    let b = weight-mono gf16 n δ ε (λ p g ne z. ne (sym (h p g) ∙ z)) in
+    omega arith
 
 pub difference-top : (a b : ℕ) (w v : List ℕ) → length v ≡ length w → difference (a ∷ w) (b ∷ v) (length w) ≡ R16 ._⊞_ (bit R16 (a % 2)) (bit R16 (b % 2))
 unfolding difference
@@ -68,8 +53,8 @@ bits-other x y hx hy =
     (two-cases (λ y. 1 ≢ y → R16 ._⊞_ (bit R16 1) (bit R16 y) ≢ R16 .𝟘) (λ ne e. gf16 .one-nz (sym (R16 .⊞-zero _) ∙ e)) (λ ne. absurd (ne refl)) y hy) x hx
 
 pub weight-distance : (w v : List ℕ) → length v ≡ length w → weight gf16 (length w) (difference w v) ≡ distance w v
-unfolding distance weight
-weight-distance [] v e = refl
+unfolding distance
+weight-distance [] v e = weight-none gf16 (difference [] v)
 weight-distance (a ∷ w) [] e = absurd (omega arith)
 weight-distance (a ∷ w) (b ∷ v) e = pick (ℕ-discrete (a % 2) (b % 2)) (weight-distance w v same)
   where
@@ -79,12 +64,12 @@ weight-distance (a ∷ w) (b ∷ v) e = pick (ℕ-discrete (a % 2) (b % 2)) (wei
     pick : Dec (a % 2 ≡ b % 2) → weight gf16 (length w) (difference w v) ≡ distance w v → weight gf16 (suc (length w)) (difference (a ∷ w) (b ∷ v)) ≡ (a + b) % 2 + distance w v
     pick (yes q) i =
         let z : (a + b) % 2 ≡ 0 = omega arith in
-        weight-same (length w) _ (difference-top a b w v same ∙ bits-same (a % 2) (b % 2) (mod-lt a two-pos) (mod-lt b two-pos) q)
+        weight-same gf16 (length w) _ (difference-top a b w v same ∙ bits-same (a % 2) (b % 2) (mod-lt a two-pos) (mod-lt b two-pos) q)
         ∙ weight-ext (length w) _ _ (difference-low a b w v same) ∙ i ∙ ap (λ (k : ℕ). k + distance w v) (sym z)
     pick (no q) i =
         let z : (a + b) % 2 ≡ 1 = omega arith in
         let s : suc (distance w v) ≡ 1 + distance w v = omega arith in
-        weight-more (length w) _ (λ f. bits-other (a % 2) (b % 2) (mod-lt a two-pos) (mod-lt b two-pos) q (sym (difference-top a b w v same) ∙ f))
+        weight-more gf16 (length w) _ (λ f. bits-other (a % 2) (b % 2) (mod-lt a two-pos) (mod-lt b two-pos) q (sym (difference-top a b w v same) ∙ f))
         ∙ ap suc (weight-ext (length w) _ _ (difference-low a b w v same) ∙ i) ∙ s ∙ ap (λ (k : ℕ). k + distance w v) (sym z)
 
 -- ---- syndromes

@@ -10,18 +10,12 @@ use lib.ListN.{length}
 use Rattle.laws.specs.Xor.{_⊕_, ⊕-half, ⊕-odd, ⊕-zero, two-cases, two-pos}
 use Rattle.algebra.specs.Ring.{zero-⊞}
 use Rattle.algebra.specs.Values.{bit}
-use Rattle.algebra.specs.Errors.{weight}
 use Rattle.algebra.specs.GfField.{El}
 use Rattle.gf16.specs.Field16.{gf16}
 use Rattle.gf16.specs.Alpha.{R16}
-use Rattle.bch.specs.Codeword.{distance, bitsOf}
-use Rattle.bch.specs.Decode.{valueAt, whereRoot, flipped, flips}
-use Rattle.bch.specs.Difference.{difference, difference-top, difference-low, weight-same, weight-more, bits-same, bits-other}
-
--- the bits of the bytes that are not the word's
-unfoldable pub restOf : List ℕ → List ℕ
-restOf [] = []
-restOf (b ∷ w) = b / 2 ∷ restOf w
+use Rattle.bch.specs.Codeword.{bitsOf, restOf}
+use Rattle.bch.specs.Decode.{valueAt, whereRoot, flipped}
+use Rattle.bch.specs.Difference.{difference, difference-top, difference-low, bits-same, bits-other}
 
 module _ (c : ℕ → El 15) (l : ℕ) where
   pub at-root : (p x y : ℕ) → valueAt c l p ≡ R16 .𝟘 → whereRoot c l p x y ≡ x
@@ -77,21 +71,6 @@ module _ (c : ℕ → El 15) (l : ℕ) where
       pick (yes z) (no q) = ap (λ (x : ℕ). x % 2) (at-root (length w) (a ⊕ 1) a z) ∙ ⊕-odd a 1 ∙ odd-flip (a % 2) (b % 2) (mod-lt a two-pos) (mod-lt b two-pos) q
       pick (no z) (yes q) = ap (λ (x : ℕ). x % 2) (off-root (length w) (a ⊕ 1) a z) ∙ q
       pick (no z) (no q) = absurd (bits-other (a % 2) (b % 2) (mod-lt a two-pos) (mod-lt b two-pos) q (sym (difference-top a b w v same) ∙ miss (length w) top z))
-
-  -- the flips are as many as the places where ε is not zero, if those are the roots
-  pub flips-weight : (n : ℕ) (ε : ℕ → El 15) → ((p : ℕ) → p < n → valueAt c l p ≡ R16 .𝟘 → ε p ≢ R16 .𝟘) → ((p : ℕ) → p < n → valueAt c l p ≢ R16 .𝟘 → ε p ≡ R16 .𝟘)
-      → flips c l n ≡ weight gf16 n ε
-  unfolding flips weight
-  flips-weight zero ε hit miss = refl
-  flips-weight (suc n) ε hit miss = pick (gf16 .dec (valueAt c l n) (R16 .𝟘)) (flips-weight n ε (λ p h. hit p (omega arith)) (λ p h. miss p (omega arith)))
-    where
-      pick : Dec (valueAt c l n ≡ R16 .𝟘) → flips c l n ≡ weight gf16 n ε → whereRoot c l n 1 0 + flips c l n ≡ weight gf16 (suc n) ε
-      pick (yes z) i =
-          let s : 1 + flips c l n ≡ suc (flips c l n) = omega arith in
-          ap (λ (k : ℕ). k + flips c l n) (at-root n 1 0 z) ∙ s ∙ ap suc i ∙ sym (weight-more n ε (hit n (le-refl (suc n)) z))
-      pick (no z) i =
-          let s : 0 + flips c l n ≡ flips c l n = omega arith in
-          ap (λ (k : ℕ). k + flips c l n) (off-root n 1 0 z) ∙ s ∙ i ∙ sym (weight-same n ε (miss n (le-refl (suc n)) z))
 
   -- the difference that flipping makes: 1 at the roots, 0 elsewhere
   bit-flip : (x : ℕ) → x < 2 → R16 ._⊞_ (bit R16 x) (bit R16 (x ⊕ 1)) ≡ R16 .𝟙

@@ -5,3 +5,5 @@ pub mod Coefficients
 pub mod Difference
 pub mod Flips
 pub mod Within
+pub mod Corrected
+pub mod Exact

@@ -9,14 +9,15 @@ use lib.ListN.{length}
 use Rattle.algebra.specs.Series.{pow}
 use Rattle.algebra.specs.Roots.{Distinct}
 use Rattle.algebra.specs.Massey.{Shortest}
-use Rattle.algebra.specs.Errors.{weight, Syndromes, length-right, found-wrong, found-right}
+use Rattle.algebra.specs.Errors.{weight, Syndromes}
+use Rattle.algebra.specs.Corrects.{Found, found, found-count}
 use Rattle.algebra.specs.GfField.{El}
 use Rattle.gf16.specs.Field16.{gf16}
 use Rattle.gf16.specs.Alpha.{R16, α, α-nz, α-distinct}
 use Rattle.bch.specs.Codeword.{Codeword, distance, bitsOf}
 use Rattle.bch.specs.Decode.{syndrome, valueAt, flipped, flips, answerBy, leftBy}
 use Rattle.bch.specs.Difference.{difference, weight-distance, syndrome-difference}
-use Rattle.bch.specs.Flips.{flipped-bits, flips-weight}
+use Rattle.bch.specs.Flips.{flipped-bits}
 use Rattle.bch.specs.declared.Decoded.{Decoded}
 use Rattle.bch.specs.declared.Decoded.the-variants.{Corrected, Uncorrectable, Refused}
 
@@ -39,9 +40,12 @@ module _ (w v : List ℕ) (size : length w ≤ 65535) (same : length v ≡ lengt
   enough : weight gf16 (length w) ε + weight gf16 (length w) ε ≤ 24
   enough = omega (arith, light)
 
+  it : Found gf16 (length w) (pow R16 α) 1 24 (syndrome w) c l ε
+  it = found gf16 (length w) (pow R16 α) (λ p _. α-nz p) distinct 1 24 (syndrome w) c l S ε syndromes enough
+
   hit : (p : ℕ) → p < length w → valueAt c l p ≡ R16 .𝟘 → ε p ≢ R16 .𝟘
   unfolding valueAt
-  hit p h z = found-right gf16 (length w) (pow R16 α) (λ p _. α-nz p) 1 24 ε (syndrome w) syndromes distinct enough c l S p h z
+  hit = it .right
 
   miss : (p : ℕ) → p < length w → valueAt c l p ≢ R16 .𝟘 → ε p ≡ R16 .𝟘
   unfolding valueAt
@@ -49,16 +53,17 @@ module _ (w v : List ℕ) (size : length w ≤ 65535) (same : length v ≡ lengt
     where
       pick : Dec (ε p ≡ R16 .𝟘) → ε p ≡ R16 .𝟘
       pick (yes e) = e
-      pick (no ne) = absurd (z (found-wrong gf16 (length w) (pow R16 α) (λ p _. α-nz p) 1 24 ε (syndrome w) syndromes distinct enough c l S p h ne))
+      pick (no ne) = absurd (z (it .wrong p h ne))
 
   length-is : l ≡ distance w v
-  length-is = length-right gf16 (length w) (pow R16 α) (λ p _. α-nz p) 1 24 ε (syndrome w) syndromes distinct enough c l S ∙ light
+  length-is = sym (it .count) ∙ light
 
   short : l ≤ 12
   short = omega (arith, length-is)
 
   flips-are : flips c l (length w) ≡ l
-  flips-are = flips-weight c l (length w) ε hit miss ∙ light ∙ sym length-is
+  unfolding flips valueAt
+  flips-are = found-count gf16 (length w) (pow R16 α) (λ p _. α-nz p) distinct 1 24 (syndrome w) c l S ε it
 
   pub within-answer : answerBy c l w ≡ Corrected (distance w v)
   unfolding answerBy
