@@ -7,3 +7,4 @@ pub mod Flips
 pub mod Within
 pub mod Corrected
 pub mod Exact
+pub mod FlipLoop
