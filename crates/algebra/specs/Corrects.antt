@@ -1,41 +1,19 @@
--- The other direction: a shortest register with as many roots among the places as its length tells an error of that weight,
--- wrong exactly at the roots, with the given syndromes; and that error is binary when the syndromes are those of a binary word.
-use mathlib.Core.Path.{_≡_, refl, sym, ap, ap₂, _∙_, subst}
-use mathlib.Core.Logic.{_≢_, _⊎_, _↔_, ite, if-pos, if-neg}
+-- Corrected exactly when: a shortest register is at most t long and has as many roots among the places as its length,
+-- if and only if an error of weight at most t has the syndromes; that error is wrong exactly at the roots, and binary if the word is.
+use mathlib.Core.Path.{_≡_, sym, ap, ap₂, _∙_, subst}
+use mathlib.Core.Logic.{_≢_, _⊎_, inl, inr, _↔_}
 use Prim.Native.Nat.{ℕ, zero, suc, _+_, _*_, _≤_, _<_}
-use native.Mathlib.Nat.{not-suc-le-zero, le-refl}
-use native.Mathlib.Decide.{ℕ-discrete, decLe}
+use native.Mathlib.Decide.{decLe}
 use native.Mathlib.Omega.{arith}
-use Rattle.algebra.specs.Ring.{Ring, Field, zero-⊠, ⊠-swap, ⊞-cancel, dist-⊠}
-use Rattle.algebra.specs.Series.{sum, sum-ext, sum-add, sum-square, pow, pow-add, eval}
+use Rattle.algebra.specs.Ring.{Ring, Field, zero-⊠, one-⊠, ⊠-swap, ⊞-cancel, dist-⊠}
+use Rattle.algebra.specs.Series.{sum, sum-ext, sum-add, sum-square, pow, pow-add}
 use Rattle.algebra.specs.Power.{square-pow}
 use Rattle.algebra.specs.Roots.{Distinct, domain, pow-nz, inv-inj, roots, square-inj, idempotent}
-use Rattle.algebra.specs.Massey.{Gen, Shortest}
+use Rattle.algebra.specs.Massey.{Shortest}
 use Rattle.algebra.specs.Locator.{syndrome}
 use Rattle.algebra.specs.Split.{split}
-use Rattle.algebra.specs.Errors.{weight, weight-none, weight-same, weight-more, weight-mono, weight-strict, Listing, listing, Syndromes, chien, shift, no-longer, length-right, found-wrong, found-right, min-distance}
-
--- z_i at place i of the first e, and zero elsewhere
-unfoldable pub spread : {F : Type 0} → F → (ℕ → ℕ) → (ℕ → F) → ℕ → ℕ → F
-spread o place z zero p = o
-spread o place z (suc e) p = ite (ℕ-discrete (place e) p) (z e) (spread o place z e p)
-
-module _ {F : Type 0} (o : F) (place : ℕ → ℕ) (z : ℕ → F) where
-  pub spread-at : (e : ℕ) → ((i j : ℕ) → i < j → j < e → place i < place j) → (i : ℕ) → i < e → spread o place z e (place i) ≡ z i
-  unfolding spread
-  spread-at zero order i h = absurd (not-suc-le-zero h)
-  spread-at (suc e) order i h = pick (ℕ-discrete i e) (spread-at e (λ i j a b. order i j a (omega arith)) i)
-    where
-      pick : Dec (i ≡ e) → (i < e → spread o place z e (place i) ≡ z i) → spread o place z (suc e) (place i) ≡ z i
-      pick (yes q) r = if-pos (ℕ-discrete (place e) (place i)) (ap place (sym q)) _ _ ∙ ap z (sym q)
-      pick (no q) r =
-          let t = order i e (omega arith) (le-refl (suc e)) in
-          if-neg (ℕ-discrete (place e) (place i)) (λ a. omega arith) _ _ ∙ r (omega arith)
-
-  pub spread-off : (e p : ℕ) → ((i : ℕ) → i < e → place i ≢ p) → spread o place z e p ≡ o
-  unfolding spread
-  spread-off zero p off = refl
-  spread-off (suc e) p off = if-neg (ℕ-discrete (place e) p) (off e (le-refl (suc e))) _ _ ∙ spread-off e p (λ i h. off i (omega arith))
+use Rattle.algebra.specs.Errors.{weight, weight-mono, weight-strict, Listing, listing, Syndromes, chien, shift, no-longer, length-right, found-wrong, found-right, min-distance}
+use Rattle.algebra.specs.Places.{spread, spread-at, spread-off, zeros, mark, mark-zero, zero-mark, zeros-mark, zeros-weight, zeros-listed}
 
 module _ {F : Type 0} (K : Field F) where
   open Ring (K .ring) using (𝟘, 𝟙, _⊞_, _⊠_, ⊞-zero, ⊞-self, ⊠-assoc, ⊠-comm, ⊠-one)
@@ -45,90 +23,14 @@ module _ {F : Type 0} (K : Field F) where
   abbrev R₃ : Ring F
   R₃ = K .ring
 
-  -- ---- how many of the first n of v are zero
-  unfoldable pub zeros : ℕ → (ℕ → F) → ℕ
-  zeros zero v = 0
-  zeros (suc n) v = ite (K .dec (v n) 𝟘) (suc (zeros n v)) (zeros n v)
+  -- ---- squares of syndromes
+  double : (u : F) (m i : ℕ) → m ≡ 2 * (1 + i) → pow R₃ u m ≡ pow R₃ (u ⊠ u) (1 + i)
+  double u m i e = ap (pow R₃ u) e ∙ sym (square-pow R₃ u (1 + i))
 
-  pub zeros-none : (v : ℕ → F) → zeros 0 v ≡ 0
-  unfolding zeros
-  zeros-none v = refl
-
-  pub zeros-more : (n : ℕ) (v : ℕ → F) → v n ≡ 𝟘 → zeros (suc n) v ≡ suc (zeros n v)
-  unfolding zeros
-  zeros-more n v z = if-pos (K .dec (v n) 𝟘) z _ _
-
-  pub zeros-same : (n : ℕ) (v : ℕ → F) → v n ≢ 𝟘 → zeros (suc n) v ≡ zeros n v
-  unfolding zeros
-  zeros-same n v nz = if-neg (K .dec (v n) 𝟘) nz _ _
-
-  -- 1 where v is 0
-  mark : (ℕ → F) → ℕ → F
-  mark v p = ite (K .dec (v p) 𝟘) 𝟙 𝟘
-
-  mark-zero : (v : ℕ → F) (p : ℕ) → v p ≡ 𝟘 → mark v p ≢ 𝟘
-  unfolding mark
-  mark-zero v p z e = K .one-nz (sym (if-pos (K .dec (v p) 𝟘) z 𝟙 𝟘) ∙ e)
-
-  zero-mark : (v : ℕ → F) (p : ℕ) → mark v p ≢ 𝟘 → v p ≡ 𝟘
-  unfolding mark
-  zero-mark v p ne = pick (K .dec (v p) 𝟘)
-    where
-      pick : Dec (v p ≡ 𝟘) → v p ≡ 𝟘
-      pick (yes z) = z
-      pick (no nz) = absurd (ne (if-neg (K .dec (v p) 𝟘) nz 𝟙 𝟘))
-
-  zeros-mark : (n : ℕ) (v : ℕ → F) → zeros n v ≡ weight K n (mark v)
-  zeros-mark zero v = zeros-none v ∙ sym (weight-none K (mark v))
-  zeros-mark (suc n) v = pick (zeros-mark n v) (K .dec (v n) 𝟘)
-    where
-      pick : zeros n v ≡ weight K n (mark v) → Dec (v n ≡ 𝟘) → zeros (suc n) v ≡ weight K (suc n) (mark v)
-      pick r (yes z) = zeros-more n v z ∙ ap suc r ∙ sym (weight-more K n (mark v) (mark-zero v n z))
-      pick r (no nz) = zeros-same n v nz ∙ r ∙ sym (weight-same K n (mark v) (none (K .dec (mark v n) 𝟘)))
-        where
-          none : Dec (mark v n ≡ 𝟘) → mark v n ≡ 𝟘
-          none (yes e) = e
-          none (no ne) = absurd (nz (zero-mark v n ne))
-
-  -- the zeros are where ε is not zero: as many
-  pub zeros-weight : (n : ℕ) (v ε : ℕ → F) → ((p : ℕ) → p < n → ε p ≢ 𝟘 → v p ≡ 𝟘) → ((p : ℕ) → p < n → v p ≡ 𝟘 → ε p ≢ 𝟘) → zeros n v ≡ weight K n ε
-  zeros-weight n v ε wrong right =
-      let a = weight-mono K n ε (mark v) (λ p h ne. mark-zero v p (wrong p h ne)) in
-      let b = weight-mono K n (mark v) ε (λ p h ne. right p h (zero-mark v p ne)) in
-      omega (arith, zeros-mark n v)
-
-  -- l different places that are zeros, in order, as a program lists them: there are at least l
-  pub zeros-listed : (n : ℕ) (v : ℕ → F) (place : ℕ → ℕ) (l : ℕ) → ((i j : ℕ) → i < j → j < l → place i < place j)
-      → ((i : ℕ) → i < l → place i < n) → ((i : ℕ) → i < l → v (place i) ≡ 𝟘) → l ≤ zeros n v
-  zeros-listed n v place zero order inside zero-at = omega arith
-  zeros-listed zero v place (suc l) order inside zero-at = absurd (not-suc-le-zero (inside 0 (omega arith)))
-  zeros-listed (suc n) v place (suc l) order inside zero-at =
-      pick (ℕ-discrete (place l) n) (zeros-listed n v place l (λ i j a b. order i j a (omega arith)) before (λ i h. zero-at i (omega arith)))
-      (zeros-listed n v place (suc l) order)
-    where
-      before : (i : ℕ) → i < l → place i < n
-      before i h =
-          let t = order i l h (le-refl (suc l)) in
-          let u = inside l (le-refl (suc l)) in
-          omega arith
-
-      all-before : place l ≢ n → (i : ℕ) → i < suc l → place i < n
-      all-before ne i h = here (ℕ-discrete i l)
-        where
-          here : Dec (i ≡ l) → place i < n
-          here (yes e) =
-              let u = inside l (le-refl (suc l)) in
-              omega (arith, ap place e)
-          here (no q) = before i (omega arith)
-
-      more : Dec (v n ≡ 𝟘) → zeros n v ≤ zeros (suc n) v
-      more (yes z) = omega (arith, zeros-more n v z)
-      more (no nz) = omega (arith, zeros-same n v nz)
-
-      pick : Dec (place l ≡ n) → l ≤ zeros n v → (((i : ℕ) → i < suc l → place i < n) → ((i : ℕ) → i < suc l → v (place i) ≡ 𝟘) → suc l ≤ zeros n v)
-          → suc l ≤ zeros (suc n) v
-      pick (yes e) r r′ = omega (arith, r, zeros-more n v (ap v (sym e) ∙ zero-at l (le-refl (suc l))))
-      pick (no ne) r r′ = omega (arith, r′ (all-before ne) zero-at, more (K .dec (v n) 𝟘))
+  square-term : (a u : F) (i : ℕ) → a ⊠ pow R₃ u (1 + i) ⊠ (a ⊠ pow R₃ u (1 + i)) ≡ a ⊠ a ⊠ pow R₃ (u ⊠ u) (1 + i)
+  square-term a u i =
+      let e : (1 + i) + (1 + i) ≡ 2 * (1 + i) = omega arith in
+      ⊠-swap R₃ a _ a _ ∙ ap (λ w. a ⊠ a ⊠ w) (sym (pow-add R₃ u (1 + i) (1 + i)) ∙ double u _ i e)
 
   -- ---- the error ε has the k syndromes s, as many places as the register c is long, and those are c's roots among the n places
   pub record Found (n : ℕ) (x : ℕ → F) (b k : ℕ) (s c : ℕ → F) (l : ℕ) (ε : ℕ → F) : Type 0 where
@@ -140,24 +42,24 @@ module _ {F : Type 0} (K : Field F) where
   -- ---- n places with locators x
   module _ (n : ℕ) (x : ℕ → F) (x-nz : (p : ℕ) → p < n → x p ≢ 𝟘) (x-d : Distinct n x) where
     -- a register has at most as many roots as it is long
-    pub roots-fit : (c : ℕ → F) (l : ℕ) → c 0 ≡ 𝟙 → zeros n (chien K c l x) ≤ l
-    roots-fit c l head = pick (decLe (suc l) (zeros n v))
+    pub roots-fit : (c : ℕ → F) (l : ℕ) → c 0 ≡ 𝟙 → zeros K n (chien K c l x) ≤ l
+    roots-fit c l head = pick (decLe (suc l) (zeros K n v))
       where
         v : ℕ → F
         v = chien K c l x
 
-        M : Listing K n (mark v) (weight K n (mark v))
-        M = listing K n (mark v)
+        M : Listing K n (mark K v) (weight K n (mark K v))
+        M = listing K n (mark K v)
 
-        many : suc l ≤ weight K n (mark v) → ⊥
+        many : suc l ≤ weight K n (mark K v) → ⊥
         many h =
             K .one-nz (sym head ∙ roots K (suc l) c (λ i. K .inv (x (M .place i)))
             (λ i j a b e. x-d (M .place i) (M .place j) (M .in-order i j a (omega arith)) (M .inside j (omega arith))
             (inv-inj K _ _ (x-nz (M .place i) (M .inside i (omega arith))) (x-nz (M .place j) (M .inside j (omega arith))) e))
-            (λ i a. zero-mark v (M .place i) (M .wrong i (omega arith))) 0 (omega arith))
+            (λ i a. zero-mark K v (M .place i) (M .wrong i (omega arith))) 0 (omega arith))
 
-        pick : Dec (suc l ≤ zeros n v) → zeros n v ≤ l
-        pick (yes h) = absurd (many (subst (λ (m : ℕ). suc l ≤ m) (zeros-mark n v) h))
+        pick : Dec (suc l ≤ zeros K n v) → zeros K n v ≤ l
+        pick (yes h) = absurd (many (subst (λ (m : ℕ). suc l ≤ m) (zeros-mark K n v) h))
         pick (no h) = omega arith
 
     module _ (b k : ℕ) (s c : ℕ → F) (l : ℕ) (S : Shortest R₃ s k c l) where
@@ -172,17 +74,17 @@ module _ {F : Type 0} (K : Field F) where
           }
 
       -- and a found error's places are the register's roots, as many as it is long
-      pub found-count : (ε : ℕ → F) → Found n x b k s c l ε → zeros n (chien K c l x) ≡ l
-      found-count ε f = zeros-weight n (chien K c l x) ε (f .wrong) (f .right) ∙ f .count
+      pub found-count : (ε : ℕ → F) → Found n x b k s c l ε → zeros K n (chien K c l x) ≡ l
+      found-count ε f = zeros-weight K n (chien K c l x) ε (f .wrong) (f .right) ∙ f .count
 
       -- ---- as many roots as the register is long: they are the places of an error with these syndromes
-      module _ (full : zeros n (chien K c l x) ≡ l) where
+      module _ (full : zeros K n (chien K c l x) ≡ l) where
         v : ℕ → F
         v = chien K c l x
 
-        M : Listing K n (mark v) l
+        M : Listing K n (mark K v) l
         unfolding v
-        M = subst (λ (m : ℕ). Listing K n (mark v) m) (sym (zeros-mark n v) ∙ full) (listing K n (mark v))
+        M = subst (λ (m : ℕ). Listing K n (mark K v) m) (sym (zeros-mark K n v) ∙ full) (listing K n (mark K v))
 
         x₁ : ℕ → F
         x₁ i = x (M .place i)
@@ -191,7 +93,7 @@ module _ {F : Type 0} (K : Field F) where
         unfolding x₁ v
         parts =
             split K s k c l (S .gen) x₁ (λ i h. x-nz (M .place i) (M .inside i h))
-            (λ i j h h′. x-d (M .place i) (M .place j) (M .in-order i j h h′) (M .inside j h′)) (λ i h. zero-mark v (M .place i) (M .wrong i h))
+            (λ i j h h′. x-d (M .place i) (M .place j) (M .in-order i j h h′) (M .inside j h′)) (λ i h. zero-mark K v (M .place i) (M .wrong i h))
 
         z : ℕ → F
         z i = parts .0 i ⊠ K .inv (pow R₃ (x₁ i) b)
@@ -205,9 +107,9 @@ module _ {F : Type 0} (K : Field F) where
         error : ℕ → F
         error = spread 𝟘 (M .place) z l
 
-        error-off : (p : ℕ) → p < n → mark v p ≡ 𝟘 → error p ≡ 𝟘
+        error-off : (p : ℕ) → p < n → mark K v p ≡ 𝟘 → error p ≡ 𝟘
         unfolding error
-        error-off p h e = spread-off 𝟘 (M .place) z l p (λ i a q. M .wrong i a (ap (mark v) q ∙ e))
+        error-off p h e = spread-off 𝟘 (M .place) z l p (λ i a q. M .wrong i a (ap (mark K v) q ∙ e))
 
         error-at : (i : ℕ) → i < l → error (M .place i) ≡ z i
         unfolding error
@@ -220,16 +122,16 @@ module _ {F : Type 0} (K : Field F) where
             ∙ sum-ext R₃ l _ _ (λ i a. ap (λ w. w ⊠ pow R₃ (x₁ i) j) (sym (z-law i a) ∙ ap (λ w. w ⊠ pow R₃ (x₁ i) b) (sym (error-at i a))) ∙ sym (shift K (error (M .place i)) (x₁ i) b j))
             ∙ sym (M .sums (λ p. error p ⊠ pow R₃ (x p) (b + j)) (λ p a e. ap (λ w. w ⊠ pow R₃ (x p) (b + j)) (error-off p a e) ∙ zero-⊠ R₃ _))
 
-        only-roots : (p : ℕ) → p < n → error p ≢ 𝟘 → mark v p ≢ 𝟘
+        only-roots : (p : ℕ) → p < n → error p ≢ 𝟘 → mark K v p ≢ 𝟘
         only-roots p h ne e = ne (error-off p h e)
 
         -- with fewer errors than roots the register would not be a shortest one
         all-roots : (p : ℕ) → p < n → v p ≡ 𝟘 → error p ≢ 𝟘
         unfolding v
         all-roots p h r e =
-            let a = weight-strict K n error (mark v) only-roots p h e (mark-zero v p r) in
-            let b = no-longer K n x x-nz b k error s error-syndromes c l S in
-            omega (arith, zeros-mark n v, full)
+            let a = weight-strict K n error (mark K v) only-roots p h e (mark-zero K v p r) in
+            let a′ = no-longer K n x x-nz b k error s error-syndromes c l S in
+            omega (arith, zeros-mark K n v, full)
 
         pub corrected : (ε : ℕ → F) × Found n x b k s c l ε
         unfolding v
@@ -237,18 +139,31 @@ module _ {F : Type 0} (K : Field F) where
           error,
           record {
             syndromes = error-syndromes;
-            count = sym (zeros-weight n v error (λ p h ne. zero-mark v p (only-roots p h ne)) all-roots) ∙ full;
-            wrong = λ p h ne. zero-mark v p (only-roots p h ne);
+            count = sym (zeros-weight K n v error (λ p h ne. zero-mark K v p (only-roots p h ne)) all-roots) ∙ full;
+            wrong = λ p h ne. zero-mark K v p (only-roots p h ne);
             right = all-roots;
           },
         )
 
     -- l roots, listed in order, are all that there are
     pub all-listed : (c : ℕ → F) (l : ℕ) → c 0 ≡ 𝟙 → (place : ℕ → ℕ) → ((i j : ℕ) → i < j → j < l → place i < place j)
-        → ((i : ℕ) → i < l → place i < n) → ((i : ℕ) → i < l → chien K c l x (place i) ≡ 𝟘) → zeros n (chien K c l x) ≡ l
-    all-listed c l head place order inside root = omega (arith, roots-fit c l head, zeros-listed n (chien K c l x) place l order inside root)
+        → ((i : ℕ) → i < l → place i < n) → ((i : ℕ) → i < l → chien K c l x (place i) ≡ 𝟘) → zeros K n (chien K c l x) ≡ l
+    all-listed c l head place order inside root = omega (arith, roots-fit c l head, zeros-listed K n (chien K c l x) place l order inside root)
 
-    -- ---- the binary case: S_2i = S_i² for i = 1 .. t, S_1 being s_0, and at most t errors: each is 1
+    -- ---- a binary word's syndromes from the first power on: S_2i = S_i², S_1 being s_0
+    pub binary-squares : (k : ℕ) (ε s : ℕ → F) → Syndromes K n x 1 k ε s → ((p : ℕ) → p < n → (ε p ≡ 𝟘) ⊎ (ε p ≡ 𝟙))
+        → (i : ℕ) → suc (i + i) < k → s (suc (i + i)) ≡ s i ⊠ s i
+    binary-squares k ε s s-is bin i h =
+        let e : 1 + suc (i + i) ≡ 2 * (1 + i) = omega arith in
+        s-is (suc (i + i)) h
+        ∙ sum-ext R₃ n _ _ (λ p a. ap₂ _⊠_ (sym (own-square (bin p a))) (double (x p) _ i e) ∙ sym (square-term (ε p) (x p) i))
+        ∙ sym (sum-square R₃ n (λ p. ε p ⊠ pow R₃ (x p) (1 + i))) ∙ ap (λ w. w ⊠ w) (sym (s-is i (omega arith)))
+      where
+        own-square : {a : F} → (a ≡ 𝟘) ⊎ (a ≡ 𝟙) → a ⊠ a ≡ a
+        own-square {a} (inl z) = ap (λ w. w ⊠ a) z ∙ zero-⊠ R₃ a ∙ sym z
+        own-square {a} (inr u) = ap (λ w. w ⊠ a) u ∙ one-⊠ R₃ a
+
+    -- ---- and back: if S_2i = S_i² for i = 1 .. t, at most t errors with these syndromes are all 1
     pub binary : (k t : ℕ) (ε s : ℕ → F) → Syndromes K n x 1 k ε s → t + t ≤ k → weight K n ε ≤ t
         → ((i : ℕ) → i < t → s (suc (i + i)) ≡ s i ⊠ s i) → (p : ℕ) → p < n → (ε p ≡ 𝟘) ⊎ (ε p ≡ 𝟙)
     binary k t ε s s-is enough light squares p h = idempotent K (ε p) (⊞-cancel R₃ _ _ (none p h))
@@ -263,14 +178,6 @@ module _ {F : Type 0} (K : Field F) where
         η-light =
             let a = weight-mono K n η ε (λ p _ ne z. ne (ap₂ _⊞_ (ap (λ w. w ⊠ ε p) z ∙ zero-⊠ R₃ (ε p)) z ∙ ⊞-zero 𝟘)) in
             omega arith
-
-        double : (u : F) (m i : ℕ) → m ≡ 2 * (1 + i) → pow R₃ u m ≡ pow R₃ (u ⊠ u) (1 + i)
-        double u m i e = ap (pow R₃ u) e ∙ sym (square-pow R₃ u (1 + i))
-
-        square-term : (a u : F) (i : ℕ) → a ⊠ pow R₃ u (1 + i) ⊠ (a ⊠ pow R₃ u (1 + i)) ≡ a ⊠ a ⊠ pow R₃ (u ⊠ u) (1 + i)
-        square-term a u i =
-            let e : (1 + i) + (1 + i) ≡ 2 * (1 + i) = omega arith in
-            ⊠-swap R₃ a _ a _ ∙ ap (λ w. a ⊠ a ⊠ w) (sym (pow-add R₃ u (1 + i) (1 + i)) ∙ double u _ i e)
 
         zero-at : (i : ℕ) → i < t → sum R₃ n (λ p. η p ⊠ pow R₃ (X p) (1 + i)) ≡ 𝟘
         zero-at i a =
@@ -291,16 +198,16 @@ module _ {F : Type 0} (K : Field F) where
     -- ---- corrected exactly when: the shortest register of at least 2 t syndromes is at most t long and all its roots are places,
     -- if and only if an error of weight at most t has these syndromes
     module _ (k t : ℕ) (s c : ℕ → F) (l : ℕ) (S : Shortest R₃ s k c l) (enough : t + t ≤ k) where
-      pub corrects-exactly : (b : ℕ) → ((l ≤ t) × (zeros n (chien K c l x) ≡ l)) ↔ ((ε : ℕ → F) × Syndromes K n x b k ε s × (weight K n ε ≤ t))
+      pub corrects-exactly : (b : ℕ) → ((l ≤ t) × (zeros K n (chien K c l x) ≡ l)) ↔ ((ε : ℕ → F) × Syndromes K n x b k ε s × (weight K n ε ≤ t))
       corrects-exactly b = (there, back)
         where
-          there : (l ≤ t) × (zeros n (chien K c l x) ≡ l) → (ε : ℕ → F) × Syndromes K n x b k ε s × (weight K n ε ≤ t)
+          there : (l ≤ t) × (zeros K n (chien K c l x) ≡ l) → (ε : ℕ → F) × Syndromes K n x b k ε s × (weight K n ε ≤ t)
           there h =
               let r = corrected b k s c l S (h .1) in
               let a : l ≤ t = h .0 in
               (r .0, r .1 .syndromes, omega (arith, a, r .1 .count))
 
-          back : (ε : ℕ → F) × Syndromes K n x b k ε s × (weight K n ε ≤ t) → (l ≤ t) × (zeros n (chien K c l x) ≡ l)
+          back : (ε : ℕ → F) × Syndromes K n x b k ε s × (weight K n ε ≤ t) → (l ≤ t) × (zeros K n (chien K c l x) ≡ l)
           back r =
               let a : weight K n (r .0) ≤ t = r .2 in
               let f = found b k s c l S (r .0) (r .1) (omega arith) in
@@ -308,7 +215,7 @@ module _ {F : Type 0} (K : Field F) where
 
       -- and the error is binary, if the syndromes are those of a binary word
       pub corrects-binary : ((i : ℕ) → i < t → s (suc (i + i)) ≡ s i ⊠ s i)
-          → ((l ≤ t) × (zeros n (chien K c l x) ≡ l))
+          → ((l ≤ t) × (zeros K n (chien K c l x) ≡ l))
           ↔ ((ε : ℕ → F) × Syndromes K n x 1 k ε s × (weight K n ε ≤ t) × ((p : ℕ) → p < n → (ε p ≡ 𝟘) ⊎ (ε p ≡ 𝟙)))
       corrects-binary squares = (
         λ h.

@@ -62,6 +62,12 @@ module _ {F : Type 0} (K : Field F) where
       pick r (no nz) (yes z) = absurd (h n (le-refl (suc n)) nz z)
       pick r (no nz) (no nz′) = omega (arith, r, weight-more n ε nz, weight-more n η nz′)
 
+  pub weight-ext : (n : ℕ) (ε η : ℕ → F) → ((p : ℕ) → p < n → ε p ≡ η p) → weight n ε ≡ weight n η
+  weight-ext n ε η e =
+      let a = weight-mono n ε η (λ p h ne z. ne (e p h ∙ z)) in
+      let b = weight-mono n η ε (λ p h ne z. ne (sym (e p h) ∙ z)) in
+      omega arith
+
   pub weight-strict : (n : ℕ) (ε η : ℕ → F) → ((p : ℕ) → p < n → ε p ≢ 𝟘 → η p ≢ 𝟘)
       → (q : ℕ) → q < n → ε q ≡ 𝟘 → η q ≢ 𝟘 → weight n ε < weight n η
   weight-strict zero ε η h q a z nz = absurd (not-suc-le-zero a)
@@ -205,6 +211,13 @@ module _ {F : Type 0} (K : Field F) where
       eval-sums R₂ n ε (pow R₂ α (b + j))
       ∙ sum-ext R₂ n _ _ (λ p _. ap (λ w. ε p ⊠ w) (sym (pow-mul R₂ α (b + j) p) ∙ ap (pow R₂ α) (mul-comm (b + j) p) ∙ pow-mul R₂ α p (b + j)))
 
+  pub syndromes-add : (n : ℕ) (x : ℕ → F) (b k : ℕ) (ε η s u : ℕ → F) → Syndromes n x b k ε s → Syndromes n x b k η u
+      → Syndromes n x b k (λ p. ε p ⊞ η p) (λ j. s j ⊞ u j)
+  syndromes-add n x b k ε η s u s-is u-is j h =
+      ap₂ _⊞_ (s-is j h) (u-is j h)
+      ∙ sym (sum-add R₂ n (λ p. ε p ⊠ pow R₂ (x p) (b + j)) (λ p. η p ⊠ pow R₂ (x p) (b + j)))
+      ∙ sum-ext R₂ n _ _ (λ p _. sym (dist-⊠ R₂ (ε p) (η p) (pow R₂ (x p) (b + j))))
+
   -- the register's polynomial at the inverse of X_p: what a Chien search looks for zeros of
   abbrev pub chien : (ℕ → F) → ℕ → (ℕ → F) → ℕ → F
   chien c l x p = eval R₂ (suc l) c (K .inv (x p))
@@ -258,7 +271,7 @@ module _ {F : Type 0} (K : Field F) where
 
       enough₀ : e + e ≤ k
       unfolding e
-      enough₀ = enough
+      enough₀ = omega (arith, enough)
 
       fits : l ≤ e
       unfolding e
@@ -318,10 +331,6 @@ module _ {F : Type 0} (K : Field F) where
   pub only-error : (n : ℕ) (x : ℕ → F) → ((p : ℕ) → p < n → x p ≢ 𝟘) → Distinct n x → (b k : ℕ) (ε η s : ℕ → F)
       → Syndromes n x b k ε s → Syndromes n x b k η s → weight n ε + weight n η ≤ k → (p : ℕ) → p < n → ε p ≡ η p
   only-error n x x-nz x-d b k ε η s se sη light p h =
-      ⊞-cancel R₂ (ε p) (η p) (min-distance n x x-nz x-d b k (λ p. ε p ⊞ η p) (omega (arith, weight-add n ε η)) zeros p h)
-    where
-      zeros : (j : ℕ) → j < k → sum R₂ n (λ p. (ε p ⊞ η p) ⊠ pow R₂ (x p) (b + j)) ≡ 𝟘
-      zeros j a =
-          sum-ext R₂ n _ _ (λ p _. dist-⊠ R₂ (ε p) (η p) (pow R₂ (x p) (b + j)))
-          ∙ sum-add R₂ n (λ p. ε p ⊠ pow R₂ (x p) (b + j)) (λ p. η p ⊠ pow R₂ (x p) (b + j))
-          ∙ ap₂ _⊞_ (sym (se j a)) (sym (sη j a)) ∙ ⊞-self (s j)
+      ⊞-cancel R₂ (ε p) (η p)
+      (min-distance n x x-nz x-d b k (λ p. ε p ⊞ η p) (omega (arith, weight-add n ε η))
+      (λ j a. sym (syndromes-add n x b k ε η s s se sη j a) ∙ ⊞-self (s j)) p h)

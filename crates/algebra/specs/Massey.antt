@@ -1,11 +1,11 @@
 -- Shift registers that generate a sequence; Massey's bound; Berlekamp-Massey finds a shortest one.
-use mathlib.Core.Path.{_≡_, refl, sym, ap, ap₂, _∙_, subst, fun-ext, transport}
-use mathlib.Core.Logic.{_≢_, _⊎_, inl, inr}
+use mathlib.Core.Path.{_≡_, refl, sym, ap, ap₂, _∙_, transport}
+use mathlib.Core.Logic.{_≢_}
 use Prim.Native.Nat.{ℕ, zero, suc, _+_, _-_, _≤_, _<_}
 use native.Mathlib.Nat.{not-suc-le-zero, le-of-suc-le-suc, le-suc, le-refl}
 use native.Mathlib.Decide.{ℕ-discrete, decLe}
 use native.Mathlib.Omega.{arith}
-use Rattle.algebra.specs.Ring.{Ring, Field, ⊞-lc, ⊠-lc, zero-⊞, one-⊠, dist-⊠, ⊠-zero, zero-⊠, ⊞-self-l, ⊞-swap, ⊠-swap, ⊞-cancel}
+use Rattle.algebra.specs.Ring.{Ring, Field, one-⊠, ⊠-zero, zero-⊠}
 use Rattle.algebra.specs.Series.{conv, up, conv-ext, conv-vanish, conv-head, conv-add-l, conv-mul-l, conv-up-l, conv-lc, sum, conv-sum, sum-more}
 
 -- times x ^ m
