@@ -113,7 +113,7 @@ pub record Listed (c : ℕ → El 15) (l n : ℕ) (at : ℕ → ℕ) (k : ℕ) :
   pub all : (p : ℕ) → p < n → valueAt c l p ≡ R16 .𝟘 → (i : ℕ) × (i < k) × (at i ≡ p)
 
 pub flipAll-flipped : (c : ℕ → El 15) (l : ℕ) (w : List ℕ) (at : ℕ → ℕ) (k : ℕ) → Listed c l (length w) at k → flipAll w at k ≡ flipped c l w
-flipAll-flipped c l w at k L = ext-getD (flipAll w at k) (flipped c l w) 0 (flipAll-length w at k ∙ sym (flipped-length c l w)) (λ j h. by j (omega (arith, flipAll-length w at k)))
+flipAll-flipped c l w at k L = ext-getD 0 (flipAll w at k) (flipped c l w) (flipAll-length w at k ∙ sym (flipped-length c l w)) (λ j h. by j (omega (arith, flipAll-length w at k)))
   where
     here : (p : ℕ) → p < length w → Dec (valueAt c l p ≡ R16 .𝟘) → getD (flipAll w at k) (indexOf (length w) p) 0 ≡ getD (flipped c l w) (indexOf (length w) p) 0
     here p h (yes z) =
