@@ -4,16 +4,15 @@
 -- Assumes nothing.
 use mathlib.Core.Path.{_≡_, refl, sym, ap, ap₂, _∙_, subst}
 use mathlib.Core.List.{List, [], _∷_, _++_, map}
-use Prim.Native.Nat.{ℕ, zero, suc, _+_, _-_, _*_, _/_, _%_, _^_, _≤_, _<_}
-use native.Mathlib.Nat.{not-suc-le-zero, le-of-suc-le-suc, le-of-lt, lt-of-lt-of-le, lt-of-not-le, le-refl, add-comm, suc-mul, suc-add, zero-mul, one-mul, pow-suc, mul-assoc, mul-comm, mul-one, mul-div-cancel, mul-mod-left, two-pow-succ}
+use Prim.Native.Nat.{ℕ, zero, suc, _+_, _-_, _*_, _^_, _≤_, _<_}
+use native.Mathlib.Nat.{not-suc-le-zero, le-of-suc-le-suc, le-of-lt, lt-of-lt-of-le, lt-of-not-le, le-refl, add-comm, zero-mul, one-mul, pow-suc, mul-div-cancel, mul-mod-left, two-pow-succ}
 use native.Mathlib.Decide.{decLe}
 use native.Mathlib.Omega.{arith}
 use lib.Arith.{lt-one}
-use lib.Dec.{lit<}
 use lib.ListN.{length, getD, length-append, length-map, List·getD-append}
 use lib.Seq.{getD-append-add}
 use lib.Pow.{pow-mono, pow-lt, shl-lt}
-use Rattle.laws.specs.Xor.{_⊕_, ⊕-comm, two-pos}
+use Rattle.laws.specs.Xor.{_⊕_, two-pos}
 use Rattle.laws.specs.Poly.{rem, into, shifted, rem-zero, rem-add, rem-digits, ⊕-join, ⊕-shift}
 use Rattle.bch_table.specs.Generator.{generator, generator-is}
 use Rattle.bch_table.specs.Table.{timesPower, wordOf}

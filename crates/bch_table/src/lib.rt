@@ -1,8 +1,75 @@
-// The 256 registers of three u64 that divide a byte at a time.
+// The generator of the BCH code from Table 3.4-1, and the 256 registers of three u64 that divide by it a byte at a time.
 ghost use mathlib.Core.Path.{_≡_};
-ghost use Prim.Native.Nat.{_+_, _*_, _<_};
+ghost use Prim.Native.Nat.{_*_, _<_};
+ghost use lib.ListN.{length};
+ghost use Rattle.laws.specs.Xor.{_⊕_};
+ghost use Rattle.laws.specs.Poly.{clmul};
+ghost use Rattle.bch_table.specs.Generator.{generator, digitsOf, polyOf};
 ghost use Rattle.bch_table.specs.Table.{wordOf, timesPower};
 ghost use Rattle.bch_table.specs.Step.{valueOf, stepOf};
+
+// Table 3.4-1: the twelve polynomials, bit e of an entry set where x^e occurs.
+pub const TABLE_3_4_1: [u32; 12] = [
+    0x1100b,
+    0x11b1d,
+    0x12e8d,
+    0x138cb,
+    0x12baf,
+    0x136c3,
+    0x18e47,
+    0x1934b,
+    0x1bd53,
+    0x18f57,
+    0x1e741,
+    0x18cef,
+];
+
+// One digit more of a product: x times a, and g with it if the digit is 1.
+fn next_digit(a: [u8; 193], g: [u8; 193], digit: u8) -> [u8; 193]
+    requires { ⌜ (length a ≡ 193) × (length g ≡ 193) × (digit < 2) ⌝ }
+    ensures { λ r. ⌜ r ≡ digitsOf 193 ((digit * polyOf g) ⊕ (polyOf a * 2)) ⌝ }
+{
+    let mut out = [0u8; 193];
+    let mut below: u8 = 0;
+    let mut i: usize = 0;
+    while i < 193 {
+        out[i] = (digit & g[i]) ^ below;
+        below = a[i] & 1;
+        i += 1;
+    }
+    out
+}
+
+// The product of g and the polynomial of a mask, highest power of the mask first.
+fn times(g: [u8; 193], mask: u32) -> [u8; 193]
+    requires { ⌜ length g ≡ 193 ⌝ }
+    ensures { λ r. ⌜ r ≡ digitsOf 193 (clmul 17 mask (polyOf g)) ⌝ }
+{
+    let mut out = [0u8; 193];
+    let mut j: u32 = 17;
+    while 0 < j {
+        j -= 1;
+        let digit = ((mask >> j) & 1) as u8;
+        let next = next_digit(out, g, digit);
+        out = next;
+    }
+    out
+}
+
+// The coefficients of the generator, the lowest power first: the twelve polynomials multiplied out.
+pub fn generator() -> [u8; 193]
+    ensures { λ r. ⌜ r ≡ digitsOf 193 generator ⌝ }
+{
+    let mut g = [0u8; 193];
+    g[0] = 1;
+    let mut i: usize = 12;
+    while 0 < i {
+        i -= 1;
+        let next = times(g, TABLE_3_4_1[i]);
+        g = next;
+    }
+    g
+}
 
 const TABLE: [u64; 768] = [
     0x0000000000000000,

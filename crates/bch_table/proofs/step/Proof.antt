@@ -1,7 +1,6 @@
 -- `bch_table::step` meets its contract: the three words, shifted and xored, are one number's.
 -- Assumes nothing.
-use Prim.Native.Nat.{ℕ, _<_, _/_, _^_}
-use native.Mathlib.Omega.{arith}
+use Prim.Native.Nat.{_<_, _/_, _^_}
 use lib.Dec.{lit<}
 use lib.Bits.{bitXor, xor-lt}
 use Rattle.bch_table.proofs.Shift.{stepped, top-lt}
@@ -10,9 +9,6 @@ use Rattle.bch_table.proofs.Reg as T
 use Rattle.bch_table.proofs.Reg.Laws as T′
 use Rattle.bch_table.proofs.step.Statement.{statement}
 use Rattle.bch_table.proofs.step.Tie as tie
-use Rattle.bch_table.proofs.step.Reads as reads
-use Rattle.bch_table.proofs.step.Lts as lts
-use Rattle.bch_table.proofs.word_at.Reads as word-at-reads
 
 -- the words of the register that is passed fit
 fit : (c : tie.Start) → (c .args .r .hi < 2 ^ 64) × (c .args .r .mid < 2 ^ 64) × (c .args .r .lo < 2 ^ 64)
