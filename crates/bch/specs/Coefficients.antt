@@ -10,7 +10,8 @@ use lib.Arith.{digits-div, digits-mod}
 use Rattle.laws.specs.Xor.{two-cases, two-pos}
 use Rattle.algebra.specs.Values.{bit, coeff}
 use Rattle.gf16.specs.Alpha.{R16}
-use Rattle.bch.specs.Stand.{number, number-cons, number-lt}
+use Rattle.bch_remainder.specs.Word.{number}
+use Rattle.bch_remainder.specs.Laws.{number-one-more, number-lt}
 
 top-digit : (d n x : ℕ) → d < 2 → x < 2 ^ n → (d * 2 ^ n + x) / 2 ^ n % 2 ≡ d
 top-digit d n x hd hx = ap (λ (z : ℕ). z % 2) (digits-div d hx) ∙ mod-eq-of-lt hd
@@ -27,9 +28,9 @@ low-digit d n p x h =
 pub coeff-top : (b : ℕ) (w : List ℕ) → coeff R16 (number (b ∷ w)) (length w) ≡ bit R16 (b % 2)
 unfolding coeff
 coeff-top b w =
-    ap (λ (z : ℕ). bit R16 (z / 2 ^ length w % 2)) (number-cons b w) ∙ ap (bit R16) (top-digit (b % 2) (length w) (number w) (mod-lt b two-pos) (number-lt w))
+    ap (λ (z : ℕ). bit R16 (z / 2 ^ length w % 2)) (number-one-more b w) ∙ ap (bit R16) (top-digit (b % 2) (length w) (number w) (mod-lt b two-pos) (number-lt w))
 
 pub coeff-low : (b : ℕ) (w : List ℕ) (p : ℕ) → p < length w → coeff R16 (number (b ∷ w)) p ≡ coeff R16 (number w) p
 unfolding coeff
 coeff-low b w p h =
-    ap (λ (z : ℕ). bit R16 (z / 2 ^ p % 2)) (number-cons b w) ∙ ap (bit R16) (low-digit (b % 2) (length w) p (number w) h)
+    ap (λ (z : ℕ). bit R16 (z / 2 ^ p % 2)) (number-one-more b w) ∙ ap (bit R16) (low-digit (b % 2) (length w) p (number w) h)

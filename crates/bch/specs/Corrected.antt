@@ -16,8 +16,11 @@ use Rattle.algebra.specs.GfField.{El}
 use Rattle.gf16.specs.Field16.{gf16}
 use Rattle.gf16.specs.Alpha.{R16, α, α-nz, α-distinct}
 use Rattle.gf16.specs.Roots16.{vanishing-multiple}
-use Rattle.bch.specs.Stand.{number, number-lt, remainderOf}
-use Rattle.bch.specs.Codeword.{Codeword, distance, zero-codeword}
+use Rattle.bch_remainder.specs.Word.{number, remainderOf}
+use Rattle.bch_remainder.specs.Laws.{number-lt}
+use Rattle.bch_remainder.specs.Word.{Codeword}
+use Rattle.bch_remainder.specs.Laws.{remainder-codeword}
+use Rattle.bch.specs.Distance.{distance}
 use Rattle.bch.specs.Decode.{syndrome, valueAt, flipped, flips}
 use Rattle.bch.specs.Difference.{difference, weight-distance, weight-ext, syndrome-add}
 use Rattle.bch.specs.Flips.{flipped-length, flipped-hit, flipped-miss}
@@ -31,7 +34,7 @@ squares w i =
 
 zero-syndromes-codeword : (w : List ℕ) → ((j : ℕ) → j < 24 → syndrome w j ≡ R16 .𝟘) → Codeword w
 unfolding syndrome remainderOf
-zero-syndromes-codeword w z = zero-codeword w (vanishing-multiple (length w) (number w) (number-lt w) z)
+zero-syndromes-codeword w z = remainder-codeword w (vanishing-multiple (length w) (number w) (number-lt w) z)
 
 module _ (w : List ℕ) (size : length w ≤ 65535) (c : ℕ → El 15) (l : ℕ) (S : Shortest R16 (syndrome w) 24 c l) (short : l ≤ 12)
     (full : flips c l (length w) ≡ l) where

@@ -13,11 +13,11 @@ use Rattle.algebra.specs.Series.{pow, eval}
 use Rattle.algebra.specs.Values.{ev}
 use Rattle.algebra.specs.Massey.{Shortest, shortest-exists}
 use Rattle.algebra.specs.Unique.{same-length, only-register}
-use Rattle.algebra.specs.Corrects.{zeros}
+use Rattle.algebra.specs.Places.{zeros}
 use Rattle.algebra.specs.GfField.{El}
 use Rattle.gf16.specs.Field16.{gf16}
 use Rattle.gf16.specs.Alpha.{R16, α}
-use Rattle.bch.specs.Stand.{number, remainderOf}
+use Rattle.bch_remainder.specs.Word.{number, remainderOf}
 use Rattle.bch.specs.declared.Decoded.{Decoded}
 use Rattle.bch.specs.declared.Decoded.the-variants.{Corrected, Uncorrectable, Refused}
 

@@ -11,15 +11,17 @@ use Rattle.laws.specs.Xor.{_⊕_, two-cases, two-pos}
 use Rattle.algebra.specs.Ring.{Ring, Field, zero-⊞, dist-⊠}
 use Rattle.algebra.specs.Series.{sum, sum-ext, sum-add, pow, eval}
 use Rattle.algebra.specs.Power.{pow-mul}
-use Rattle.algebra.specs.Values.{ev, bit, coeff, ev-eval}
+use Rattle.algebra.specs.Values.{ev, ev-zero, bit, coeff, ev-eval}
 use Rattle.algebra.specs.Locator.{eval-add, eval-sums}
 use Rattle.algebra.specs.Errors.{weight, weight-none, weight-same, weight-more, weight-mono}
 use Rattle.algebra.specs.GfField.{El}
 use Rattle.gf16.specs.Field16.{gf16}
 use Rattle.gf16.specs.Alpha.{R16, α}
-use Rattle.bch.specs.Stand.{number, number-lt}
-use Rattle.gf16.specs.Roots16.{multiple-vanishes}
-use Rattle.bch.specs.Codeword.{Codeword, distance}
+use Rattle.bch_remainder.specs.Word.{number, remainderOf}
+use Rattle.bch_remainder.specs.Laws.{number-lt, codeword-remainder}
+use Rattle.gf16.specs.Roots16.{by-remainder}
+use Rattle.bch_remainder.specs.Word.{Codeword}
+use Rattle.bch.specs.Distance.{distance}
 use Rattle.bch.specs.Coefficients.{coeff-top, coeff-low}
 use Rattle.bch.specs.Decode.{syndrome}
 
@@ -63,14 +65,13 @@ weight-distance (a ∷ w) (b ∷ v) e = pick (ℕ-discrete (a % 2) (b % 2)) (wei
 
     pick : Dec (a % 2 ≡ b % 2) → weight gf16 (length w) (difference w v) ≡ distance w v → weight gf16 (suc (length w)) (difference (a ∷ w) (b ∷ v)) ≡ (a + b) % 2 + distance w v
     pick (yes q) i =
-        let z : (a + b) % 2 ≡ 0 = omega arith in
+        let s : distance w v ≡ (a + b) % 2 + distance w v = omega arith in
         weight-same gf16 (length w) _ (difference-top a b w v same ∙ bits-same (a % 2) (b % 2) (mod-lt a two-pos) (mod-lt b two-pos) q)
-        ∙ weight-ext (length w) _ _ (difference-low a b w v same) ∙ i ∙ ap (λ (k : ℕ). k + distance w v) (sym z)
+        ∙ weight-ext (length w) _ _ (difference-low a b w v same) ∙ i ∙ s
     pick (no q) i =
-        let z : (a + b) % 2 ≡ 1 = omega arith in
-        let s : suc (distance w v) ≡ 1 + distance w v = omega arith in
+        let s : suc (distance w v) ≡ (a + b) % 2 + distance w v = omega arith in
         weight-more gf16 (length w) _ (λ f. bits-other (a % 2) (b % 2) (mod-lt a two-pos) (mod-lt b two-pos) q (sym (difference-top a b w v same) ∙ f))
-        ∙ ap suc (weight-ext (length w) _ _ (difference-low a b w v same) ∙ i) ∙ s ∙ ap (λ (k : ℕ). k + distance w v) (sym z)
+        ∙ ap suc (weight-ext (length w) _ _ (difference-low a b w v same) ∙ i) ∙ s
 
 -- ---- syndromes
 pub syndrome-sum : (w : List ℕ) (j : ℕ) → syndrome w j ≡ sum R16 (length w) (λ p. R16 ._⊠_ (coeff R16 (number w) p) (pow R16 (pow R16 α p) (1 + j)))
@@ -85,8 +86,9 @@ syndrome-sum w j =
         sym (pow-mul R16 α (j + 1) p) ∙ ap (pow R16 α) e ∙ pow-mul R16 α p (1 + j)
 
 pub codeword-syndrome : (v : List ℕ) (j : ℕ) → Codeword v → j < 24 → syndrome v j ≡ R16 .𝟘
-unfolding syndrome Codeword
-codeword-syndrome v j c h = multiple-vanishes (length v) (c .0) (number v) (number-lt v) (c .1) j h
+unfolding syndrome remainderOf
+codeword-syndrome v j c h =
+    by-remainder (length v) (number v) j (number-lt v) h ∙ ap (λ (r : ℕ). ev R16 192 r (pow R16 α (j + 1))) (codeword-remainder v c) ∙ ev-zero R16 192 _
 
 -- the syndromes of two words of one length, added, are the sums over their difference
 pub syndrome-add : (w v : List ℕ) (j : ℕ) → length v ≡ length w

@@ -12,8 +12,10 @@ use Rattle.algebra.specs.Errors.{weight, weight-none, weight-same, weight-mono,
 use Rattle.algebra.specs.GfField.{El}
 use Rattle.gf16.specs.Field16.{gf16}
 use Rattle.gf16.specs.Alpha.{R16, α, α-nz, α-distinct}
-use Rattle.bch.specs.Stand.{remainderOf}
-use Rattle.bch.specs.Codeword.{Codeword, distance, bitsOf, restOf, zero-codeword, codeword-zero}
+use Rattle.bch_remainder.specs.Word.{remainderOf}
+use Rattle.bch_remainder.specs.Word.{Codeword}
+use Rattle.bch_remainder.specs.Laws.{remainder-codeword, codeword-remainder}
+use Rattle.bch.specs.Distance.{distance, lowBits, highBits}
 use Rattle.bch.specs.Decode.{syndrome, flipped, flips, answerBy, leftBy, register, answerOf, leftOf}
 use Rattle.bch.specs.Difference.{difference, weight-distance, syndrome-difference, codeword-syndrome}
 use Rattle.bch.specs.Flips.{flipped-length, flipped-rest}
@@ -33,12 +35,12 @@ pub record Exact (w w′ : List ℕ) (r : Decoded) : Type 0 where
   -- corrected exactly when some codeword of that length differs from the word in at most 12 positions;
   pub exactly : ((k : ℕ) × (r ≡ Corrected k)) ↔ ((v : List ℕ) × Near w v)
   -- and then the word has exactly that codeword's bits, and the count is the number of positions changed,
-  pub to-it : (v : List ℕ) → Near w v → (bitsOf w′ ≡ bitsOf v) × (r ≡ Corrected (distance w v))
+  pub to-it : (v : List ℕ) → Near w v → (lowBits w′ ≡ lowBits v) × (r ≡ Corrected (distance w v))
   pub count : (k : ℕ) → r ≡ Corrected k → Near w w′ × (distance w w′ ≡ k)
   -- and that codeword is the only one within 12;
-  pub only : (u v : List ℕ) → Near w u → Near w v → bitsOf u ≡ bitsOf v
+  pub only : (u v : List ℕ) → Near w u → Near w v → lowBits u ≡ lowBits v
   -- the other bits of its bytes are as they were
-  pub rest : restOf w′ ≡ restOf w
+  pub rest : highBits w′ ≡ highBits w
 
 distance-self : (w : List ℕ) → distance w w ≡ 0
 unfolding distance
@@ -61,7 +63,7 @@ module _ (w : List ℕ) (size : length w ≤ 65535) where
   near-answer : (v : List ℕ) → Near w v → answerBy c l w ≡ Corrected (distance w v)
   near-answer v N = within-answer w v size (N .same-length) (N .codeword) (N .within) c l S
 
-  near-bits : (v : List ℕ) → Near w v → bitsOf (leftBy c l w) ≡ bitsOf v
+  near-bits : (v : List ℕ) → Near w v → lowBits (leftBy c l w) ≡ lowBits v
   near-bits v N = within-bits w v size (N .same-length) (N .codeword) (N .within) c l S
 
   itself : Codeword w → Near w w
@@ -73,22 +75,22 @@ module _ (w : List ℕ) (size : length w ≤ 65535) where
   by-register = pick (ℕ-discrete (remainderOf w) 0)
     where
       pick : (d : Dec (remainderOf w ≡ 0)) → ite d (Corrected 0) (answerBy c l w) ≡ answerBy c l w
-      pick (yes z) = ap Corrected (sym (distance-self w)) ∙ sym (near-answer w (itself (zero-codeword w z)))
+      pick (yes z) = ap Corrected (sym (distance-self w)) ∙ sym (near-answer w (itself (remainder-codeword w z)))
       pick (no z) = refl
 
-  bits-by-register : bitsOf (leftOf w) ≡ bitsOf (leftBy c l w)
+  bits-by-register : lowBits (leftOf w) ≡ lowBits (leftBy c l w)
   unfolding leftOf c l
   bits-by-register = pick (ℕ-discrete (remainderOf w) 0)
     where
-      pick : (d : Dec (remainderOf w ≡ 0)) → bitsOf (ite d w (leftBy c l w)) ≡ bitsOf (leftBy c l w)
-      pick (yes z) = sym (near-bits w (itself (zero-codeword w z)))
+      pick : (d : Dec (remainderOf w ≡ 0)) → lowBits (ite d w (leftBy c l w)) ≡ lowBits (leftBy c l w)
+      pick (yes z) = sym (near-bits w (itself (remainder-codeword w z)))
       pick (no z) = refl
 
-  rest-by-register : restOf (leftOf w) ≡ restOf w
+  rest-by-register : highBits (leftOf w) ≡ highBits w
   unfolding leftOf leftBy c l
   rest-by-register = pick (ℕ-discrete (remainderOf w) 0) (decLe l 12)
     where
-      pick : (d : Dec (remainderOf w ≡ 0)) (e : Dec (l ≤ 12)) → restOf (ite d w (ite e (flipped c l w) w)) ≡ restOf w
+      pick : (d : Dec (remainderOf w ≡ 0)) (e : Dec (l ≤ 12)) → highBits (ite d w (ite e (flipped c l w) w)) ≡ highBits w
       pick (yes z) e = refl
       pick (no z) (yes e) = flipped-rest c l w
       pick (no z) (no e) = refl
@@ -101,7 +103,7 @@ module _ (w : List ℕ) (size : length w ≤ 65535) where
       pick : (d : Dec (remainderOf w ≡ 0)) (e : Dec (l ≤ 12)) (f : Dec (flips c l (length w) ≡ l))
           → ite d (Corrected 0) (ite e (ite f (Corrected l) Uncorrectable) Uncorrectable) ≡ Corrected k
           → Near w (ite d w (ite e (flipped c l w) w)) × (distance w (ite d w (ite e (flipped c l w) w)) ≡ k)
-      pick (yes z) e f q = let t : 0 ≡ k = cc in (itself (zero-codeword w z), distance-self w ∙ t)
+      pick (yes z) e f q = let t : 0 ≡ k = cc in (itself (remainder-codeword w z), distance-self w ∙ t)
       pick (no z) (yes e) (yes f) q =
           let t : l ≡ k = cc in
           let d = corrected-distance w size c l S e f in
@@ -121,14 +123,14 @@ module _ (w : List ℕ) (size : length w ≤ 65535) where
 
 -- ---- by themselves: every pattern of up to 12 errors on a codeword is corrected
 pub up-to-12 : (v w : List ℕ) → Codeword v → length v ≡ length w → length w ≤ 65535 → distance w v ≤ 12
-    → (answerOf w ≡ Corrected (distance w v)) × (bitsOf (leftOf w) ≡ bitsOf v)
+    → (answerOf w ≡ Corrected (distance w v)) × (lowBits (leftOf w) ≡ lowBits v)
 up-to-12 v w C e size near =
     let t = exact w size .to-it v (record { same-length = e; codeword = C; within = near }) in
     (t .1, t .0)
 
 -- the minimum distance is at least 25: two codewords of one length that differ in at most 24 positions have the same bits
-no-distance : (w v : List ℕ) → length v ≡ length w → distance w v ≡ 0 → bitsOf w ≡ bitsOf v
-unfolding distance bitsOf
+no-distance : (w v : List ℕ) → length v ≡ length w → distance w v ≡ 0 → lowBits w ≡ lowBits v
+unfolding distance lowBits
 no-distance [] [] e z = refl
 no-distance [] (b ∷ v) e z = absurd (omega arith)
 no-distance (a ∷ w) [] e z = absurd (omega arith)
@@ -141,7 +143,7 @@ weight-zero : (n : ℕ) → weight gf16 n (λ _. R16 .𝟘) ≡ 0
 weight-zero zero = weight-none gf16 (λ _. R16 .𝟘)
 weight-zero (suc n) = weight-same gf16 n (λ _. R16 .𝟘) refl ∙ weight-zero n
 
-pub minimum-distance : (u v : List ℕ) → Codeword u → Codeword v → length v ≡ length u → length u ≤ 65535 → distance u v ≤ 24 → bitsOf u ≡ bitsOf v
+pub minimum-distance : (u v : List ℕ) → Codeword u → Codeword v → length v ≡ length u → length u ≤ 65535 → distance u v ≤ 24 → lowBits u ≡ lowBits v
 minimum-distance u v C D e size near =
     no-distance u v e
     (sym (weight-distance u v e) ∙ none)

@@ -13,7 +13,7 @@ use Rattle.algebra.specs.Values.{bit}
 use Rattle.algebra.specs.GfField.{El}
 use Rattle.gf16.specs.Field16.{gf16}
 use Rattle.gf16.specs.Alpha.{R16}
-use Rattle.bch.specs.Codeword.{bitsOf, restOf}
+use Rattle.bch.specs.Distance.{lowBits, highBits}
 use Rattle.bch.specs.Decode.{valueAt, whereRoot, flipped}
 use Rattle.bch.specs.Difference.{difference, difference-top, difference-low, bits-same, bits-other}
 
@@ -34,8 +34,8 @@ module _ (c : ℕ → El 15) (l : ℕ) where
   half-flip : (b : ℕ) → (b ⊕ 1) / 2 ≡ b / 2
   half-flip b = ⊕-half b 1 ∙ ⊕-zero (b / 2)
 
-  pub flipped-rest : (w : List ℕ) → restOf (flipped c l w) ≡ restOf w
-  unfolding flipped restOf
+  pub flipped-rest : (w : List ℕ) → highBits (flipped c l w) ≡ highBits w
+  unfolding flipped highBits
   flipped-rest [] = refl
   flipped-rest (b ∷ w) = ap₂ (λ (x : ℕ) (xs : List ℕ). x ∷ xs) (pick (gf16 .dec (valueAt c l (length w)) (R16 .𝟘))) (flipped-rest w)
     where
@@ -51,8 +51,8 @@ module _ (c : ℕ → El 15) (l : ℕ) where
 
   -- where the roots are just the places in which w and v differ, flipping makes w's bits v's
   pub flipped-bits : (w v : List ℕ) → length v ≡ length w → ((p : ℕ) → p < length w → valueAt c l p ≡ R16 .𝟘 → difference w v p ≢ R16 .𝟘)
-      → ((p : ℕ) → p < length w → valueAt c l p ≢ R16 .𝟘 → difference w v p ≡ R16 .𝟘) → bitsOf (flipped c l w) ≡ bitsOf v
-  unfolding flipped bitsOf
+      → ((p : ℕ) → p < length w → valueAt c l p ≢ R16 .𝟘 → difference w v p ≡ R16 .𝟘) → lowBits (flipped c l w) ≡ lowBits v
+  unfolding flipped lowBits
   flipped-bits [] [] e hit miss = refl
   flipped-bits [] (b ∷ v) e hit miss = absurd (omega arith)
   flipped-bits (a ∷ w) [] e hit miss = absurd (omega arith)

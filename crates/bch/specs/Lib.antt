@@ -1,5 +1,5 @@
-pub mod Stand
-pub mod Codeword
+-- The BCH code, in reading order: distance, what decoding gives, and that it is exact.
+pub mod Distance
 pub mod Decode
 pub mod Coefficients
 pub mod Difference
@@ -8,3 +8,4 @@ pub mod Within
 pub mod Corrected
 pub mod Exact
 pub mod FlipLoop
+pub mod Answers

@@ -14,7 +14,8 @@ use Rattle.algebra.specs.Corrects.{Found, found, found-count}
 use Rattle.algebra.specs.GfField.{El}
 use Rattle.gf16.specs.Field16.{gf16}
 use Rattle.gf16.specs.Alpha.{R16, α, α-nz, α-distinct}
-use Rattle.bch.specs.Codeword.{Codeword, distance, bitsOf}
+use Rattle.bch_remainder.specs.Word.{Codeword}
+use Rattle.bch.specs.Distance.{distance, lowBits}
 use Rattle.bch.specs.Decode.{syndrome, valueAt, flipped, flips, answerBy, leftBy}
 use Rattle.bch.specs.Difference.{difference, weight-distance, syndrome-difference}
 use Rattle.bch.specs.Flips.{flipped-bits}
@@ -69,6 +70,6 @@ module _ (w v : List ℕ) (size : length w ≤ 65535) (same : length v ≡ lengt
   unfolding answerBy
   within-answer = if-pos (decLe l 12) short _ _ ∙ if-pos (ℕ-discrete (flips c l (length w)) l) flips-are _ _ ∙ ap Corrected length-is
 
-  pub within-bits : bitsOf (leftBy c l w) ≡ bitsOf v
+  pub within-bits : lowBits (leftBy c l w) ≡ lowBits v
   unfolding leftBy ε
-  within-bits = ap bitsOf (if-pos (decLe l 12) short (flipped c l w) w) ∙ flipped-bits c l w v same hit miss
+  within-bits = ap lowBits (if-pos (decLe l 12) short (flipped c l w) w) ∙ flipped-bits c l w v same hit miss
