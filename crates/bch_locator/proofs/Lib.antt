@@ -1,0 +1,6 @@
+pub mod AtAlpha
+pub mod Product
+pub mod Powers
+pub mod Steps
+pub mod Filling
+pub mod Search

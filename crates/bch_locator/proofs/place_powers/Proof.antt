@@ -1,0 +1,19 @@
+-- `bch_locator::place_powers` meets its contract.
+-- Assumes nothing.
+use mathlib.Core.Path.{refl}
+use Prim.Native.Nat.{suc}
+use Rattle.laws.specs.Tests.{below}
+use Rattle.bch_locator.proofs.Search.{powers-by}
+use borrow.Author.Needs.{needs}
+use native.Mathlib.Omega.{arith}
+use Rattle.bch_locator.proofs.place_powers.Statement.{statement}
+use Rattle.bch_locator.proofs.place_powers.Tie as tie
+use Rattle.bch_locator.proofs.place_powers.Reads as reads
+use Rattle.bch_locator.proofs.place_powers.Lts as lts
+
+returns : tie.Need-returns
+unfolding below
+returns c = powers-by _ suc refl (λ i h. h) tt tt
+
+pub place-powers-spec : {M : Type 1} → statement M
+place-powers-spec = tie.close (tie.spec returns)
