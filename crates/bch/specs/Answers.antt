@@ -9,7 +9,7 @@ use native.Mathlib.Omega.{arith}
 use lib.ListN.{length, take, drop, length-append, drop-of-length-le}
 use lib.Seq.{take-length, take-at, drop-at, drop-drop}
 use Rattle.bch_remainder.specs.Word.{parityOf, parityBits}
-use Rattle.bch.specs.Decode.{answerOf, leftOf}
+use Rattle.bch.specs.Decode.{answerBy, leftBy, register, answerOf, leftOf}
 use Rattle.bch.specs.Exact.{Exact}
 use Rattle.bch.specs.declared.Decoded.{Decoded}
 use Rattle.bch.specs.declared.Decoded.the-variants as decode
@@ -46,6 +46,11 @@ decodedOf w = ite (ℕ-discrete (wordRefusal (length w)) 0) (answerOf w) (decode
 
 unfoldable pub wordOut : List ℕ → List ℕ
 wordOut w = outIf (wordRefusal (length w)) (leftOf w) w
+
+-- a word that is no codeword: answered, and left, by a shortest register
+pub record Located (w w′ : List ℕ) (r : Decoded) : Type 0 where
+  pub answer : r ≡ answerBy (register w .0) (register w .1) w
+  pub word : w′ ≡ leftBy (register w .0) (register w .1) w
 
 -- what `decode` promises of the word w, which w′ is left of, and the answer r
 pub record Decodes (w w′ : List ℕ) (r : Decoded) : Type 0 where

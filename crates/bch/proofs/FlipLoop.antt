@@ -13,20 +13,8 @@ use Rattle.algebra.specs.GfField.{El}
 use Rattle.gf16.specs.Field16.{gf16}
 use Rattle.gf16.specs.Alpha.{R16}
 use Rattle.bch.specs.Decode.{valueAt, whereRoot, flipped}
+use Rattle.bch.specs.Places.{indexOf, flipAt, flipAll}
 use Rattle.bch.specs.Flips.{at-root, off-root, flipped-length}
-
--- the position of power p, in a word of n bytes
-abbrev pub indexOf : ℕ → ℕ → ℕ
-indexOf n p = n - 1 - p
-
--- the low bit of the byte of power p turned
-unfoldable pub flipAt : List ℕ → ℕ → List ℕ
-flipAt w p = set w (indexOf (length w) p) (getD w (indexOf (length w) p) 0 ⊕ 1)
-
--- those of the first k powers of a list turned
-unfoldable pub flipAll : List ℕ → (ℕ → ℕ) → ℕ → List ℕ
-flipAll w at zero = w
-flipAll w at (suc k) = flipAt (flipAll w at k) (at k)
 
 pub flipAll-none : (w : List ℕ) (at : ℕ → ℕ) → flipAll w at 0 ≡ w
 unfolding flipAll
@@ -105,23 +93,18 @@ flipped-at c l (b ∷ w) p h = pick (ℕ-discrete p (length w)) (flipped-at c l 
         let z : indexOf (suc (length w)) p ≡ suc (indexOf (length w) p) = omega arith in
         ap (λ (j : ℕ). getD v j 0) z ∙ r (omega arith) ∙ ap (λ (j : ℕ). whereRoot c l p (getD (b ∷ w) j 0 ⊕ 1) (getD (b ∷ w) j 0)) (sym z)
 
--- the list has exactly the roots among the powers below the word's length
-pub record Listed (c : ℕ → El 15) (l n : ℕ) (at : ℕ → ℕ) (k : ℕ) : Type 0 where
-  pub inside : (i : ℕ) → i < k → at i < n
-  pub apart : (i j : ℕ) → i < j → j < k → at i ≢ at j
-  pub root : (i : ℕ) → i < k → valueAt c l (at i) ≡ R16 .𝟘
-  pub all : (p : ℕ) → p < n → valueAt c l p ≡ R16 .𝟘 → (i : ℕ) × (i < k) × (at i ≡ p)
-
-pub flipAll-flipped : (c : ℕ → El 15) (l : ℕ) (w : List ℕ) (at : ℕ → ℕ) (k : ℕ) → Listed c l (length w) at k → flipAll w at k ≡ flipped c l w
-flipAll-flipped c l w at k L = ext-getD 0 (flipAll w at k) (flipped c l w) (flipAll-length w at k ∙ sym (flipped-length c l w)) (λ j h. by j (omega (arith, flipAll-length w at k)))
+pub flipAll-flipped : (c : ℕ → El 15) (l : ℕ) (w : List ℕ) (at : ℕ → ℕ) (k : ℕ)
+    → ((i : ℕ) → i < k → at i < length w) → ((i j : ℕ) → i < j → j < k → at i ≢ at j) → ((i : ℕ) → i < k → valueAt c l (at i) ≡ R16 .𝟘)
+    → ((p : ℕ) → p < length w → valueAt c l p ≡ R16 .𝟘 → (i : ℕ) × (i < k) × (at i ≡ p)) → flipAll w at k ≡ flipped c l w
+flipAll-flipped c l w at k inside apart root all = ext-getD 0 (flipAll w at k) (flipped c l w) (flipAll-length w at k ∙ sym (flipped-length c l w)) (λ j h. by j (omega (arith, flipAll-length w at k)))
   where
     here : (p : ℕ) → p < length w → Dec (valueAt c l p ≡ R16 .𝟘) → getD (flipAll w at k) (indexOf (length w) p) 0 ≡ getD (flipped c l w) (indexOf (length w) p) 0
     here p h (yes z) =
-        let r = L .all p h z in
-        ap (λ (q : ℕ). getD (flipAll w at k) (indexOf (length w) q) 0) (sym (r .2)) ∙ flipAll-at w at k (r .0) (r .1) (L .inside) (L .apart)
+        let r = all p h z in
+        ap (λ (q : ℕ). getD (flipAll w at k) (indexOf (length w) q) 0) (sym (r .2)) ∙ flipAll-at w at k (r .0) (r .1) inside apart
         ∙ ap (λ (q : ℕ). getD w (indexOf (length w) q) 0 ⊕ 1) (r .2) ∙ sym (flipped-at c l w p h ∙ at-root c l p _ _ z)
     here p h (no z) =
-        flipAll-off w at k p h (L .inside) (λ i g e. z (ap (valueAt c l) (sym e) ∙ L .root i g))
+        flipAll-off w at k p h inside (λ i g e. z (ap (valueAt c l) (sym e) ∙ root i g))
         ∙ sym (flipped-at c l w p h ∙ off-root c l p _ _ z)
 
     by : (j : ℕ) → j < length w → getD (flipAll w at k) j 0 ≡ getD (flipped c l w) j 0

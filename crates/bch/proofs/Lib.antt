@@ -1,0 +1,2 @@
+mod FlipLoop
+mod Locate
