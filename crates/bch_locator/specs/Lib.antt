@@ -1,5 +1,6 @@
--- What the locator of wrong bits finds. Reading order: Element, Register, Places; Lanes is how the search works on sixteen elements at once.
+-- What the locator of wrong bits finds. Reading order: Element, Syndromes, Register, Places; Lanes is how the code works on sixteen elements at once.
 pub mod Element
-pub mod Register
 pub mod Lanes
+pub mod Syndromes
+pub mod Register
 pub mod Places

@@ -1,13 +1,16 @@
 // From the remainder of a BCH word to the places to flip.
+use bch_table::Reg;
 ghost use mathlib.Core.Path.{_≡_};
 ghost use Prim.Native.Nat.{ℕ, suc, _+_, _<_, _≤_};
 ghost use lib.ListN.{getD, length};
 ghost use Rattle.algebra.specs.Series.{sum};
 ghost use Rattle.algebra.specs.Values.{ev};
+ghost use Rattle.bch_table.specs.Step.{valueOf};
 ghost use Rattle.gf16.specs.Alpha.{R16, α};
 ghost use Rattle.gf16.specs.Field16.{gf16};
 ghost use Rattle.bch_locator.specs.Element.{toEl, poly};
 ghost use Rattle.bch_locator.specs.Lanes.{Lanes, Products, PowersOf};
+ghost use Rattle.bch_locator.specs.Syndromes.{Syndromes, first-part, second-part, Added, Horner, Squared};
 ghost use Rattle.bch_locator.specs.Places.{Places-of, Reversed};
 ghost use Rattle.bch_locator.specs.Register.{total, Mended, Register-of};
 
@@ -49,6 +52,114 @@ pub fn inverse(a: u16) -> u16
         i += 1;
     }
     r
+}
+
+// Each lane of t times that of p, a power of two: times a power of α.
+fn times(t: [u16; 16], p: [u16; 16]) -> [u16; 16]
+    requires { ⌜ Lanes t × ((i : ℕ) → getD p i 0 ≤ 4096) ⌝ }
+    ensures { λ r. ⌜ Products r t p ⌝ }
+{
+    let mut r = [0u16; 16];
+    let mut i: usize = 0;
+    while i < 16 {
+        r[i] = fold((t[i] as u32) * (p[i] as u32));
+        i += 1;
+    }
+    r
+}
+
+// 2 to the 1, 3, 5, .. 11, and then to the 12; zeros.
+fn first_powers() -> [u16; 16]
+    ensures { λ r. ⌜ PowersOf r first-part ⌝ }
+{
+    [
+        2,
+        8,
+        32,
+        128,
+        512,
+        2048,
+        4096,
+        4096,
+        4096,
+        4096,
+        4096,
+        4096,
+        0,
+        0,
+        0,
+        0,
+    ]
+}
+
+// 2 to what is left of 1, 3, 5, .. 23; zeros.
+fn second_powers() -> [u16; 16]
+    ensures { λ r. ⌜ PowersOf r second-part ⌝ }
+{
+    [1, 1, 1, 1, 1, 1, 2, 8, 32, 128, 512, 2048, 0, 0, 0, 0]
+}
+
+// b added in each lane.
+fn add_bit(s: [u16; 16], b: u16) -> [u16; 16]
+    requires { ⌜ Lanes s ⌝ }
+    ensures { λ r. ⌜ Added r s b ⌝ }
+{
+    let mut r = [0u16; 16];
+    let mut i: usize = 0;
+    while i < 16 {
+        r[i] = s[i] ^ b;
+        i += 1;
+    }
+    r
+}
+
+// The 64 digits of w, the highest first, after those of which s is the value: lane i is at α^(2 i + 1).
+fn digits(s: [u16; 16], w: u64) -> [u16; 16]
+    requires { ⌜ Lanes s ⌝ }
+    ensures { λ r. ⌜ Horner r s w ⌝ }
+{
+    let first = first_powers();
+    let second = second_powers();
+    let mut r = s;
+    let mut y = w;
+    let mut k: usize = 0;
+    while k < 64 {
+        let one = times(r, first);
+        let two = times(one, second);
+        let next = add_bit(two, (y >> 63) as u16);
+        r = next;
+        y = y << 1;
+        k += 1;
+    }
+    r
+}
+
+// The lanes' values, and between them S_2i = S_i^2.
+fn squares(t: [u16; 16]) -> [u16; 24]
+    ensures { λ s. ⌜ Squared s t ⌝ }
+{
+    let mut s = [0u16; 24];
+    let mut k: usize = 0;
+    while k < 12 {
+        s[2 * k] = t[k];
+        s[2 * k + 1] = mul(s[k], s[k]);
+        k += 1;
+    }
+    s
+}
+
+// S1 to S24 of the remainder: the odd ones by Horner's rule, the even ones as squares.
+pub fn syndromes(r: Reg) -> [u16; 24]
+    ensures { λ s. ⌜ Syndromes s (valueOf r) ⌝ }
+{
+    let hi = r.hi;
+    let mid = r.mid;
+    let lo = r.lo;
+    let none = [0u16; 16];
+    let high = digits(none, hi);
+    let upper = digits(high, mid);
+    let all = digits(upper, lo);
+    squares(all)
 }
 
 // The sum of c[i] s[k - i] for i up to l.
@@ -119,20 +230,6 @@ pub fn shortest(s: [u16; 24]) -> Register
         k += 1;
     }
     Register { c: c, len: l }
-}
-
-// Each lane of t times that of p, a power of two: times a power of α.
-fn times(t: [u16; 16], p: [u16; 16]) -> [u16; 16]
-    requires { ⌜ Lanes t × ((i : ℕ) → getD p i 0 ≤ 4096) ⌝ }
-    ensures { λ r. ⌜ Products r t p ⌝ }
-{
-    let mut r = [0u16; 16];
-    let mut i: usize = 0;
-    while i < 16 {
-        r[i] = fold((t[i] as u32) * (p[i] as u32));
-        i += 1;
-    }
-    r
 }
 
 // The sum of the lanes.

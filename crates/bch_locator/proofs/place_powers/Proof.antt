@@ -3,7 +3,7 @@
 use mathlib.Core.Path.{refl}
 use Prim.Native.Nat.{suc}
 use Rattle.laws.specs.Tests.{below}
-use Rattle.bch_locator.proofs.Search.{powers-by}
+use Rattle.bch_locator.proofs.Raised.{powers-by}
 use borrow.Author.Needs.{needs}
 use native.Mathlib.Omega.{arith}
 use Rattle.bch_locator.proofs.place_powers.Statement.{statement}

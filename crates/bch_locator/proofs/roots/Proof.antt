@@ -7,7 +7,8 @@ use lib.ListN.{getD}
 use Rattle.bch_locator.specs.Element.{toEl, poly}
 use Rattle.bch_locator.specs.Lanes.{PowersOf}
 use Rattle.bch_locator.specs.Places.{Places-of}
-use Rattle.bch_locator.proofs.Search.{Terms, terms-start, terms-again, powers-small, sum-hit, sum-miss, count-fits, places-start, places-miss, places-hit, places-as, places-end}
+use Rattle.bch_locator.proofs.Raised.{powers-small}
+use Rattle.bch_locator.proofs.Search.{Terms, terms-start, terms-again, sum-hit, sum-miss, count-fits, places-start, places-miss, places-hit, places-as, places-end}
 use borrow.Author.Needs.{needs}
 use native.Mathlib.Omega.{arith}
 use Rattle.bch_locator.proofs.roots.Statement.{statement}
