@@ -5,6 +5,7 @@ use mathlib.Core.List.{List, [], _∷_}
 use Prim.Native.Nat.{ℕ, zero, suc, _+_, _-_, _≤_, _<_}
 use native.Mathlib.Nat.{le-refl, not-suc-le-zero}
 use native.Mathlib.Decide.{ℕ-discrete}
+use native.Mathlib.Numerals.{add-one}
 use native.Mathlib.Omega.{arith}
 use lib.ListN.{length, getD, set, length-set}
 use lib.Seq.{getD-set-same, getD-set-other, ext-getD}
@@ -112,3 +113,11 @@ flipAll-flipped c l w at k inside apart root all = ext-getD 0 (flipAll w at k) (
         let e : indexOf (length w) (length w - 1 - j) ≡ j = omega arith in
         let g : length w - 1 - j < length w = omega arith in
         subst (λ (i : ℕ). getD (flipAll w at k) i 0 ≡ getD (flipped c l w) i 0) e (here (length w - 1 - j) g (gf16 .dec (valueAt c l (length w - 1 - j)) (R16 .𝟘)))
+
+-- one listed power more
+pub flip-again : (w₀ w : List ℕ) (at : ℕ → ℕ) (i n : ℕ) → n ≡ length w₀ → w ≡ flipAll w₀ at i
+    → set w (n - 1 - at i) (getD w (n - 1 - at i) 0 ⊕ 1) ≡ flipAll w₀ at (i + 1)
+unfolding flipAt
+flip-again w₀ w at i n e f =
+    let m : n ≡ length (flipAll w₀ at i) = e ∙ sym (flipAll-length w₀ at i) in
+    ap₂ (λ (k : ℕ) (l : List ℕ). set l (k - 1 - at i) (getD l (k - 1 - at i) 0 ⊕ 1)) m f ∙ sym (flipAll-more w₀ at i) ∙ ap (flipAll w₀ at) (sym (add-one i))

@@ -1,5 +1,5 @@
 -- The entry points: who is refused, by which number, and what every lent slice holds at exit.
-use mathlib.Core.Path.{_≡_, refl, sym, ap, ap₂, _∙_}
+use mathlib.Core.Path.{_≡_, refl, sym, ap, ap₂, _∙_, subst}
 use mathlib.Core.Logic.{ite, if-pos, if-neg}
 use mathlib.Core.List.{List, [], _∷_, _++_, append-nil}
 use Prim.Native.Nat.{ℕ, suc, _+_, _-_, _≤_, _<_}
@@ -113,3 +113,6 @@ encoded-bytes m out copied part d e f =
     let z : drop (length copied - k) (drop k copied) ≡ [] = ap₂ (λ (j : ℕ) (l : List ℕ). drop j l) n r ∙ drop-of-length-le (drop k out) (le-refl _) in
     ap₂ (λ (x y : List ℕ). x ++ (part ++ y)) (ap (take k) c ∙ take-at m (drop k out) k refl) z
     ∙ ap (λ (l : List ℕ). m ++ l) (append-nil part ∙ f ∙ ap (λ (l : List ℕ). d ++ drop 192 l) t ∙ ap (λ (l : List ℕ). d ++ l) (drop-drop 192 k out))
+
+pub located-to : {w v : List ℕ} (v′ : List ℕ) (r : Decoded) → v′ ≡ v → Located w v r → Located w v′ r
+located-to {w} v′ r e L = subst (λ (x : List ℕ). Located w x r) (sym e) L

@@ -20,8 +20,8 @@ low-digit : (d n p x : ℕ) → p < n → (d * 2 ^ n + x) / 2 ^ p % 2 ≡ x / 2 
 low-digit d n p x h =
     let e : n ≡ suc (n - suc p) + p = omega arith in
     let f : d * 2 ^ n ≡ d * 2 ^ (n - suc p) * 2 * 2 ^ p =
-            ap (λ (m : ℕ). d * 2 ^ m) e ∙ ap (λ (m : ℕ). d * m) (pow-add 2 (suc (n - suc p)) p ∙ ap (λ (m : ℕ). m * 2 ^ p) (pow-suc 2 (n - suc p)))
-            ∙ sym (mul-assoc d (2 ^ (n - suc p) * 2) (2 ^ p)) ∙ ap (λ (m : ℕ). m * 2 ^ p) (sym (mul-assoc d (2 ^ (n - suc p)) 2)) in
+    ap (λ (m : ℕ). d * 2 ^ m) e ∙ ap (λ (m : ℕ). d * m) (pow-add 2 (suc (n - suc p)) p ∙ ap (λ (m : ℕ). m * 2 ^ p) (pow-suc 2 (n - suc p)))
+    ∙ sym (mul-assoc d (2 ^ (n - suc p) * 2) (2 ^ p)) ∙ ap (λ (m : ℕ). m * 2 ^ p) (sym (mul-assoc d (2 ^ (n - suc p)) 2)) in
     ap (λ (z : ℕ). (z + x) / 2 ^ p % 2) f ∙ ap (λ (z : ℕ). z % 2) (mul-add-div-right (pow-pos p) (d * 2 ^ (n - suc p) * 2) (x))
     ∙ mul-add-mod-self-right (d * 2 ^ (n - suc p)) 2 (x / 2 ^ p)
 

@@ -68,11 +68,12 @@ returns-3 c =
     let s = e .before .before .before .before in
     let m = s .args .message .now in
     let o = s .args .out .now in
-    let f = fair-message (length m) (length m + 192) (length o) (e .before .if1 .left) (e .if2 .left) in
-    (done _ f,
-    encoded-bytes m o _ _ (parityBits (valueOf (r .parity-register .result))) (p .copy .ensures .1) (w .write-parity .ensures)
-    ∙ ap (λ (n : ℕ). m ++ (parityBits n ++ drop (length m + 192) o)) (r .parity-register .ensures)
-    ∙ changed _ (m ++ (parityBits (parityOf m) ++ drop (length m + 192) o)) o f)
+    let f = fair-message (length m) (length m + 192) (length o) (e .before .if1 .left) (e .if2 .left) in (
+      done _ f,
+      encoded-bytes m o _ _ (parityBits (valueOf (r .parity-register .result))) (p .copy .ensures .1) (w .write-parity .ensures)
+          ∙ ap (λ (n : ℕ). m ++ (parityBits n ++ drop (length m + 192) o)) (r .parity-register .ensures)
+          ∙ changed _ (m ++ (parityBits (parityOf m) ++ drop (length m + 192) o)) o f,
+    )
 
 pub encode-spec : {M : Type 1} → statement M
 encode-spec =

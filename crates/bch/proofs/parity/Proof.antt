@@ -37,10 +37,11 @@ returns-3 c =
     let w = c .before .before in
     let r = w .before .before in
     let s = r .before .before .before .before .before in
-    let f = fair-message (length (s .args .message .now)) 192 (length (s .args .out .now)) (r .before .before .if1 .left) (r .before .if2 .left) in
-    (done _ f,
-    w .write-parity .ensures ∙ ap (λ (n : ℕ). parityBits n ++ drop 192 (s .args .out .now)) (r .parity-register .ensures)
-    ∙ changed _ (parityBits (parityOf (s .args .message .now)) ++ drop 192 (s .args .out .now)) (s .args .out .now) f)
+    let f = fair-message (length (s .args .message .now)) 192 (length (s .args .out .now)) (r .before .before .if1 .left) (r .before .if2 .left) in (
+      done _ f,
+      w .write-parity .ensures ∙ ap (λ (n : ℕ). parityBits n ++ drop 192 (s .args .out .now)) (r .parity-register .ensures)
+          ∙ changed _ (parityBits (parityOf (s .args .message .now)) ++ drop 192 (s .args .out .now)) (s .args .out .now) f,
+    )
 
 pub parity-spec : {M : Type 1} → statement M
 parity-spec =
