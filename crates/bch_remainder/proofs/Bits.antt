@@ -8,7 +8,7 @@ use Prim.Native.Nat.{ℕ, zero, suc, _+_, _-_, _*_, _/_, _%_, _^_, _≤_, _<_}
 use native.Mathlib.Nat.{not-suc-le-zero, le-of-suc-le-suc, mod-lt, suc-sub-suc, sub-zero, zero-add, suc-add, add-comm, mod-mod, lt-of-lt-of-le, le-of-lt, le-of-eq}
 use native.Mathlib.Numerals.{add-one}
 use native.Mathlib.Omega.{arith}
-use lib.Bits.{bitAnd, bitOr, and-mask, or-shifted}
+use lib.Bits.{bitAnd, and-mask}
 use lib.Pow.{pow-mono, shr-shr, high, low, field, mod-mod-pow}
 use lib.ListN.{length, getD, take, drop, set, length-drop, length-append}
 use lib.Seq.{paste, paste-suc, length-paste, take-all, take-at, take-suc, getD-drop, drop-append-add, drop-drop, length-take-le}

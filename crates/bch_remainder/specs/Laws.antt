@@ -1,13 +1,13 @@
 -- Words put together, and what that makes of their remainders. Encoding gives a codeword; remainder 0 and being divided by g are the same.
 use mathlib.Core.Path.{_≡_, refl, sym, ap, ap₂, _∙_, subst}
 use mathlib.Core.List.{List, [], _∷_, _++_}
-use Prim.Native.Nat.{ℕ, zero, suc, _+_, _*_, _/_, _%_, _^_, _≤_, _<_}
-use native.Mathlib.Nat.{le-add-left, mod-lt, mod-mod, mod-one, mod-eq-of-lt, zero-add, zero-mul, add-comm, mul-comm, pow-suc, lt-of-lt-of-le}
+use Prim.Native.Nat.{ℕ, zero, suc, _+_, _-_, _*_, _/_, _%_, _^_, _≤_, _<_}
+use native.Mathlib.Nat.{not-suc-le-zero, le-of-suc-le-suc, suc-sub-suc, mul-add-div-right, mul-add-mod-self-right, le-add-left, mod-lt, mod-mod, mod-one, mod-eq-of-lt, zero-add, zero-mul, add-comm, mul-comm, pow-suc, lt-of-lt-of-le}
 use native.Mathlib.Numerals.{add-one}
 use native.Mathlib.Omega.{arith}
 use lib.Arith.{digits-lt}
-use lib.ListN.{length, length-append}
-use lib.Pow.{pow-mono, shl-lt, mod-pow-add}
+use lib.ListN.{length, getD, length-append}
+use lib.Pow.{pow-add, pow-pos, high, pow-mono, shl-lt, mod-pow-add}
 use Rattle.laws.specs.Xor.{_⊕_, ⊕-lt, ⊕-self, zero-⊕, two-pos}
 use Rattle.laws.specs.Poly.{rem, rem-lt, rem-add, rem-small, rem-digits, rem-shift, ⊕-join, ⊕-shift, divides-rem, rem-divides}
 use Rattle.bch_table.specs.Generator.{generator, generator-top}
@@ -47,6 +47,34 @@ number-append m d = number-from-append 0 m d ∙ number-from-is (number-from 0 m
 
 pub number-append-⊕ : (m d : List ℕ) → number (m ++ d) ≡ (number m * 2 ^ length d) ⊕ number d
 number-append-⊕ m d = number-append m d ∙ sym (⊕-join (number m) (length d) (number d) (number-lt d))
+
+-- the coefficient of each power: bit i from the front is that of x^(length - 1 - i)
+high-part : (a n j k : ℕ) → (a * 2 ^ (j + suc k) + n) / 2 ^ j % 2 ≡ n / 2 ^ j % 2
+high-part a n j k =
+    ap (λ (x : ℕ). (x + n) / 2 ^ j % 2) (ap (λ (x : ℕ). a * x) (pow-add 2 j (suc k) ∙ ap (λ (x : ℕ). 2 ^ j * x) (pow-suc 2 k)) ∙ around a (2 ^ j) (2 ^ k))
+    ∙ ap (λ (x : ℕ). x % 2) (mul-add-div-right (pow-pos j) (a * 2 ^ k * 2) n) ∙ mul-add-mod-self-right (a * 2 ^ k) 2 (n / 2 ^ j)
+  where
+    around : (a b c : ℕ) → a * (b * (c * 2)) ≡ a * c * 2 * b
+    around a b c = omega arith
+
+pub number-digit : (w : List ℕ) (i : ℕ) → i < length w → number w / 2 ^ (length w - suc i) % 2 ≡ getD w i 0 % 2
+number-digit [] i h = absurd (not-suc-le-zero h)
+number-digit (b ∷ w) zero h =
+    ap (λ (x : ℕ). x / 2 ^ (suc (length w) - 1) % 2) (number-one-more b w) ∙ ap (λ (k : ℕ). (b % 2 * 2 ^ length w + number w) / 2 ^ k % 2) less
+    ∙ ap (λ (x : ℕ). x % 2) (high (b % 2) (length w) (number-lt w)) ∙ mod-mod b 2
+  where
+    less : suc (length w) - 1 ≡ length w
+    less = omega arith
+number-digit (b ∷ w) (suc i) h =
+    ap (λ (x : ℕ). x / 2 ^ (suc (length w) - suc (suc i)) % 2) (number-one-more b w)
+    ∙ ap₂ (λ (l k : ℕ). (b % 2 * 2 ^ l + number w) / 2 ^ k % 2) whole (suc-sub-suc (length w) (suc i))
+    ∙ high-part (b % 2) (number w) (length w - suc i) i ∙ number-digit w i inside
+  where
+    inside : i < length w
+    inside = le-of-suc-le-suc h
+
+    whole : length w ≡ length w - suc i + suc i
+    whole = omega arith
 
 -- ---- digits of a remainder
 pub length-bits : (k r : ℕ) → length (bitsOf k r) ≡ k
