@@ -2,3 +2,5 @@
 pub mod Xor
 pub mod Tests
 pub mod Poly
+pub mod Signed
+pub mod Lists
