@@ -1,19 +1,18 @@
 -- A polynomial of 31 digits at α, by xor and shifts: the sum of x and g, g α, g α^3, g α^12, where g is the quotient by α's polynomial.
 -- All of it is additive, so that its values at the powers of two, which are computed, decide. Assumes nothing.
-use mathlib.Core.Path.{_≡_, refl, sym, ap, ap₂, _∙_, subst}
-use Prim.Native.Nat.{ℕ, zero, suc, _+_, _-_, _*_, _/_, _%_, _^_, _≤_, _<_}
-use native.Mathlib.Nat.{not-suc-le-zero, le-of-suc-le-suc, le-of-lt, mod-lt, add-zero, pow-suc, zero-mul, mod-eq-of-lt, div-eq-of-lt, mul-comm, mul-one, mul-assoc, le-refl}
+use mathlib.Core.Path.{_≡_, refl, sym, ap, ap₂, _∙_}
+use Prim.Native.Nat.{ℕ, zero, suc, _-_, _*_, _/_, _%_, _^_, _<_}
+use native.Mathlib.Nat.{not-suc-le-zero, le-of-suc-le-suc, le-of-lt, add-zero, pow-suc, mod-eq-of-lt, div-eq-of-lt}
 use native.Mathlib.Omega.{arith}
 use lib.Dec.{T, eqb, eqb→eq, ltb, ltb→lt, lit<}
 use lib.Bits.{xor-block, bitAnd, bitXor, and-mask}
 use lib.Pow.{pow-pos}
-use Rattle.laws.specs.Xor.{_⊕_, ⊕-zero, ⊕-self, ⊕-div, ⊕-mod, ⊕-swap, span, two-pos}
+use Rattle.laws.specs.Xor.{_⊕_, ⊕-zero, ⊕-div, ⊕-mod, ⊕-swap, span}
 use Rattle.laws.specs.Tests.{below, below-at}
-use Rattle.algebra.specs.Ring.{Ring, ⊠-zero, zero-⊞}
+use Rattle.algebra.specs.Ring.{Ring, ⊠-zero}
 use Rattle.algebra.specs.Series.{pow}
-use Rattle.algebra.specs.Values.{bit, ev, ev-add, ev-zero, ev-double, ev-more, ev-clmul}
-use Rattle.algebra.specs.Gf.{mul, mulN, xt, mul-lt}
-use Rattle.algebra.specs.GfField.{El}
+use Rattle.algebra.specs.Values.{bit, ev, ev-add, ev-zero, ev-double, ev-more}
+use Rattle.algebra.specs.Gf.{mul, mulN, xt}
 use Rattle.gf16.specs.Alpha.{R16, α}
 use Rattle.bch_locator.specs.Element.{toEl, toEl-xor, toEl-zero, toEl-one, toEl-two, toEl-mul}
 

@@ -23,7 +23,7 @@ use Rattle.bch_locator.specs.Lanes.{Lanes, Products, PowersOf}
 use Rattle.bch_locator.specs.Syndromes.{Syndromes, odd, first-part, second-part, Added, Horner, Squared}
 use Rattle.bch_locator.proofs.Product.{digit-top, digit-next}
 use Rattle.bch_locator.proofs.Raised.{lanes-raised, ev-join}
-use Rattle.bch_locator.proofs.Filling.{Filling, zero-lanes}
+use Rattle.bch_locator.proofs.Filling.{Filling}
 use Rattle.bch_locator.proofs.Steps.{zeros-at}
 
 -- ---- `add_bit`

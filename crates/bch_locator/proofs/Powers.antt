@@ -1,5 +1,5 @@
 -- The loop of `inverse`: the product so far, and what is left of the power, are the inverse. Assumes nothing.
-use mathlib.Core.Path.{_≡_, refl, sym, ap, ap₂, _∙_}
+use mathlib.Core.Path.{_≡_, sym, ap, ap₂, _∙_}
 use Prim.Native.Nat.{ℕ, suc, _+_, _-_, _≤_, _<_}
 use native.Mathlib.Omega.{arith}
 use Rattle.algebra.specs.Ring.{ones-power, one-⊠}

@@ -12,7 +12,7 @@ use lib.ListN.{getD, length, set, length-set, replicate}
 use lib.Seq.{getD-set-same, getD-set-other}
 use Rattle.laws.specs.Xor.{_⊕_}
 use Rattle.algebra.specs.Ring.{Ring, ⊠-zero, ⊠-lc, ⊞-cancel}
-use Rattle.algebra.specs.Series.{sum, sum-none, sum-last, sum-front, sum-ext, sum-more, pow, pow-add, conv, conv-sum, conv-pow}
+use Rattle.algebra.specs.Series.{sum, sum-none, sum-last, sum-front, sum-ext, sum-more, pow, pow-add, conv-sum, conv-pow}
 use Rattle.algebra.specs.Power.{pow-mul}
 use Rattle.algebra.specs.Roots.{domain, pow-nz}
 use Rattle.algebra.specs.Values.{ev, ev-zero}

@@ -1,7 +1,7 @@
 -- The loops of `discrepancy` and `mend`, and what holds at the head of the loop of `shortest`, which each way through keeps. Assumes nothing.
 use mathlib.Core.Path.{_≡_, refl, sym, ap, ap₂, _∙_, subst, fun-ext, transport}
 use mathlib.Core.Logic.{_≢_}
-use mathlib.Core.List.{List, [], _∷_}
+use mathlib.Core.List.{List}
 use Prim.Native.Nat.{ℕ, zero, suc, _+_, _-_, _≤_, _<_}
 use native.Mathlib.Nat.{le-refl}
 use native.Mathlib.Numerals.{add-one}
@@ -11,10 +11,9 @@ use lib.Bits.{bitXor}
 use lib.ListN.{getD, length, set, replicate, List·getD-eq-default}
 use lib.Seq.{getD-set-same, getD-set-other}
 use Rattle.laws.specs.Xor.{_⊕_}
-use Rattle.algebra.specs.GfField.{El}
 use Rattle.algebra.specs.Ring.{⊠-zero}
 use Rattle.algebra.specs.Series.{sum, sum-none, sum-last, conv}
-use Rattle.algebra.specs.Massey.{Gen, Inv, fixed, fixed-at, fixed-below, ups, ups-supp, unit, inv-start, inv-move, discrepancy, step-zero, step-keep, step-grow, no-shorter}
+use Rattle.algebra.specs.Massey.{Gen, Inv, fixed, fixed-at, fixed-below, ups-supp, unit, inv-start, inv-move, discrepancy, step-zero, step-keep, step-grow, no-shorter}
 use Rattle.gf16.specs.Field16.{gf16}
 use Rattle.gf16.specs.Alpha.{R16}
 use Rattle.bch_locator.specs.Element.{toEl, toEl-inj, toEl-xor, toEl-zero, toEl-one, poly}

@@ -5,7 +5,7 @@ use Prim.Native.Nat.{ℕ, _*_, _^_, _≤_, _<_}
 use lib.ListN.{getD, length}
 use Rattle.algebra.specs.Values.{ev}
 use Rattle.gf16.specs.Alpha.{R16, α}
-use Rattle.bch_locator.specs.Element.{toEl, poly}
+use Rattle.bch_locator.specs.Element.{poly}
 
 -- what a [u16; 16] is
 pub record Lanes (t : List ℕ) : Type 0 where

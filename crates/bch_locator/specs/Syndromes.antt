@@ -1,7 +1,7 @@
 -- "Syndromes S1 to S24": S_i is the word's value at α^i, which is its remainder's.
 use mathlib.Core.Path.{_≡_}
 use mathlib.Core.List.{List}
-use Prim.Native.Nat.{ℕ, suc, _+_, _-_, _*_, _^_, _<_}
+use Prim.Native.Nat.{ℕ, _+_, _-_, _*_, _^_, _<_}
 use lib.ListN.{length}
 use Rattle.algebra.specs.Series.{pow}
 use Rattle.algebra.specs.Values.{ev}

@@ -4,11 +4,8 @@ use Prim.Native.Nat.{_-_}
 use Rattle.bch_locator.proofs.Filling.{Filling, filling-start, filling-again, zero-lanes}
 use Rattle.bch_locator.proofs.Horner.{Plus, plus-fits, plus-is, added-end}
 use borrow.Author.Needs.{needs}
-use native.Mathlib.Omega.{arith}
 use Rattle.bch_locator.proofs.add_bit.Statement.{statement}
 use Rattle.bch_locator.proofs.add_bit.Tie as tie
-use Rattle.bch_locator.proofs.add_bit.Reads as reads
-use Rattle.bch_locator.proofs.add_bit.Lts as lts
 
 abbrev Inv-loop : tie.InvT-loop
 Inv-loop b s r₀ i₀ r i = Filling (Plus s b) r i

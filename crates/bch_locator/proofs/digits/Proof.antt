@@ -9,12 +9,6 @@ use borrow.Author.Needs.{needs}
 use native.Mathlib.Omega.{arith}
 use Rattle.bch_locator.proofs.digits.Statement.{statement}
 use Rattle.bch_locator.proofs.digits.Tie as tie
-use Rattle.bch_locator.proofs.digits.Reads as reads
-use Rattle.bch_locator.proofs.digits.Lts as lts
-use Rattle.bch_locator.proofs.add_bit.Reads as add-bit-reads
-use Rattle.bch_locator.proofs.first_powers.Reads as first-powers-reads
-use Rattle.bch_locator.proofs.second_powers.Reads as second-powers-reads
-use Rattle.bch_locator.proofs.times.Reads as times-reads
 
 abbrev Inv-loop : tie.InvT-loop
 Inv-loop w first second r₀ y₀ k₀ r y k = Partial r r₀ w y k × PowersOf first first-part × PowersOf second second-part

@@ -9,9 +9,6 @@ use borrow.Author.Needs.{needs}
 use native.Mathlib.Omega.{arith}
 use Rattle.bch_locator.proofs.discrepancy.Statement.{statement}
 use Rattle.bch_locator.proofs.discrepancy.Tie as tie
-use Rattle.bch_locator.proofs.discrepancy.Reads as reads
-use Rattle.bch_locator.proofs.discrepancy.Lts as lts
-use Rattle.bch_locator.proofs.mul.Reads as mul-reads
 
 abbrev Inv-loop : tie.InvT-loop
 Inv-loop c s k l d₀ i₀ d i = (i ≤ l + 1) × (toEl d ≡ total c s k i)

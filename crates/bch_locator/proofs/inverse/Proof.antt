@@ -11,9 +11,6 @@ use borrow.Author.Needs.{needs}
 use native.Mathlib.Omega.{arith}
 use Rattle.bch_locator.proofs.inverse.Statement.{statement}
 use Rattle.bch_locator.proofs.inverse.Tie as tie
-use Rattle.bch_locator.proofs.inverse.Reads as reads
-use Rattle.bch_locator.proofs.inverse.Lts as lts
-use Rattle.bch_locator.proofs.mul.Reads as mul-reads
 
 abbrev Inv-loop : tie.InvT-loop
 Inv-loop a x₀ r₀ i₀ x r i = (i ≤ 15) × (R16 ._⊠_ (toEl r) (ones-power R16 (15 - i) (toEl x)) ≡ gf16 .inv (toEl a))

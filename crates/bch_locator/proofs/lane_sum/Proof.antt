@@ -1,7 +1,7 @@
 -- `bch_locator::lane_sum` meets its contract.
 -- Assumes nothing.
 use mathlib.Core.Path.{_≡_}
-use Prim.Native.Nat.{ℕ, _-_, _≤_}
+use Prim.Native.Nat.{_-_, _≤_}
 use Rattle.algebra.specs.Series.{sum}
 use Rattle.gf16.specs.Alpha.{R16}
 use Rattle.bch_locator.specs.Element.{toEl, poly}
@@ -10,8 +10,6 @@ use borrow.Author.Needs.{needs}
 use native.Mathlib.Omega.{arith}
 use Rattle.bch_locator.proofs.lane_sum.Statement.{statement}
 use Rattle.bch_locator.proofs.lane_sum.Tie as tie
-use Rattle.bch_locator.proofs.lane_sum.Reads as reads
-use Rattle.bch_locator.proofs.lane_sum.Lts as lts
 
 abbrev Inv-loop : tie.InvT-loop
 Inv-loop t r₀ i₀ r i = (i ≤ 16) × (toEl r ≡ sum R16 i (poly t))

@@ -1,6 +1,6 @@
 -- `bch_locator::mend` meets its contract.
 -- Assumes nothing.
-use mathlib.Core.Path.{_≡_, _∙_}
+use mathlib.Core.Path.{_≡_}
 use lib.ListN.{length, length-set}
 use Prim.Native.Nat.{_≤_, _-_}
 use Rattle.bch_locator.proofs.Steps.{Mending, mending-start, mending-again, mending-end}
@@ -8,9 +8,6 @@ use borrow.Author.Needs.{needs}
 use native.Mathlib.Omega.{arith}
 use Rattle.bch_locator.proofs.mend.Statement.{statement}
 use Rattle.bch_locator.proofs.mend.Tie as tie
-use Rattle.bch_locator.proofs.mend.Reads as reads
-use Rattle.bch_locator.proofs.mend.Lts as lts
-use Rattle.bch_locator.proofs.mul.Reads as mul-reads
 
 abbrev Inv-loop : tie.InvT-loop
 Inv-loop c₀ q m b i₀ c i = (m ≤ i) × Mending c c₀ q m b i × (length c ≡ 13)

@@ -1,15 +1,11 @@
 -- `bch_locator::mul` meets its contract.
 -- Assumes nothing.
-use mathlib.Core.Path.{_≡_}
 use Prim.Native.Nat.{_-_}
 use native.Mathlib.Omega.{arith}
 use borrow.Author.Needs.{needs}
 use Rattle.bch_locator.proofs.Product.{Taken, taken-start, taken-again, taken-end, taken-fits, top-lt, product-lt}
 use Rattle.bch_locator.proofs.mul.Statement.{statement}
 use Rattle.bch_locator.proofs.mul.Tie as tie
-use Rattle.bch_locator.proofs.mul.Reads as reads
-use Rattle.bch_locator.proofs.mul.Lts as lts
-use Rattle.bch_locator.proofs.fold.Reads as fold-reads
 
 abbrev Inv-loop : tie.InvT-loop
 Inv-loop a b x₀ y₀ i₀ x y i = Taken a b x y i

@@ -4,12 +4,8 @@ use mathlib.Core.Path.{refl}
 use Prim.Native.Nat.{suc}
 use Rattle.laws.specs.Tests.{below}
 use Rattle.bch_locator.proofs.Raised.{powers-by}
-use borrow.Author.Needs.{needs}
-use native.Mathlib.Omega.{arith}
 use Rattle.bch_locator.proofs.place_powers.Statement.{statement}
 use Rattle.bch_locator.proofs.place_powers.Tie as tie
-use Rattle.bch_locator.proofs.place_powers.Reads as reads
-use Rattle.bch_locator.proofs.place_powers.Lts as lts
 
 returns : tie.Need-returns
 unfolding below

@@ -3,12 +3,8 @@
 use Prim.Native.Nat.{_-_}
 use Rattle.bch_locator.proofs.Search.{Reversing, reversing-start, reversing-again, reversing-end}
 use borrow.Author.Needs.{needs}
-use native.Mathlib.Omega.{arith}
 use Rattle.bch_locator.proofs.reversed.Statement.{statement}
 use Rattle.bch_locator.proofs.reversed.Tie as tie
-use Rattle.bch_locator.proofs.reversed.Reads as reads
-use Rattle.bch_locator.proofs.reversed.Lts as lts
-use Rattle.bch_locator.proofs.entry.Reads as entry-reads
 
 abbrev Inv-loop : tie.InvT-loop
 Inv-loop c len t₀ i₀ t i = Reversing t c len i

@@ -1,10 +1,8 @@
 -- `bch_locator::roots` meets its contract.
 -- Assumes nothing.
-use mathlib.Core.Path.{_≡_, refl, ap, sym, _∙_}
+use mathlib.Core.Path.{_≡_, refl}
 use mathlib.Core.Logic.{⊎-elim}
-use Prim.Native.Nat.{ℕ, suc, _-_, _≤_}
-use lib.ListN.{getD}
-use Rattle.bch_locator.specs.Element.{toEl, poly}
+use Prim.Native.Nat.{suc, _-_, _≤_}
 use Rattle.bch_locator.specs.Lanes.{PowersOf}
 use Rattle.bch_locator.specs.Places.{Places-of}
 use Rattle.bch_locator.proofs.Raised.{powers-small}
@@ -13,13 +11,6 @@ use borrow.Author.Needs.{needs}
 use native.Mathlib.Omega.{arith}
 use Rattle.bch_locator.proofs.roots.Statement.{statement}
 use Rattle.bch_locator.proofs.roots.Tie as tie
-use Rattle.bch_locator.proofs.roots.Reads as reads
-use Rattle.bch_locator.proofs.roots.Lts as lts
-use Rattle.bch_locator.proofs.entry.Reads as entry-reads
-use Rattle.bch_locator.proofs.lane_sum.Reads as lane-sum-reads
-use Rattle.bch_locator.proofs.place_powers.Reads as place-powers-reads
-use Rattle.bch_locator.proofs.reversed.Reads as reversed-reads
-use Rattle.bch_locator.proofs.times.Reads as times-reads
 
 abbrev Inv-loop : tie.InvT-loop
 Inv-loop c len n powers t₀ at₀ count₀ p₀ t at count p = (p ≤ n) × PowersOf powers suc × Terms t c len p × Places-of at count c len p

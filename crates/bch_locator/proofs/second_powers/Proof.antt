@@ -4,12 +4,9 @@ use mathlib.Core.Path.{refl}
 use Rattle.laws.specs.Tests.{below}
 use Rattle.bch_locator.specs.Syndromes.{second-part}
 use Rattle.bch_locator.proofs.Raised.{powers-by}
-use borrow.Author.Needs.{needs}
 use native.Mathlib.Omega.{arith}
 use Rattle.bch_locator.proofs.second_powers.Statement.{statement}
 use Rattle.bch_locator.proofs.second_powers.Tie as tie
-use Rattle.bch_locator.proofs.second_powers.Reads as reads
-use Rattle.bch_locator.proofs.second_powers.Lts as lts
 
 returns : tie.Need-returns
 unfolding below second-part

@@ -1,21 +1,12 @@
 -- `bch_locator::shortest` meets its contract.
 -- Assumes nothing.
-use mathlib.Core.Path.{_≡_, refl}
+use mathlib.Core.Path.{refl}
 use mathlib.Core.Logic.{⊎-elim}
-use mathlib.Core.List.{List, [], _∷_}
-use lib.ListN.{getD}
-use Prim.Native.Nat.{ℕ, zero, suc, _-_, _≤_}
+use Prim.Native.Nat.{_-_}
 use Rattle.bch_locator.proofs.Steps.{State, state-zero, state-keep, state-grow, state-fail, state-end, state-start, state-move, one-first, zeros-at}
 use borrow.Author.Needs.{needs}
-use native.Mathlib.Omega.{arith}
 use Rattle.bch_locator.proofs.shortest.Statement.{statement}
 use Rattle.bch_locator.proofs.shortest.Tie as tie
-use Rattle.bch_locator.proofs.shortest.Reads as reads
-use Rattle.bch_locator.proofs.shortest.Lts as lts
-use Rattle.bch_locator.proofs.discrepancy.Reads as discrepancy-reads
-use Rattle.bch_locator.proofs.inverse.Reads as inverse-reads
-use Rattle.bch_locator.proofs.mend.Reads as mend-reads
-use Rattle.bch_locator.proofs.mul.Reads as mul-reads
 
 abbrev Inv-loop : tie.InvT-loop
 Inv-loop s c₀ b₀ l₀ m₀ e₀ k₀ c b l m e k = State s c b l m e k

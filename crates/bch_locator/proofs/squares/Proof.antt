@@ -4,12 +4,8 @@ use mathlib.Core.Path.{refl}
 use Prim.Native.Nat.{_-_}
 use Rattle.bch_locator.proofs.Horner.{Squaring, squaring-start, squaring-again, squaring-end}
 use borrow.Author.Needs.{needs}
-use native.Mathlib.Omega.{arith}
 use Rattle.bch_locator.proofs.squares.Statement.{statement}
 use Rattle.bch_locator.proofs.squares.Tie as tie
-use Rattle.bch_locator.proofs.squares.Reads as reads
-use Rattle.bch_locator.proofs.squares.Lts as lts
-use Rattle.bch_locator.proofs.mul.Reads as mul-reads
 
 abbrev Inv-loop : tie.InvT-loop
 Inv-loop t s₀ k₀ s k = Squaring s t k

@@ -5,10 +5,6 @@ use Rattle.bch_locator.proofs.Filling.{zero-lanes}
 use Rattle.bch_locator.proofs.Horner.{joined-values, all-powers}
 use Rattle.bch_locator.proofs.syndromes.Statement.{statement}
 use Rattle.bch_locator.proofs.syndromes.Tie as tie
-use Rattle.bch_locator.proofs.syndromes.Reads as reads
-use Rattle.bch_locator.proofs.syndromes.Lts as lts
-use Rattle.bch_locator.proofs.digits.Reads as digits-reads
-use Rattle.bch_locator.proofs.squares.Reads as squares-reads
 
 digits-requires : tie.Need-digits-requires
 digits-requires c κs = zero-lanes

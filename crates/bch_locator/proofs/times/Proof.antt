@@ -6,9 +6,6 @@ use borrow.Author.Needs.{needs}
 use native.Mathlib.Omega.{arith}
 use Rattle.bch_locator.proofs.times.Statement.{statement}
 use Rattle.bch_locator.proofs.times.Tie as tie
-use Rattle.bch_locator.proofs.times.Reads as reads
-use Rattle.bch_locator.proofs.times.Lts as lts
-use Rattle.bch_locator.proofs.fold.Reads as fold-reads
 
 abbrev Inv-loop : tie.InvT-loop
 Inv-loop t p r₀ i₀ r i = Filling (At t p) r i
