@@ -2,21 +2,22 @@
 use mathlib.Core.Path.{_≡_, refl, sym, ap, subst, _∙_}
 use mathlib.Core.Bool.{Bool, true, false, cond}
 use mathlib.Core.List.{List}
-use Prim.Native.Nat.{ℕ, zero, suc, _+_, _*_, _/_, _%_, _≤_, _<_}
+use Prim.Native.Nat.{ℕ, zero, suc, _+_, _*_, _-_, _/_, _%_, _≤_, _<_}
 use native.Mathlib.Omega.{arith}
 use native.Mathlib.Nat.{div-add-mod', mod-lt, mul-le-mul-right}
 use borrow.Author.Tests.{ltb-true, ltb-false, lt-ltb, le-ltb, eqb-true, eqb-false, eq-eqb, ne-eqb}
 use lib.Dec.{ltb, eqb}
 use lib.ListN.{getD, length}
 use lib.IntN.{ℤ, pos, _+ℤ_, _-ℤ_}
+use Rattle.laws.specs.Signed.{negative}
 use Rattle.lane_math.specs.Value.{satZ}
 use Rattle.lane_math.specs.Check.{Word, check, message, put, wrote, tOf, newL, newR}
 use Rattle.lane_math.specs.Iteration.{unsatisfied, negatives, hard}
-use Rattle.lane_math.specs.Laws.{message-same, wrote-same, put-other}
-use Rattle.lane16.specs.Lanes.{n}
-use Rattle.simd.specs.Column.{column, Mapped}
+use Rattle.lane_math.specs.Laws.{message-same, wrote-same, put-same, put-other, parity, unsatisfied-is}
+use Rattle.lane16.specs.Lanes.{z}
+use Rattle.simd.specs.Column.{column, Stored, Mapped}
 use Rattle.simd.specs.Room.{var, Room}
-use Rattle.simd.specs.Pass.{tAt, written, checkColumn, messaged, messagesColumn}
+use Rattle.simd.specs.Pass.{tAt, written, checkColumn, messaged, messagesColumn, Signs}
 
 -- the first m of f, and 0 behind them
 unfoldable pub within : ℕ → (ℕ → ℤ) → ℕ → ℤ
@@ -263,3 +264,46 @@ module _ {rows : List ℕ} {s d n lanes : ℕ} {a : List ℤ} (r : Room rows s d
     where
       value-is : (k : ℕ) → k < d → column lanes a i (var rows (s + k)) ≡ word n (length rows) lanes a i .L (var rows (s + k))
       value-is k q = sym (within-at n (column lanes a i) (var rows (s + k)) (inside .0 k q))
+
+-- ---- the signs of the lanes below at are in a row of 64, the others are 0
+pub record Parities (v : ℕ → ℕ) (s lanes : ℕ) (a : List ℤ) (d at : ℕ) (g : List ℤ) : Type 0 where
+  pub done : (i : ℕ) → i < at → negative (column 64 g i 0) ≡ parity (λ e. column lanes a i (v (s + e))) d
+  pub none : (i : ℕ) → at ≤ i → i < 64 → column 64 g i 0 ≡ pos 0
+
+first-row : (g : List ℤ) (i : ℕ) → column 64 g i 0 ≡ z g i
+unfolding column
+first-row g i = let e : 0 * 64 + i ≡ i = omega arith in ap (λ (p : ℕ). getD g p (pos 0)) e
+
+pub parities-start : (v : ℕ → ℕ) (s lanes : ℕ) (a : List ℤ) (d : ℕ) (g : List ℤ) → ((k : ℕ) → k < 64 → z g k ≡ pos 0) → Parities v s lanes a d 0 g
+parities-start v s lanes a d g h = record { done = λ i q. absurd (omega (arith, q)); none = λ i q p. first-row g i ∙ h i p }
+
+pub parities-again : {v : ℕ → ℕ} {s lanes : ℕ} {a : List ℤ} {d at w : ℕ} {x g g′ : List ℤ} → w ≤ 16 → at + w ≤ 64 → Parities v s lanes a d at g → Signs v s lanes at a d x → Stored w 64 0 at x g g′ → Parities v s lanes a d (at + w) g′
+parities-again {v} {s} {lanes} {a} {d} {at} {w} {x} {g} {g′} narrow room c sx st =
+    record {
+      done = λ i q. grow i q (ltb i at) refl;
+      none = λ i q p. ap (λ (f : ℕ → ℤ). f 0) (st .outside i p (λ k b e. omega arith)) ∙ c .none i (omega arith) p;
+    }
+  where
+    grow : (i : ℕ) → i < at + w → (b : Bool) → ltb i at ≡ b → negative (column 64 g′ i 0) ≡ parity (λ e. column lanes a i (v (s + e))) d
+    grow i q true e =
+        let p : i < at = ltb-true i at e in
+        ap (λ (f : ℕ → ℤ). negative (f 0)) (st .outside i (omega arith) (λ k b y. omega arith)) ∙ c .done i p
+    grow i q false e =
+        let p : at ≤ i = ltb-false i at e in
+        let y : at + (i - at) ≡ i = omega arith in
+        subst (λ (j : ℕ). negative (column 64 g′ j 0) ≡ parity (λ e. column lanes a j (v (s + e))) d) y
+        (ap (λ (f : ℕ → ℤ). negative (f 0)) (st .inside (i - at) (omega arith))
+        ∙ ap negative (put-same (column 64 g (at + (i - at))) 0 (z x (i - at)))
+        ∙ sx .sign-is (i - at) (omega arith))
+
+pub parities-end : {rows : List ℕ} {s d n lanes at : ℕ} {a g : List ℤ} (b : List ℕ) → Room rows s d n lanes a → at ≡ lanes → Parities (var rows) s lanes a d at g → ((k : ℕ) → k < 64 → getD b k 0 ≡ hard (z g k)) → SignParity rows s d n lanes a b
+parities-end {rows} {s} {d} {n} {lanes} {at} {a} {g} b r e c h =
+    record {
+      bits =
+          λ i q. h i (omega (arith, r .few-lanes, q))
+          ∙ ap (λ (y : ℤ). hard y) (sym (first-row g i))
+          ∙ ap (λ (y : Bool). cond y 1 0) (c .done i (omega arith))
+          ∙ sym (unsatisfied-is (var rows) s d (column lanes a i))
+          ∙ sign-parity r i;
+      none = λ i q p. h i p ∙ ap (λ (y : ℤ). hard y) (sym (first-row g i) ∙ c .none i (omega arith) p);
+    }

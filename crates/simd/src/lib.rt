@@ -207,3 +207,124 @@ pub fn check_node(
         at += w;
     }
 }
+
+// The second pass of the layered schedule: each edge's t and old message go to their rows, then its new message; L is left.
+fn keep(
+    rows: &[u32],
+    s: usize,
+    d: usize,
+    a: &mut [i8],
+    t: &[i8],
+    n: usize,
+    lanes: usize,
+    at: usize,
+    w: usize,
+    sign: [i8; 16],
+    min1: [u8; 16],
+    m1: [i8; 16],
+    m2: [i8; 16],
+)
+    requires { ⌜ Room (now rows) s d n lanes (now a) ⌝ }
+    requires { ⌜ (at + w ≤ lanes) × (Width w × (2048 ≤ length (now t))) ⌝ }
+    requires { ⌜ NoneNegative m1 × NoneNegative m2 ⌝ }
+    ensures { λ _. ⌜ Kept w s n (length (now (rows .entry))) lanes at (now (t .entry)) sign min1 m1 m2 (now (a .entry)) d (now (a .exit)) ⌝ }
+{
+    let edges = rows.len();
+    let mut k: usize = 0;
+    while k < d {
+        let e = s + k;
+        let u = n + e;
+        let x = load(t, k, 16, 0);
+        let old = load(a, u, lanes, at);
+        let p = lane16::reply(x, sign, min1, m1, m2);
+        let m = p.m;
+        let tu = n + edges + e;
+        store_lanes(a, tu, lanes, at, x, w);
+        let ou = n + 2 * edges + e;
+        store_lanes(a, ou, lanes, at, old, w);
+        store_lanes(a, u, lanes, at, m, w);
+        k += 1;
+    }
+}
+
+fn messages_chunk(
+    rows: &[u32],
+    s: usize,
+    d: usize,
+    a: &mut [i8],
+    t: &mut [i8],
+    n: usize,
+    lanes: usize,
+    at: usize,
+    w: usize,
+    offset: i8,
+)
+    requires { ⌜ Room (now rows) s d n lanes (now a) ⌝ }
+    requires { ⌜ (at + w ≤ lanes) × (Width w × (2048 ≤ length (now t))) ⌝ }
+    ensures { λ _. ⌜ Part (messagesColumn offset (var (now (rows .entry))) s d n (length (now (rows .entry)))) w lanes at (now (a .entry)) (now (a .exit)) ⌝ }
+{
+    let pass = scan(rows, s, d, a, t, n, lanes, at);
+    let min1 = pass.min1;
+    let min2 = pass.min2;
+    let sign = pass.sign;
+    let m1 = lane16::reduce(min1, offset);
+    let m2 = lane16::reduce(min2, offset);
+    keep(rows, s, d, a, t, n, lanes, at, w, sign, min1, m1, m2);
+}
+
+// The messages of one check of every lane's word, for a run of the layered schedule.
+pub fn check_messages(
+    rows: &[u32],
+    s: usize,
+    d: usize,
+    a: &mut [i8],
+    t: &mut [i8],
+    n: usize,
+    lanes: usize,
+    offset: i8,
+)
+    requires { ⌜ Room (now rows) s d n lanes (now a) ⌝ }
+    requires { ⌜ 2048 ≤ length (now t) ⌝ }
+    ensures { λ _. ⌜ CheckMessages (now (rows .entry)) s d n lanes offset (now (a .entry)) (now (a .exit)) ⌝ }
+{
+    let mut at: usize = 0;
+    while at < lanes {
+        let w = width(lanes - at);
+        messages_chunk(rows, s, d, a, t, n, lanes, at, w, offset);
+        at += w;
+    }
+}
+
+// The signs of the products of a check's values, of the sixteen lanes from `at`.
+fn signs(rows: &[u32], s: usize, d: usize, a: &[i8], n: usize, lanes: usize, at: usize) -> [i8; 16]
+    requires { ⌜ Room (now rows) s d n lanes (now a) ⌝ }
+    requires { ⌜ at < lanes ⌝ }
+    ensures { λ r. ⌜ Signs (var (now (rows .entry))) s lanes at (now (a .entry)) d r ⌝ }
+{
+    let mut g: [i8; 16] = [0; 16];
+    let mut k: usize = 0;
+    while k < d {
+        let v = variable(rows, s + k);
+        let x = load(a, v, lanes, at);
+        let h = lane16::flip(g, x);
+        g = h;
+        k += 1;
+    }
+    g
+}
+
+// Which lanes have the check unsatisfied: 1 where an odd number of its values are negative.
+pub fn sign_parity(rows: &[u32], s: usize, d: usize, a: &[i8], n: usize, lanes: usize) -> [u8; 64]
+    requires { ⌜ Room (now rows) s d n lanes (now a) ⌝ }
+    ensures { λ r. ⌜ SignParity (now (rows .entry)) s d n lanes (now (a .entry)) r ⌝ }
+{
+    let mut g: [i8; 64] = [0; 64];
+    let mut at: usize = 0;
+    while at < lanes {
+        let w = width(lanes - at);
+        let x = signs(rows, s, d, a, n, lanes, at);
+        store_lanes(&mut g, 0, 64, at, x, w);
+        at += w;
+    }
+    lane16::bits(g)
+}
