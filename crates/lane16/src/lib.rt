@@ -1,14 +1,9 @@
 // Sixteen lanes by value: one fused loop for the scan of an edge and one for its answer.
 ghost use mathlib.Core.Path.{_≡_};
-ghost use mathlib.Core.Bool.{false};
-ghost use Prim.Native.Nat.{ℕ, _<_, min};
-ghost use lib.IntN.{pos};
-ghost use lib.ListN.{getD};
-ghost use lib.Signed.{ltZ};
+ghost use Prim.Native.Nat.{ℕ, _<_};
 ghost use Rattle.laws.specs.Signed.{negative, times};
-ghost use Rattle.lane_math.specs.Value.{reduced};
 ghost use Rattle.lane_math.specs.Iteration.{hard};
-ghost use Rattle.lane16.specs.Lanes.{z, n, Scanned, Answered};
+ghost use Rattle.lane16.specs.Lanes.{z, n, Scanned, Reduced, NoneNegative, Answered};
 
 // Where a pass over a check's edges stands: the two smallest magnitudes, the sign of the product, and the last edge's t.
 pub struct Pass {
@@ -47,7 +42,7 @@ pub fn scan(st: Pass, lv: [i8; 16], rv: [i8; 16]) -> Pass
 
 // Magnitudes less the offset.
 pub fn reduce(a: [u8; 16], offset: i8) -> [i8; 16]
-    ensures { λ r. ⌜ ((k : ℕ) → k < 16 → z r k ≡ reduced offset (min (n a k) 127)) ⌝ }
+    ensures { λ r. ⌜ Reduced offset a r ⌝ }
 {
     let mut v: [i8; 16] = [0; 16];
     let mut i: usize = 0;
@@ -65,8 +60,7 @@ pub struct Answer {
 }
 
 pub fn reply(t: [i8; 16], sign: [i8; 16], min1: [u8; 16], m1: [i8; 16], m2: [i8; 16]) -> Answer
-    requires { ⌜ ((k : ℕ) → k < 16 → ltZ (z m1 k) (pos 0) ≡ false) ⌝ }
-    requires { ⌜ ((k : ℕ) → k < 16 → ltZ (z m2 k) (pos 0) ≡ false) ⌝ }
+    requires { ⌜ NoneNegative m1 × NoneNegative m2 ⌝ }
     ensures { λ r. ⌜ Answered t sign min1 m1 m2 (r .m) (r .y) ⌝ }
 {
     let mut m: [i8; 16] = [0; 16];

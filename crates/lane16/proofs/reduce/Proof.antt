@@ -1,6 +1,6 @@
 use borrow.Author.Needs.{needs}
 use native.Mathlib.Omega.{arith}
-use mathlib.Core.Path.{_≡_, refl, ap, _∙_}
+use mathlib.Core.Path.{_≡_, refl, _∙_}
 use Prim.Native.Nat.{ℕ, _-_, _≤_, _<_, min}
 use lib.ListN.{length, length-set}
 use lib.IntN.{ℤ, pos}
@@ -9,7 +9,7 @@ use mir.Val.{toZ, ofZ}
 use borrow.Author.Needs.{sfits-of}
 use Rattle.laws.specs.Signed.{plain}
 use Rattle.lane_math.specs.Value.{reduced}
-use Rattle.lane16.specs.Lanes.{z, n}
+use Rattle.lane16.specs.Lanes.{z, n, reduced-to}
 use Rattle.lane16.specs.Grow.{grown}
 use Rattle.lane16.proofs.reduce.Statement.{statement}
 use Rattle.lane16.proofs.reduce.Tie as tie
@@ -52,9 +52,8 @@ loop-again c =
 
 returns : tie.Need-returns Inv-loop μ-loop
 returns c =
-    λ k q.
     let s = c .before .before in
-    c .before .loop .inv .1 .1 k (omega (arith, q)) ∙ ap (λ (o : ℤ). reduced o (min (n (s .args .t1) k) 127)) (plain (s .args .offset) (s .fits .offset))
+    reduced-to (plain (s .args .offset) (s .fits .offset)) (record { is = λ k q. c .before .loop .inv .1 .1 k (omega (arith, q)) })
 
 pub reduce-spec : {M : Type 1} → statement M
 reduce-spec =

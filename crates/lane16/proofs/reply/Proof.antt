@@ -50,8 +50,8 @@ reply-requires : tie.Need-reply-requires Inv-loop μ-loop
 reply-requires c κs =
     let h = c .before .before .before .before .before in
     let s = h .before in (
-      rw (plain (z (s .args .t4) (h .loop .i)) (sfits-of (c .before .reply-arg2 .given))) (s .pre .0 (h .loop .i) (omega arith)),
-      rw (plain (z (s .args .t5) (h .loop .i)) (sfits-of (c .reply-arg3 .given))) (s .pre .1 (h .loop .i) (omega arith)),
+      rw (plain (z (s .args .t4) (h .loop .i)) (sfits-of (c .before .reply-arg2 .given))) (s .pre .0 .is (h .loop .i) (omega arith)),
+      rw (plain (z (s .args .t5) (h .loop .i)) (sfits-of (c .reply-arg3 .given))) (s .pre .1 .is (h .loop .i) (omega arith)),
     )
 
 array-set-from-m : tie.Need-array-set-from-m Inv-loop μ-loop
