@@ -4,3 +4,4 @@ pub mod Tests
 pub mod Poly
 pub mod Signed
 pub mod Lists
+pub mod Modulo
