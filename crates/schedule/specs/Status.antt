@@ -1,0 +1,69 @@
+-- What a run's last state says of each word: "A word waits until a lane takes it, is held until it leaves, and is then finished" (01, "A word alone").
+use mathlib.Core.Bool.{cond}
+use mathlib.Core.List.{List, [], _∷_, _++_}
+use Prim.Native.Nat.{ℕ, zero, suc, _+_, max}
+use lib.Dec.{eqb}
+use Rattle.laws.specs.Choice.{same}
+use Rattle.schedule.specs.Run.{Lane, empty, holds, Left, Stock, State}
+
+pub data Status (X : Type 0) : Type 0 where
+  waiting : Status X
+  holding done : X → ℕ → Status X
+
+module _ {X : Type 0} where
+  -- a word's iterations
+  abbrev pub spent : Status X → ℕ
+  spent waiting = 0
+  spent (holding x i) = i
+  spent (done x i) = i
+
+  -- the words in lanes, the words that have left, the words that wait, each with its status
+  unfoldable pub lane-words : List (Lane X) → List (ℕ × Status X)
+  lane-words [] = []
+  lane-words (empty ∷ ls) = lane-words ls
+  lane-words (holds w x i ∷ ls) = (w, holding x i) ∷ lane-words ls
+
+  unfoldable pub log-words : List (Left X) → List (ℕ × Status X)
+  log-words [] = []
+  log-words (e ∷ es) = (e .word, done (e .values) (e .iterations)) ∷ log-words es
+
+  unfoldable pub queue-words : List ℕ → List (ℕ × Status X)
+  queue-words [] = []
+  queue-words (w ∷ ws) = (w, waiting) ∷ queue-words ws
+
+  unfoldable pub all-words : State X → List (ℕ × Status X)
+  all-words s = lane-words (s .lanes) ++ (log-words (s .stock .log) ++ queue-words (s .stock .queue))
+
+  -- the status of the word v: what stands beside it
+  unfoldable pub seek : ℕ → List (ℕ × Status X) → Status X
+  seek v [] = waiting
+  seek v (e ∷ es) = cond (eqb v (e .0)) (e .1) (seek v es)
+
+  unfoldable pub status : State X → ℕ → Status X
+  status s v = seek v (all-words s)
+
+  -- how often the word v stands there
+  unfoldable pub times : ℕ → List (ℕ × Status X) → ℕ
+  times v [] = 0
+  times v (e ∷ es) = same v (e .0) + times v es
+
+-- ---- numbers over a list of words
+unfoldable pub count : ℕ → List ℕ → ℕ
+count v [] = 0
+count v (w ∷ ws) = same v w + count v ws
+
+unfoldable pub sum : (ℕ → ℕ) → List ℕ → ℕ
+sum f [] = 0
+sum f (w ∷ ws) = f w + sum f ws
+
+unfoldable pub largest : (ℕ → ℕ) → List ℕ → ℕ
+largest f [] = 0
+largest f (w ∷ ws) = max (f w) (largest f ws)
+
+-- "iterations given are their sum over all words, and the longest word's is the largest of them"
+module _ {X : Type 0} (order : List ℕ) (s : State X) where
+  unfoldable pub given : ℕ
+  given = sum (λ w. spent (status s w)) order
+
+  unfoldable pub longest : ℕ
+  longest = largest (λ w. spent (status s w)) order
