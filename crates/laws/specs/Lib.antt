@@ -2,4 +2,7 @@
 pub mod Xor
 pub mod Tests
 pub mod Poly
+pub mod Signed
+pub mod Lists
+pub mod Modulo
 pub mod Choice
