@@ -208,7 +208,8 @@ pub fn check_node(
     }
 }
 
-// The second pass of the layered schedule: each edge's t and old message go to their rows, then its new message; L is left.
+// The second pass of the layered schedule: each edge's t and old message go to the rows of the run's edges, from `place` on, then its new
+// message to its own; L is left.
 fn keep(
     rows: &[u32],
     s: usize,
@@ -219,6 +220,7 @@ fn keep(
     lanes: usize,
     at: usize,
     w: usize,
+    place: usize,
     sign: [i8; 16],
     min1: [u8; 16],
     m1: [i8; 16],
@@ -226,8 +228,9 @@ fn keep(
 )
     requires { ⌜ Room (now rows) s d n lanes (now a) ⌝ }
     requires { ⌜ (at + w ≤ lanes) × (Width w × (2048 ≤ length (now t))) ⌝ }
+    requires { ⌜ place + d ≤ length (now rows) ⌝ }
     requires { ⌜ NoneNegative m1 × NoneNegative m2 ⌝ }
-    ensures { λ _. ⌜ Kept w s n (length (now (rows .entry))) lanes at (now (t .entry)) sign min1 m1 m2 (now (a .entry)) d (now (a .exit)) ⌝ }
+    ensures { λ _. ⌜ Kept w s n (length (now (rows .entry))) place lanes at (now (t .entry)) sign min1 m1 m2 (now (a .entry)) d (now (a .exit)) ⌝ }
 {
     let edges = rows.len();
     let mut k: usize = 0;
@@ -238,9 +241,10 @@ fn keep(
         let old = load(a, u, lanes, at);
         let p = lane16::reply(x, sign, min1, m1, m2);
         let m = p.m;
-        let tu = n + edges + e;
+        let f = place + k;
+        let tu = n + edges + f;
         store_lanes(a, tu, lanes, at, x, w);
-        let ou = n + 2 * edges + e;
+        let ou = n + 2 * edges + f;
         store_lanes(a, ou, lanes, at, old, w);
         store_lanes(a, u, lanes, at, m, w);
         k += 1;
@@ -257,11 +261,13 @@ fn messages_chunk(
     lanes: usize,
     at: usize,
     w: usize,
+    place: usize,
     offset: i8,
 )
     requires { ⌜ Room (now rows) s d n lanes (now a) ⌝ }
     requires { ⌜ (at + w ≤ lanes) × (Width w × (2048 ≤ length (now t))) ⌝ }
-    ensures { λ _. ⌜ Part (messagesColumn offset (var (now (rows .entry))) s d n (length (now (rows .entry)))) w lanes at (now (a .entry)) (now (a .exit)) ⌝ }
+    requires { ⌜ place + d ≤ length (now rows) ⌝ }
+    ensures { λ _. ⌜ Part (messagesColumn offset (var (now (rows .entry))) s d n (length (now (rows .entry))) place) w lanes at (now (a .entry)) (now (a .exit)) ⌝ }
 {
     let pass = scan(rows, s, d, a, t, n, lanes, at);
     let min1 = pass.min1;
@@ -269,10 +275,11 @@ fn messages_chunk(
     let sign = pass.sign;
     let m1 = lane16::reduce(min1, offset);
     let m2 = lane16::reduce(min2, offset);
-    keep(rows, s, d, a, t, n, lanes, at, w, sign, min1, m1, m2);
+    keep(rows, s, d, a, t, n, lanes, at, w, place, sign, min1, m1, m2);
 }
 
-// The messages of one check of every lane's word, for a run of the layered schedule.
+// The messages of one check of every lane's word, for a run of the layered schedule. Its edge k's t and old message go to the rows
+// n + E + place + k and n + 2E + place + k.
 pub fn check_messages(
     rows: &[u32],
     s: usize,
@@ -281,16 +288,17 @@ pub fn check_messages(
     t: &mut [i8],
     n: usize,
     lanes: usize,
+    place: usize,
     offset: i8,
 )
     requires { ⌜ Room (now rows) s d n lanes (now a) ⌝ }
-    requires { ⌜ 2048 ≤ length (now t) ⌝ }
-    ensures { λ _. ⌜ CheckMessages (now (rows .entry)) s d n lanes offset (now (a .entry)) (now (a .exit)) ⌝ }
+    requires { ⌜ (2048 ≤ length (now t)) × (place + d ≤ length (now rows)) ⌝ }
+    ensures { λ _. ⌜ CheckMessages (now (rows .entry)) s d n lanes place offset (now (a .entry)) (now (a .exit)) ⌝ }
 {
     let mut at: usize = 0;
     while at < lanes {
         let w = width(lanes - at);
-        messages_chunk(rows, s, d, a, t, n, lanes, at, w, offset);
+        messages_chunk(rows, s, d, a, t, n, lanes, at, w, place, offset);
         at += w;
     }
 }
