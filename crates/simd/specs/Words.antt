@@ -9,13 +9,13 @@ use borrow.Author.Tests.{ltb-true, ltb-false, lt-ltb, le-ltb, eqb-true, eqb-fals
 use lib.Dec.{ltb, eqb}
 use lib.ListN.{getD, length}
 use lib.IntN.{ℤ, pos, _+ℤ_, _-ℤ_}
-use Rattle.laws.specs.Signed.{negative}
+use Rattle.laws.specs.Signed.{negative, times}
 use Rattle.lane_math.specs.Value.{satZ}
 use Rattle.lane_math.specs.Check.{Word, check, message, put, wrote, tOf, newL, newR}
 use Rattle.lane_math.specs.Iteration.{unsatisfied, negatives, hard}
-use Rattle.lane_math.specs.Laws.{message-same, wrote-same, put-same, put-other, parity, unsatisfied-is}
-use Rattle.lane16.specs.Lanes.{z}
-use Rattle.simd.specs.Column.{column, Stored, Mapped}
+use Rattle.lane_math.specs.Laws.{message-same, wrote-same, put-other, parity, unsatisfied-is}
+use Rattle.lane16.specs.Lanes.{z, Decided}
+use Rattle.simd.specs.Column.{column, Mapped}
 use Rattle.simd.specs.Room.{var, Room}
 use Rattle.simd.specs.Pass.{tAt, written, checkColumn, messaged, messagesColumn, Signs}
 
@@ -34,13 +34,13 @@ pub record CheckNode (rows : List ℕ) (s d n lanes : ℕ) (o : ℤ) (a a′ : L
   pub words : (i : ℕ) → i < lanes → word n (length rows) lanes a′ i ≡ check o (var rows) s d (word n (length rows) lanes a i)
   pub rest : (i : ℕ) → i < lanes → (u : ℕ) → n + length rows ≤ u → column lanes a′ i u ≡ column lanes a i u
 
--- A check's messages for the layered schedule: the values are only read; its edges' t and old messages are in their rows, where
--- the other edges' are as they were; so is all behind them.
-pub record CheckMessages (rows : List ℕ) (s d n lanes : ℕ) (o : ℤ) (a a′ : List ℤ) : Type 0 where
+-- A check's messages for the layered schedule: the values are only read; its edges' t and old messages stand among the run's from
+-- `place` on, where the others are as they were; so is all behind them.
+pub record CheckMessages (rows : List ℕ) (s d n lanes place : ℕ) (o : ℤ) (a a′ : List ℤ) : Type 0 where
   pub values : (i : ℕ) → i < lanes → word n (length rows) lanes a′ i .L ≡ word n (length rows) lanes a i .L
   pub messages : (i : ℕ) → i < lanes → word n (length rows) lanes a′ i .r ≡ newR o (var rows) s d (word n (length rows) lanes a i .L) (word n (length rows) lanes a i .r)
-  pub t-rows : (i : ℕ) → i < lanes → (e : ℕ) → e < length rows → column lanes a′ i (n + length rows + e) ≡ wrote (λ k. s + k) (tOf (var rows) s (word n (length rows) lanes a i .L) (word n (length rows) lanes a i .r)) (λ e. column lanes a i (n + length rows + e)) d e
-  pub old-rows : (i : ℕ) → i < lanes → (e : ℕ) → e < length rows → column lanes a′ i (n + 2 * length rows + e) ≡ wrote (λ k. s + k) (λ k. word n (length rows) lanes a i .r (s + k)) (λ e. column lanes a i (n + 2 * length rows + e)) d e
+  pub t-rows : (i : ℕ) → i < lanes → (e : ℕ) → e < length rows → column lanes a′ i (n + length rows + e) ≡ wrote (λ k. place + k) (tOf (var rows) s (word n (length rows) lanes a i .L) (word n (length rows) lanes a i .r)) (λ e. column lanes a i (n + length rows + e)) d e
+  pub old-rows : (i : ℕ) → i < lanes → (e : ℕ) → e < length rows → column lanes a′ i (n + 2 * length rows + e) ≡ wrote (λ k. place + k) (λ k. word n (length rows) lanes a i .r (s + k)) (λ e. column lanes a i (n + 2 * length rows + e)) d e
   pub rest : (i : ℕ) → i < lanes → (u : ℕ) → n + 3 * length rows ≤ u → column lanes a′ i u ≡ column lanes a i u
 
 -- Which of 64 lanes have the check unsatisfied; none past the last lane.
@@ -174,41 +174,41 @@ unfolding negatives
 negatives-same v s zero f g h = refl
 negatives-same v s (suc d) f g h = λ i. negatives-same v s d f g (λ k q. h k (omega arith)) i + hard (h d (omega arith) i)
 
-module _ (n E s : ℕ) where
-  word-messaged : (t m f : ℕ → ℤ) (d : ℕ) → s + d ≤ E → wordOf n E (messaged n E s t m f d) ≡ record { L = wordOf n E f .L; r = wrote (λ k. s + k) m (wordOf n E f .r) d }
+module _ (n E s p : ℕ) where
+  word-messaged : (t m f : ℕ → ℤ) (d : ℕ) → (s + d ≤ E) × (p + d ≤ E) → wordOf n E (messaged n E s p t m f d) ≡ record { L = wordOf n E f .L; r = wrote (λ k. s + k) m (wordOf n E f .r) d }
   unfolding messaged wrote
   word-messaged t m f zero h = refl
   word-messaged t m f (suc d) h =
-      message-put n E (put (put (messaged n E s t m f d) (n + E + (s + d)) (t d)) (n + 2 * E + (s + d)) (f (n + (s + d)))) (s + d) (m d) (omega arith)
+      message-put n E (put (put (messaged n E s p t m f d) (n + E + (p + d)) (t d)) (n + 2 * E + (p + d)) (f (n + (s + d)))) (s + d) (m d) (omega arith)
       ∙ ap (λ (w : Word). record { L = w .L; r = put (w .r) (s + d) (m d) })
-      (behind-put n E (put (messaged n E s t m f d) (n + E + (s + d)) (t d)) (n + 2 * E + (s + d)) (f (n + (s + d))) (omega arith)
-      ∙ behind-put n E (messaged n E s t m f d) (n + E + (s + d)) (t d) (omega arith)
-      ∙ word-messaged t m f d (omega arith))
+      (behind-put n E (put (messaged n E s p t m f d) (n + E + (p + d)) (t d)) (n + 2 * E + (p + d)) (f (n + (s + d))) (omega arith)
+      ∙ behind-put n E (messaged n E s p t m f d) (n + E + (p + d)) (t d) (omega arith)
+      ∙ word-messaged t m f d (omega (arith, h .0), omega (arith, h .1)))
 
-  t-messaged : (t m f : ℕ → ℤ) (d : ℕ) → s + d ≤ E → (e : ℕ) → e < E → messaged n E s t m f d (n + E + e) ≡ wrote (λ k. s + k) t (λ e. f (n + E + e)) d e
+  t-messaged : (t m f : ℕ → ℤ) (d : ℕ) → (s + d ≤ E) × (p + d ≤ E) → (e : ℕ) → e < E → messaged n E s p t m f d (n + E + e) ≡ wrote (λ k. p + k) t (λ e. f (n + E + e)) d e
   unfolding messaged wrote
   t-messaged t m f zero h e q = refl
   t-messaged t m f (suc d) h e q =
-      put-other (put (put (messaged n E s t m f d) (n + E + (s + d)) (t d)) (n + 2 * E + (s + d)) (f (n + (s + d)))) (n + (s + d)) (m d) (n + E + e) (λ k. omega arith)
-      ∙ put-other (put (messaged n E s t m f d) (n + E + (s + d)) (t d)) (n + 2 * E + (s + d)) (f (n + (s + d))) (n + E + e) (λ k. omega arith)
-      ∙ put-both (messaged n E s t m f d) (n + E) (s + d) (t d) e (wrote (λ k. s + k) t (λ e. f (n + E + e)) d) (t-messaged t m f d (omega arith) e q)
+      put-other (put (put (messaged n E s p t m f d) (n + E + (p + d)) (t d)) (n + 2 * E + (p + d)) (f (n + (s + d)))) (n + (s + d)) (m d) (n + E + e) (λ k. omega arith)
+      ∙ put-other (put (messaged n E s p t m f d) (n + E + (p + d)) (t d)) (n + 2 * E + (p + d)) (f (n + (s + d))) (n + E + e) (λ k. omega arith)
+      ∙ put-both (messaged n E s p t m f d) (n + E) (p + d) (t d) e (wrote (λ k. p + k) t (λ e. f (n + E + e)) d) (t-messaged t m f d (omega (arith, h .0), omega (arith, h .1)) e q)
 
-  old-messaged : (t m f : ℕ → ℤ) (d : ℕ) → s + d ≤ E → (e : ℕ) → e < E → messaged n E s t m f d (n + 2 * E + e) ≡ wrote (λ k. s + k) (λ k. f (n + (s + k))) (λ e. f (n + 2 * E + e)) d e
+  old-messaged : (t m f : ℕ → ℤ) (d : ℕ) → (s + d ≤ E) × (p + d ≤ E) → (e : ℕ) → e < E → messaged n E s p t m f d (n + 2 * E + e) ≡ wrote (λ k. p + k) (λ k. f (n + (s + k))) (λ e. f (n + 2 * E + e)) d e
   unfolding messaged wrote
   old-messaged t m f zero h e q = refl
   old-messaged t m f (suc d) h e q =
-      put-other (put (put (messaged n E s t m f d) (n + E + (s + d)) (t d)) (n + 2 * E + (s + d)) (f (n + (s + d)))) (n + (s + d)) (m d) (n + 2 * E + e) (λ k. omega arith)
-      ∙ put-both (put (messaged n E s t m f d) (n + E + (s + d)) (t d)) (n + 2 * E) (s + d) (f (n + (s + d))) e (wrote (λ k. s + k) (λ k. f (n + (s + k))) (λ e. f (n + 2 * E + e)) d)
-      (put-other (messaged n E s t m f d) (n + E + (s + d)) (t d) (n + 2 * E + e) (λ k. omega arith) ∙ old-messaged t m f d (omega arith) e q)
+      put-other (put (put (messaged n E s p t m f d) (n + E + (p + d)) (t d)) (n + 2 * E + (p + d)) (f (n + (s + d)))) (n + (s + d)) (m d) (n + 2 * E + e) (λ k. omega arith)
+      ∙ put-both (put (messaged n E s p t m f d) (n + E + (p + d)) (t d)) (n + 2 * E) (p + d) (f (n + (s + d))) e (wrote (λ k. p + k) (λ k. f (n + (s + k))) (λ e. f (n + 2 * E + e)) d)
+      (put-other (messaged n E s p t m f d) (n + E + (p + d)) (t d) (n + 2 * E + e) (λ k. omega arith) ∙ old-messaged t m f d (omega (arith, h .0), omega (arith, h .1)) e q)
 
-  messaged-rest : (t m f : ℕ → ℤ) (d : ℕ) → s + d ≤ E → (u : ℕ) → n + 3 * E ≤ u → messaged n E s t m f d u ≡ f u
+  messaged-rest : (t m f : ℕ → ℤ) (d : ℕ) → (s + d ≤ E) × (p + d ≤ E) → (u : ℕ) → n + 3 * E ≤ u → messaged n E s p t m f d u ≡ f u
   unfolding messaged
   messaged-rest t m f zero h u q = refl
   messaged-rest t m f (suc d) h u q =
-      put-other (put (put (messaged n E s t m f d) (n + E + (s + d)) (t d)) (n + 2 * E + (s + d)) (f (n + (s + d)))) (n + (s + d)) (m d) u (λ k. omega arith)
-      ∙ put-other (put (messaged n E s t m f d) (n + E + (s + d)) (t d)) (n + 2 * E + (s + d)) (f (n + (s + d))) u (λ k. omega arith)
-      ∙ put-other (messaged n E s t m f d) (n + E + (s + d)) (t d) u (λ k. omega arith)
-      ∙ messaged-rest t m f d (omega arith) u q
+      put-other (put (put (messaged n E s p t m f d) (n + E + (p + d)) (t d)) (n + 2 * E + (p + d)) (f (n + (s + d)))) (n + (s + d)) (m d) u (λ k. omega arith)
+      ∙ put-other (put (messaged n E s p t m f d) (n + E + (p + d)) (t d)) (n + 2 * E + (p + d)) (f (n + (s + d))) u (λ k. omega arith)
+      ∙ put-other (messaged n E s p t m f d) (n + E + (p + d)) (t d) u (λ k. omega arith)
+      ∙ messaged-rest t m f d (omega (arith, h .0), omega (arith, h .1)) u q
 
 -- ---- the laws of the code's columns
 module _ {rows : List ℕ} {s d n lanes : ℕ} {a : List ℤ} (r : Room rows s d n lanes a) where
@@ -222,21 +222,21 @@ module _ {rows : List ℕ} {s d n lanes : ℕ} {a : List ℤ} (r : Room rows s d
         rest = λ i q u p. ap (λ (f : ℕ → ℤ). f u) (h i q) ∙ check-rest n (length rows) (var rows) s o (column lanes a i) d inside u p;
       }
 
-  pub check-messages : {o : ℤ} {a′ : List ℤ} → Mapped (messagesColumn o (var rows) s d n (length rows)) lanes a a′ → CheckMessages rows s d n lanes o a a′
+  pub check-messages : {place : ℕ} {o : ℤ} {a′ : List ℤ} → place + d ≤ length rows → Mapped (messagesColumn o (var rows) s d n (length rows) place) lanes a a′ → CheckMessages rows s d n lanes place o a a′
   unfolding messagesColumn newR wordOf
-  check-messages {o} {a′} h =
+  check-messages {place} {o} {a′} room h =
       record {
         values = λ i q. ap (λ (w : Word). w .L) (word-is i q);
         messages = λ i q. ap (λ (w : Word). w .r) (word-is i q);
         t-rows =
             λ i q e p. ap (λ (f : ℕ → ℤ). f (n + length rows + e)) (h i q)
-            ∙ t-messaged n (length rows) s (t i) (message o (t i) d) (column lanes a i) d (r .edges) e p
-            ∙ ap (λ (f : ℕ → ℤ). f e) (wrote-same (λ k. s + k) (t i) (t′ i) (λ e. column lanes a i (n + length rows + e)) d (λ k b. t-same n (length rows) (var rows) s (column lanes a i) d inside k b));
+            ∙ t-messaged n (length rows) s place (t i) (message o (t i) d) (column lanes a i) d (r .edges, room) e p
+            ∙ ap (λ (f : ℕ → ℤ). f e) (wrote-same (λ k. place + k) (t i) (t′ i) (λ e. column lanes a i (n + length rows + e)) d (λ k b. t-same n (length rows) (var rows) s (column lanes a i) d inside k b));
         old-rows =
             λ i q e p. ap (λ (f : ℕ → ℤ). f (n + 2 * length rows + e)) (h i q)
-            ∙ old-messaged n (length rows) s (t i) (message o (t i) d) (column lanes a i) d (r .edges) e p
-            ∙ ap (λ (f : ℕ → ℤ). f e) (wrote-same (λ k. s + k) _ _ (λ e. column lanes a i (n + 2 * length rows + e)) d (λ k b. old-same i k b));
-        rest = λ i q u p. ap (λ (f : ℕ → ℤ). f u) (h i q) ∙ messaged-rest n (length rows) s (t i) (message o (t i) d) (column lanes a i) d (r .edges) u p;
+            ∙ old-messaged n (length rows) s place (t i) (message o (t i) d) (column lanes a i) d (r .edges, room) e p
+            ∙ ap (λ (f : ℕ → ℤ). f e) (wrote-same (λ k. place + k) _ _ (λ e. column lanes a i (n + 2 * length rows + e)) d (λ k b. old-same i k b));
+        rest = λ i q u p. ap (λ (f : ℕ → ℤ). f u) (h i q) ∙ messaged-rest n (length rows) s place (t i) (message o (t i) d) (column lanes a i) d (r .edges, room) u p;
       }
     where
       t : ℕ → ℕ → ℤ
@@ -248,7 +248,7 @@ module _ {rows : List ℕ} {s d n lanes : ℕ} {a : List ℤ} (r : Room rows s d
       word-is : (i : ℕ) → i < lanes → word n (length rows) lanes a′ i ≡ record { L = word n (length rows) lanes a i .L; r = wrote (λ k. s + k) (message o (t′ i) d) (word n (length rows) lanes a i .r) d }
       word-is i q =
           ap (wordOf n (length rows)) (h i q)
-          ∙ word-messaged n (length rows) s (t i) (message o (t i) d) (column lanes a i) d (r .edges)
+          ∙ word-messaged n (length rows) s place (t i) (message o (t i) d) (column lanes a i) d (r .edges, room)
           ∙ (λ j. record {
             L = word n (length rows) lanes a i .L;
             r = wrote-same (λ k. s + k) _ _ (word n (length rows) lanes a i .r) d (λ k b. message-is n (length rows) (var rows) s o (column lanes a i) d inside k) j;
@@ -265,45 +265,39 @@ module _ {rows : List ℕ} {s d n lanes : ℕ} {a : List ℤ} (r : Room rows s d
       value-is : (k : ℕ) → k < d → column lanes a i (var rows (s + k)) ≡ word n (length rows) lanes a i .L (var rows (s + k))
       value-is k q = sym (within-at n (column lanes a i) (var rows (s + k)) (inside .0 k q))
 
--- ---- the signs of the lanes below at are in a row of 64, the others are 0
-pub record Parities (v : ℕ → ℕ) (s lanes : ℕ) (a : List ℤ) (d at : ℕ) (g : List ℤ) : Type 0 where
-  pub done : (i : ℕ) → i < at → negative (column 64 g i 0) ≡ parity (λ e. column lanes a i (v (s + e))) d
-  pub none : (i : ℕ) → at ≤ i → i < 64 → column 64 g i 0 ≡ pos 0
+-- ---- the signs of the first m of 64 lanes, the others 0
+pub record Parities (v : ℕ → ℕ) (s lanes : ℕ) (a : List ℤ) (d m : ℕ) (g : List ℤ) : Type 0 where
+  pub done : (i : ℕ) → i < m → negative (z g i) ≡ parity (λ e. column lanes a i (v (s + e))) d
+  pub none : (i : ℕ) → m ≤ i → i < 64 → z g i ≡ pos 0
 
-first-row : (g : List ℤ) (i : ℕ) → column 64 g i 0 ≡ z g i
-unfolding column
-first-row g i = let e : 0 * 64 + i ≡ i = omega arith in ap (λ (p : ℕ). getD g p (pos 0)) e
+pub parities-start : (v : ℕ → ℕ) (s lanes : ℕ) (a : List ℤ) (d : ℕ) (g : List ℤ) → ((k : ℕ) → k < 64 → z g k ≡ pos 0) → Parities v s lanes a d (0 * 16) g
+parities-start v s lanes a d g h = record { done = λ i q. absurd (omega (arith, q)); none = λ i q p. h i p }
 
-pub parities-start : (v : ℕ → ℕ) (s lanes : ℕ) (a : List ℤ) (d : ℕ) (g : List ℤ) → ((k : ℕ) → k < 64 → z g k ≡ pos 0) → Parities v s lanes a d 0 g
-parities-start v s lanes a d g h = record { done = λ i q. absurd (omega (arith, q)); none = λ i q p. first-row g i ∙ h i p }
-
-pub parities-again : {v : ℕ → ℕ} {s lanes : ℕ} {a : List ℤ} {d at w : ℕ} {x g g′ : List ℤ} → w ≤ 16 → at + w ≤ 64 → Parities v s lanes a d at g → Signs v s lanes at a d x → Stored w 64 0 at x g g′ → Parities v s lanes a d (at + w) g′
-parities-again {v} {s} {lanes} {a} {d} {at} {w} {x} {g} {g′} narrow room c sx st =
+pub parities-again : {v : ℕ → ℕ} {s lanes : ℕ} {a : List ℤ} {d : ℕ} {g g′ : List ℤ} (j : ℕ) → j < 4 → Parities v s lanes a d (j * 16) g → Signs v s lanes (j * 16) a g d g′ → Parities v s lanes a d ((j + 1) * 16) g′
+parities-again {v} {s} {lanes} {a} {d} {g} {g′} j few c sx =
     record {
-      done = λ i q. grow i q (ltb i at) refl;
-      none = λ i q p. ap (λ (f : ℕ → ℤ). f 0) (st .outside i p (λ k b e. omega arith)) ∙ c .none i (omega arith) p;
+      done = λ i q. grow i q (ltb i (j * 16)) refl;
+      none = λ i q p. sx .outside i (λ k b e. omega arith) ∙ c .none i (omega arith) p;
     }
   where
-    grow : (i : ℕ) → i < at + w → (b : Bool) → ltb i at ≡ b → negative (column 64 g′ i 0) ≡ parity (λ e. column lanes a i (v (s + e))) d
+    grow : (i : ℕ) → i < (j + 1) * 16 → (b : Bool) → ltb i (j * 16) ≡ b → negative (z g′ i) ≡ parity (λ e. column lanes a i (v (s + e))) d
     grow i q true e =
-        let p : i < at = ltb-true i at e in
-        ap (λ (f : ℕ → ℤ). negative (f 0)) (st .outside i (omega arith) (λ k b y. omega arith)) ∙ c .done i p
+        let p : i < j * 16 = ltb-true i (j * 16) e in
+        ap negative (sx .outside i (λ k b y. omega arith)) ∙ c .done i p
     grow i q false e =
-        let p : at ≤ i = ltb-false i at e in
-        let y : at + (i - at) ≡ i = omega arith in
-        subst (λ (j : ℕ). negative (column 64 g′ j 0) ≡ parity (λ e. column lanes a j (v (s + e))) d) y
-        (ap (λ (f : ℕ → ℤ). negative (f 0)) (st .inside (i - at) (omega arith))
-        ∙ ap negative (put-same (column 64 g (at + (i - at))) 0 (z x (i - at)))
-        ∙ sx .sign-is (i - at) (omega arith))
+        let p : j * 16 ≤ i = ltb-false i (j * 16) e in
+        let y : j * 16 + (i - j * 16) ≡ i = omega arith in
+        subst (λ (l : ℕ). negative (z g′ l) ≡ parity (λ e. column lanes a l (v (s + e))) d) y
+        (sx .inside (i - j * 16) (omega arith)
+        ∙ ap (λ (x : ℤ). times (negative x) (parity (λ e. column lanes a (j * 16 + (i - j * 16)) (v (s + e))) d)) (c .none (j * 16 + (i - j * 16)) (omega arith) (omega arith)))
 
-pub parities-end : {rows : List ℕ} {s d n lanes at : ℕ} {a g : List ℤ} (b : List ℕ) → Room rows s d n lanes a → at ≡ lanes → Parities (var rows) s lanes a d at g → ((k : ℕ) → k < 64 → getD b k 0 ≡ hard (z g k)) → SignParity rows s d n lanes a b
-parities-end {rows} {s} {d} {n} {lanes} {at} {a} {g} b r e c h =
+pub parities-end : {rows : List ℕ} {s d n lanes m : ℕ} {a g : List ℤ} {b : List ℕ} → Room rows s d n lanes a → lanes ≤ m → Parities (var rows) s lanes a d m g → Decided lanes g b → SignParity rows s d n lanes a b
+parities-end {rows} {s} {d} {n} {lanes} {m} {a} {g} {b} r e c h =
     record {
       bits =
-          λ i q. h i (omega (arith, r .few-lanes, q))
-          ∙ ap (λ (y : ℤ). hard y) (sym (first-row g i))
+          λ i q. h .is i q
           ∙ ap (λ (y : Bool). cond y 1 0) (c .done i (omega arith))
           ∙ sym (unsatisfied-is (var rows) s d (column lanes a i))
           ∙ sign-parity r i;
-      none = λ i q p. h i p ∙ ap (λ (y : ℤ). hard y) (sym (first-row g i) ∙ c .none i (omega arith) p);
+      none = h .none;
     }

@@ -9,7 +9,7 @@ ghost use lib.ListN.{length};
 ghost use Rattle.lane16.specs.Lanes.{z, NoneNegative};
 ghost use Rattle.simd.specs.Column.{column, Stored, Part};
 ghost use Rattle.simd.specs.Room.{var, Room, Width};
-ghost use Rattle.simd.specs.Pass.{Scan, Replied, Kept, Signs, checkColumn, messagesColumn};
+ghost use Rattle.simd.specs.Pass.{Scan, Replied, Kept, Flipped, Signs, checkColumn, messagesColumn};
 ghost use Rattle.simd.specs.Words.{CheckNode, CheckMessages, SignParity};
 
 // The variable of edge e.
@@ -208,7 +208,8 @@ pub fn check_node(
     }
 }
 
-// The second pass of the layered schedule: each edge's t and old message go to their rows, then its new message; L is left.
+// The second pass of the layered schedule: each edge's t and old message go to the rows of the run's edges, from `place` on, then its new
+// message to its own; L is left.
 fn keep(
     rows: &[u32],
     s: usize,
@@ -219,6 +220,7 @@ fn keep(
     lanes: usize,
     at: usize,
     w: usize,
+    place: usize,
     sign: [i8; 16],
     min1: [u8; 16],
     m1: [i8; 16],
@@ -226,8 +228,9 @@ fn keep(
 )
     requires { ⌜ Room (now rows) s d n lanes (now a) ⌝ }
     requires { ⌜ (at + w ≤ lanes) × (Width w × (2048 ≤ length (now t))) ⌝ }
+    requires { ⌜ place + d ≤ length (now rows) ⌝ }
     requires { ⌜ NoneNegative m1 × NoneNegative m2 ⌝ }
-    ensures { λ _. ⌜ Kept w s n (length (now (rows .entry))) lanes at (now (t .entry)) sign min1 m1 m2 (now (a .entry)) d (now (a .exit)) ⌝ }
+    ensures { λ _. ⌜ Kept w s n (length (now (rows .entry))) place lanes at (now (t .entry)) sign min1 m1 m2 (now (a .entry)) d (now (a .exit)) ⌝ }
 {
     let edges = rows.len();
     let mut k: usize = 0;
@@ -238,9 +241,10 @@ fn keep(
         let old = load(a, u, lanes, at);
         let p = lane16::reply(x, sign, min1, m1, m2);
         let m = p.m;
-        let tu = n + edges + e;
+        let f = place + k;
+        let tu = n + edges + f;
         store_lanes(a, tu, lanes, at, x, w);
-        let ou = n + 2 * edges + e;
+        let ou = n + 2 * edges + f;
         store_lanes(a, ou, lanes, at, old, w);
         store_lanes(a, u, lanes, at, m, w);
         k += 1;
@@ -257,11 +261,13 @@ fn messages_chunk(
     lanes: usize,
     at: usize,
     w: usize,
+    place: usize,
     offset: i8,
 )
     requires { ⌜ Room (now rows) s d n lanes (now a) ⌝ }
     requires { ⌜ (at + w ≤ lanes) × (Width w × (2048 ≤ length (now t))) ⌝ }
-    ensures { λ _. ⌜ Part (messagesColumn offset (var (now (rows .entry))) s d n (length (now (rows .entry)))) w lanes at (now (a .entry)) (now (a .exit)) ⌝ }
+    requires { ⌜ place + d ≤ length (now rows) ⌝ }
+    ensures { λ _. ⌜ Part (messagesColumn offset (var (now (rows .entry))) s d n (length (now (rows .entry))) place) w lanes at (now (a .entry)) (now (a .exit)) ⌝ }
 {
     let pass = scan(rows, s, d, a, t, n, lanes, at);
     let min1 = pass.min1;
@@ -269,10 +275,11 @@ fn messages_chunk(
     let sign = pass.sign;
     let m1 = lane16::reduce(min1, offset);
     let m2 = lane16::reduce(min2, offset);
-    keep(rows, s, d, a, t, n, lanes, at, w, sign, min1, m1, m2);
+    keep(rows, s, d, a, t, n, lanes, at, w, place, sign, min1, m1, m2);
 }
 
-// The messages of one check of every lane's word, for a run of the layered schedule.
+// The messages of one check of every lane's word, for a run of the layered schedule. Its edge k's t and old message go to the rows
+// n + E + place + k and n + 2E + place + k.
 pub fn check_messages(
     rows: &[u32],
     s: usize,
@@ -281,50 +288,67 @@ pub fn check_messages(
     t: &mut [i8],
     n: usize,
     lanes: usize,
+    place: usize,
     offset: i8,
 )
     requires { ⌜ Room (now rows) s d n lanes (now a) ⌝ }
-    requires { ⌜ 2048 ≤ length (now t) ⌝ }
-    ensures { λ _. ⌜ CheckMessages (now (rows .entry)) s d n lanes offset (now (a .entry)) (now (a .exit)) ⌝ }
+    requires { ⌜ (2048 ≤ length (now t)) × (place + d ≤ length (now rows)) ⌝ }
+    ensures { λ _. ⌜ CheckMessages (now (rows .entry)) s d n lanes place offset (now (a .entry)) (now (a .exit)) ⌝ }
 {
     let mut at: usize = 0;
     while at < lanes {
         let w = width(lanes - at);
-        messages_chunk(rows, s, d, a, t, n, lanes, at, w, offset);
+        messages_chunk(rows, s, d, a, t, n, lanes, at, w, place, offset);
         at += w;
     }
 }
 
-// The signs of the products of a check's values, of the sixteen lanes from `at`.
-fn signs(rows: &[u32], s: usize, d: usize, a: &[i8], n: usize, lanes: usize, at: usize) -> [i8; 16]
-    requires { ⌜ Room (now rows) s d n lanes (now a) ⌝ }
-    requires { ⌜ at < lanes ⌝ }
-    ensures { λ r. ⌜ Signs (var (now (rows .entry))) s lanes at (now (a .entry)) d r ⌝ }
+// Row u's signs, of the sixteen lanes from `at`, multiplied into g.
+fn flip_row(g: &mut [i8], a: &[i8], u: usize, lanes: usize, at: usize)
+    requires { ⌜ (u * lanes + at + 16 ≤ length (now a)) × (at + 16 ≤ length (now g)) ⌝ }
+    ensures { λ _. ⌜ Flipped u lanes at (now (a .entry)) (now (g .entry)) 16 (now (g .exit)) ⌝ }
 {
-    let mut g: [i8; 16] = [0; 16];
+    let base = u * lanes + at;
+    let mut i: usize = 0;
+    while i < 16 {
+        g[at + i] = lane_math::flip(g[at + i], a[base + i]);
+        i += 1;
+    }
+}
+
+// The signs of a check's values, of the sixteen lanes from `at`, multiplied into g.
+fn signs(
+    g: &mut [i8],
+    rows: &[u32],
+    s: usize,
+    d: usize,
+    a: &[i8],
+    n: usize,
+    lanes: usize,
+    at: usize,
+)
+    requires { ⌜ Room (now rows) s d n lanes (now a) ⌝ }
+    requires { ⌜ (at < lanes) × (at + 16 ≤ length (now g)) ⌝ }
+    ensures { λ _. ⌜ Signs (var (now (rows .entry))) s lanes at (now (a .entry)) (now (g .entry)) d (now (g .exit)) ⌝ }
+{
     let mut k: usize = 0;
     while k < d {
         let v = variable(rows, s + k);
-        let x = load(a, v, lanes, at);
-        let h = lane16::flip(g, x);
-        g = h;
+        flip_row(g, a, v, lanes, at);
         k += 1;
     }
-    g
 }
 
-// Which lanes have the check unsatisfied: 1 where an odd number of its values are negative.
+// Which lanes have the check unsatisfied: 1 where an odd number of its values are negative, 0 past the last lane.
 pub fn sign_parity(rows: &[u32], s: usize, d: usize, a: &[i8], n: usize, lanes: usize) -> [u8; 64]
     requires { ⌜ Room (now rows) s d n lanes (now a) ⌝ }
     ensures { λ r. ⌜ SignParity (now (rows .entry)) s d n lanes (now (a .entry)) r ⌝ }
 {
     let mut g: [i8; 64] = [0; 64];
-    let mut at: usize = 0;
-    while at < lanes {
-        let w = width(lanes - at);
-        let x = signs(rows, s, d, a, n, lanes, at);
-        store_lanes(&mut g, 0, 64, at, x, w);
-        at += w;
+    let mut j: usize = 0;
+    while j * 16 < lanes {
+        signs(&mut g, rows, s, d, a, n, lanes, j * 16);
+        j += 1;
     }
-    lane16::bits(g)
+    lane16::bits(g, lanes)
 }
