@@ -1,34 +1,20 @@
 -- "Flip each present position whose root it has": the position of power p has the root α^-p, and is present where p is below the word's length.
-use mathlib.Core.Path.{_≡_, refl, sym, ap, _∙_}
+use mathlib.Core.Path.{_≡_}
 use mathlib.Core.List.{List}
 use Prim.Native.Nat.{ℕ, suc, _-_, _≤_, _<_}
 use lib.ListN.{getD, length}
-use Rattle.laws.specs.Xor.{_⊕_}
-use Rattle.algebra.specs.Ring.{one-⊠}
 use Rattle.algebra.specs.Series.{pow}
-use Rattle.algebra.specs.Power.{pow-one, pow-prod}
 use Rattle.algebra.specs.Errors.{chien}
 use Rattle.algebra.specs.Places.{zeros}
-use Rattle.algebra.specs.Gf.{mul, mulN, xt}
-use Rattle.algebra.specs.GfField.{El, gf-ring, gf-field, el-path}
+use Rattle.algebra.specs.GfField.{El}
 use Rattle.gf16.specs.Field16.{gf16}
-use Rattle.gf16.specs.Alpha.{R16, α, α-nz}
-use Rattle.bch_locator.specs.Element.{toEl, poly}
+use Rattle.gf16.specs.Alpha.{R16, α}
+use Rattle.bch_locator.specs.Element.{poly}
 use Rattle.bch_locator.specs.Lanes.{Lanes}
 
 -- the register c of length l at α^-p
 abbrev pub valueAt : List ℕ → ℕ → ℕ → El 15
 valueAt c l p = chien gf16 (poly c) l (pow R16 α) p
-
--- 34,821 is α^-1
-pub inverse-α : R16 ._⊠_ α (toEl 34821) ≡ R16 .𝟙
-unfolding toEl gf16 gf-field gf-ring mul mulN xt _⊕_
-inverse-α = el-path refl
-
-pub inverse-power : (p : ℕ) → gf16 .inv (pow R16 α p) ≡ pow R16 (toEl 34821) p
-inverse-power p =
-    sym (R16 .⊠-one _) ∙ ap (R16 ._⊠_ (gf16 .inv (pow R16 α p))) (sym (pow-prod R16 α (toEl 34821) p ∙ ap (λ z. pow R16 z p) inverse-α ∙ pow-one R16 p))
-    ∙ sym (R16 .⊠-assoc _ _ _) ∙ ap (λ z. R16 ._⊠_ z (pow R16 (toEl 34821) p)) (R16 .⊠-comm _ _ ∙ gf16 .inv-law (pow R16 α p) (α-nz p)) ∙ one-⊠ R16 _
 
 -- the powers below n at which the register vanishes, ascending, each once: the first `count` of `at`
 pub record Places-of (at : List ℕ) (count : ℕ) (c : List ℕ) (l n : ℕ) : Type 0 where

@@ -5,7 +5,7 @@ use mathlib.Core.List.{List}
 use Prim.Native.Nat.{ℕ, _-_, _≤_, _<_}
 use lib.ListN.{length}
 use Rattle.algebra.specs.Series.{sum}
-use Rattle.algebra.specs.Massey.{Gen, Shortest, fixed}
+use Rattle.algebra.specs.Massey.{Gen, fixed}
 use Rattle.algebra.specs.GfField.{El}
 use Rattle.gf16.specs.Field16.{gf16}
 use Rattle.gf16.specs.Alpha.{R16}
@@ -16,9 +16,6 @@ pub record Register-of (s c : List ℕ) (l : ℕ) : Type 0 where
   pub most : l ≤ 13
   pub gen : l ≤ 12 → Gen R16 (poly s) 24 (poly c) l
   pub short : (c′ : ℕ → El 15) (l′ : ℕ) → Gen R16 (poly s) 24 c′ l′ → l ≤ l′
-
-pub shortest-of : {s c : List ℕ} {l : ℕ} → Register-of s c l → l ≤ 12 → Shortest R16 (poly s) 24 (poly c) l
-shortest-of r h = record { gen = r .gen h; short = r .short }
 
 -- the sum of the first n of c i s (k - i)
 unfoldable pub term : List ℕ → List ℕ → ℕ → ℕ → El 15
