@@ -1,14 +1,15 @@
 -- The entry points: who is refused, by which number, and what every lent slice holds at exit.
 use mathlib.Core.Path.{_≡_, refl, sym, ap, ap₂, _∙_, subst}
 use mathlib.Core.Logic.{ite, if-pos, if-neg}
-use mathlib.Core.List.{List, [], _∷_, _++_, append-nil}
+use mathlib.Core.List.{List, [], _∷_, _++_, append-nil, append-assoc}
 use Prim.Native.Nat.{ℕ, suc, _+_, _-_, _≤_, _<_}
 use native.Mathlib.Nat.{add-sub-cancel-left, le-refl}
 use native.Mathlib.Decide.{ℕ-discrete, decLt}
 use native.Mathlib.Omega.{arith}
 use lib.ListN.{length, take, drop, length-append, drop-of-length-le}
 use lib.Seq.{take-length, take-at, drop-at, drop-drop}
-use Rattle.bch_remainder.specs.Word.{parityOf, parityBits}
+use Rattle.bch_remainder.specs.Word.{parityOf, parityBits, Codeword, encoded}
+use Rattle.bch_remainder.specs.Laws.{encoded-codeword, length-bits}
 use Rattle.bch.specs.Decode.{answerBy, leftBy, register, answerOf, leftOf}
 use Rattle.bch.specs.Exact.{Exact}
 use Rattle.bch.specs.declared.Decoded.{Decoded}
@@ -116,3 +117,14 @@ encoded-bytes m out copied part d e f =
 
 pub located-to : {w v : List ℕ} (v′ : List ℕ) (r : Decoded) → v′ ≡ v → Located w v r → Located w v′ r
 located-to {w} v′ r e L = subst (λ (x : List ℕ). Located w x r) (sym e) L
+
+-- encoding gives a codeword: what `encode` writes, without the tail
+pub encode-codeword : (m out : List ℕ) → messageRefusal (length m) (length m + 192) (length out) ≡ 0 → Codeword (take (length m + 192) (encodeOut m out))
+unfolding encodeOut
+encode-codeword m out f = subst Codeword (sym front) (encoded-codeword m)
+  where
+    whole : outIf (messageRefusal (length m) (length m + 192) (length out)) (m ++ (parityBits (parityOf m) ++ drop (length m + 192) out)) out ≡ encoded m ++ drop (length m + 192) out
+    whole = sym (changed _ (m ++ (parityBits (parityOf m) ++ drop (length m + 192) out)) out f) ∙ sym (append-assoc m (parityBits (parityOf m)) (drop (length m + 192) out))
+
+    front : take (length m + 192) (encodeOut m out) ≡ encoded m
+    front = ap (take (length m + 192)) whole ∙ take-at (encoded m) (drop (length m + 192) out) (length m + 192) (length-append m (parityBits (parityOf m)) ∙ ap (λ (k : ℕ). length m + k) (length-bits 192 (parityOf m)))

@@ -12,8 +12,7 @@ use Rattle.algebra.specs.Errors.{weight, weight-none, weight-same, weight-mono,
 use Rattle.algebra.specs.GfField.{El}
 use Rattle.gf16.specs.Field16.{gf16}
 use Rattle.gf16.specs.Alpha.{R16, α, α-nz, α-distinct}
-use Rattle.bch_remainder.specs.Word.{remainderOf}
-use Rattle.bch_remainder.specs.Word.{Codeword}
+use Rattle.bch_remainder.specs.Word.{remainderOf, Codeword}
 use Rattle.bch_remainder.specs.Laws.{remainder-codeword, codeword-remainder}
 use Rattle.bch.specs.Distance.{distance, lowBits, highBits}
 use Rattle.bch.specs.Decode.{syndrome, flipped, flips, answerBy, leftBy, register, answerOf, leftOf}
@@ -157,3 +156,10 @@ minimum-distance u v C D e size near =
     none =
         let a = weight-mono gf16 (length u) (difference u v) (λ _. R16 .𝟘) (λ p h ne. absurd (ne (zero-at p h))) in
         omega (arith, weight-zero (length u))
+
+-- a codeword gives 0, and is unchanged
+pub codeword-kept : (w : List ℕ) → Codeword w → (answerOf w ≡ Corrected 0) × (leftOf w ≡ w)
+unfolding answerOf leftOf
+codeword-kept w C =
+    let z = codeword-remainder w C in
+    (if-pos (ℕ-discrete (remainderOf w) 0) z (Corrected 0) _, if-pos (ℕ-discrete (remainderOf w) 0) z w _)
