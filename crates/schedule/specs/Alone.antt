@@ -1,4 +1,4 @@
--- A word alone (01, "A word alone"): made from the values that it starts with, the iteration and the iteration limit. Lanes, rounds and
+-- A word alone (the scope, "A word alone"): made from the values that it starts with, the iteration and the iteration limit. Lanes, rounds and
 -- other words cannot occur here.
 use mathlib.Core.Path.{_≡_, refl, sym, ap, _∙_, subst}
 use mathlib.Core.Logic.{_⊎_, inl, inr}

@@ -1,4 +1,4 @@
--- The schedule of a run over any words, in reading order. What a reader must believe: the run as 01 tells it, a word alone, what a result
+-- The schedule of a run over any words, in reading order. What a reader must believe: the run as the scope tells it, a word alone, what a result
 -- says of each word, and the demand that joins them.
 pub mod Run
 pub mod Alone

@@ -1,4 +1,4 @@
--- The run as 01 tells it ("Lane values and messages", last paragraph): lanes, refilling, rounds. A word is a number, and has values:
+-- The run as the scope tells it ("Lane values and messages", last paragraph): lanes, refilling, rounds. A word is a number, and has values:
 -- of what kind is left open (the decoder's are L and the messages). Every test is made on the values that a lane holds.
 use mathlib.Core.Bool.{Bool, cond, _||_}
 use mathlib.Core.List.{List, [], _∷_, map}

@@ -1,4 +1,4 @@
--- What a run's last state says of each word: "A word waits until a lane takes it, is held until it leaves, and is then finished" (01, "A word alone").
+-- What a run's last state says of each word: "A word waits until a lane takes it, is held until it leaves, and is then finished" (the scope, "A word alone").
 use mathlib.Core.Path.{_≡_}
 use mathlib.Core.Bool.{cond}
 use mathlib.Core.List.{List, [], _∷_, _++_}

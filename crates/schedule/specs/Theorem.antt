@@ -234,7 +234,7 @@ unfolding given
 given-within words order lanes round-limit r d =
     sum-within (λ w. spent (status (r .last) w)) (words .iteration-limit) order (λ w. spent-within words w (status (r .last) w) (d .as-alone w))
 
--- ---- 01's order: "take words in input order"
+-- ---- the scope's order: "take words in input order"
 unfoldable pub counting : ℕ → ℕ → List ℕ
 counting a zero = []
 counting a (suc n) = a ∷ counting (suc a) n
