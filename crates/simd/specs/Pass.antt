@@ -14,7 +14,7 @@ use Rattle.lane_math.specs.Value.{satZ, magnitude, reduced, replied}
 use Rattle.lane_math.specs.Check.{min1, min2, message, put, tOf}
 use Rattle.lane_math.specs.Laws.{min1-small, min2-small, min2-step, parity, reply-is, put-same, put-other, last-or}
 use Rattle.lane16.specs.Lanes.{z, n, Scanned, Reduced, Answered}
-use Rattle.simd.specs.Column.{column, Off, Stored, Part}
+use Rattle.lane_memory.specs.Column.{column, Off, Stored, Part}
 
 -- t of a check's edges in a column whose messages start at row base
 abbrev pub tAt : (ℕ → ℕ) → ℕ → ℕ → (ℕ → ℤ) → ℕ → ℤ

@@ -15,8 +15,8 @@ use Rattle.lane_math.specs.Check.{Word, check, message, put, wrote, tOf, newL, 
 use Rattle.lane_math.specs.Iteration.{unsatisfied, negatives, hard}
 use Rattle.lane_math.specs.Laws.{message-same, wrote-same, put-other, parity, unsatisfied-is}
 use Rattle.lane16.specs.Lanes.{z, Decided}
-use Rattle.simd.specs.Column.{column, Mapped}
-use Rattle.simd.specs.Room.{var, Room}
+use Rattle.lane_memory.specs.Column.{column, Mapped}
+use Rattle.lane_memory.specs.Room.{var, Room}
 use Rattle.simd.specs.Pass.{tAt, written, checkColumn, messaged, messagesColumn, Signs}
 
 -- the first m of f, and 0 behind them

@@ -3,7 +3,7 @@ use native.Mathlib.Omega.{arith}
 use mathlib.Core.Path.{_≡_, refl}
 use Prim.Native.Nat.{ℕ, _+_, _*_, _-_, _≤_, _<_}
 use lib.ListN.{length}
-use Rattle.simd.specs.Room.{row-room, load-room, row-fits}
+use Rattle.lane_memory.specs.Room.{row-room, load-room, row-fits}
 use Rattle.simd.specs.Pass.{Kept, kept-start, kept-again, kept-end}
 use Rattle.simd.proofs.keep.Statement.{statement}
 use Rattle.simd.proofs.keep.Tie as tie
