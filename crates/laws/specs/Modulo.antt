@@ -2,6 +2,8 @@
 use mathlib.Core.Path.{_≡_, refl, sym, ap, ap₂, _∙_}
 use Prim.Native.Nat.{ℕ, zero, suc, _+_, _*_, _%_, _<_}
 use native.Mathlib.Omega.{arith}
+use native.Mathlib.Nat.{add-comm}
+use native.Mathlib.Numerals.{add-one}
 use lib.Bits.{bitXor, xor-add-and, xor-lt}
 
 -- xor adds modulo 2
@@ -15,6 +17,14 @@ xor-bit a b h g = xor-lt 1 a b h g
 unfoldable pub sumTo : ℕ → (ℕ → ℕ) → ℕ
 sumTo zero f = 0
 sumTo (suc m) f = f m + sumTo m f
+
+pub sum-none : (f : ℕ → ℕ) → 0 ≡ sumTo 0 f
+unfolding sumTo
+sum-none f = refl
+
+pub sum-more : (m : ℕ) (f : ℕ → ℕ) → sumTo m f + f m ≡ sumTo (m + 1) f
+unfolding sumTo
+sum-more m f = add-comm (sumTo m f) (f m) ∙ sym (ap (λ (z : ℕ). sumTo z f) (add-one m))
 
 pub sum-same : (m : ℕ) (f g : ℕ → ℕ) → ((i : ℕ) → i < m → f i ≡ g i) → sumTo m f ≡ sumTo m g
 unfolding sumTo

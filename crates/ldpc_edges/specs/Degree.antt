@@ -19,7 +19,7 @@ unfolding only ofBits met
 bits-none P q c zero m j = refl
 bits-none P q c (suc d) m j = bits-none P q c d (suc m) (suc j)
 
-bits-count : (q c : ℕ) → 0 < q → c < 374 * q → (m : ℕ) (row : List ℕ) → length (only c (ofBits (374 * q) q 374 m 0 row)) ≡ countMod q (c % q) row
+pub bits-count : (q c : ℕ) → 0 < q → c < 374 * q → (m : ℕ) (row : List ℕ) → length (only c (ofBits (374 * q) q 374 m 0 row)) ≡ countMod q (c % q) row
 unfolding countMod
 bits-count q c pos h m [] = ap length (bits-none (374 * q) q c 374 m 0)
 bits-count q c pos h m (a ∷ row) = ap length (row-cons q c a pos h m row) ∙ go (eqb (a % q) (c % q)) (bits-count q c pos h m row)
