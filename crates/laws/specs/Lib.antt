@@ -1,4 +1,5 @@
--- Laws that the kit lacks, one home for each: xor on numbers, computed tests, polynomials over two elements.
+-- Laws that the kit lacks, one home for each: xor on numbers, computed tests, polynomials over two elements, decimal numbers.
 pub mod Xor
 pub mod Tests
 pub mod Poly
+pub mod Decimal
