@@ -1,0 +1,5 @@
+pub mod Description
+pub mod Form
+pub mod Forms
+pub mod Unique
+pub mod Longest
