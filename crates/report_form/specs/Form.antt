@@ -43,6 +43,12 @@ reads-map F S S′ f false l′ t u h = h
 reads-map F S S′ f true true t u h = record { it = h .it; says = f (h .it) (h .says); within = h .within; here = h .here; after = h .after }
 reads-map F S S′ f true false t u h = h
 
+pub reads-right : {A : Type 0} (F : Form A) (S : A → Type 0) (l l′ : Bool) (t u : List ℕ) → l ≡ true → Reads F S true l′ t u → Reads F S l l′ t u
+reads-right F S l l′ t u e h = subst (λ (b : Bool). Reads F S b l′ t u) (sym e) h
+
+pub reads-wrong : {A : Type 0} (F : Form A) (S : A → Type 0) (l : Bool) (t u : List ℕ) → l ≡ false → Reads F S l false t u
+reads-wrong F S l t u e = subst (λ (b : Bool). Reads F S b false t u) (sym e) refl
+
 -- one byte
 pub one-byte : (b : ℕ) (r s : List ℕ) → b ∷ r ≡ b ∷ s → r ≡ s
 one-byte b r s e = cc
@@ -53,7 +59,7 @@ byte b =
       write = λ _. b ∷ [];
       Within = λ _. Unit;
       Follow = λ _. Unit;
-      unique = λ a a′ r s _ _ _ _ e. (refl, one-byte b r s e)
+      unique = λ a a′ r s _ _ _ _ e. (refl, one-byte b r s e);
     }
 
 -- the text's end
@@ -63,7 +69,7 @@ end =
       write = λ _. [];
       Within = λ _. Unit;
       Follow = λ r. r ≡ [];
-      unique = λ a a′ r s _ _ _ _ e. (refl, e)
+      unique = λ a a′ r s _ _ _ _ e. (refl, e);
     }
 
 module _ {A B : Type 0} (F : Form A) (G : Form B) (joins : (b : B) (r : List ℕ) → G .Within b → G .Follow r → F .Follow (G .write b ++ r)) where
@@ -71,7 +77,7 @@ module _ {A B : Type 0} (F : Form A) (G : Form B) (joins : (b : B) (r : List ℕ
   pub seq-unique : (a b : A × B) (r s : List ℕ) → F .Within (a .0) × G .Within (a .1) → F .Within (b .0) × G .Within (b .1) → G .Follow r → G .Follow s → (F .write (a .0) ++ G .write (a .1)) ++ r ≡ (F .write (b .0) ++ G .write (b .1)) ++ s → (a ≡ b) × (r ≡ s)
   seq-unique a b r s ha hb hr hs e =
       let e′ : F .write (a .0) ++ (G .write (a .1) ++ r) ≡ F .write (b .0) ++ (G .write (b .1) ++ s) =
-        sym (append-assoc (F .write (a .0)) (G .write (a .1)) r) ∙ e ∙ append-assoc (F .write (b .0)) (G .write (b .1)) s in
+      sym (append-assoc (F .write (a .0)) (G .write (a .1)) r) ∙ e ∙ append-assoc (F .write (b .0)) (G .write (b .1)) s in
       let (p, q) = F .unique (a .0) (b .0) _ _ (ha .0) (hb .0) (joins (a .1) r (ha .1) hr) (joins (b .1) s (hb .1) hs) e′ in
       let (p′, q′) = G .unique (a .1) (b .1) r s (ha .1) (hb .1) hr hs q in
       (ap₂ (λ (x : A) (y : B). (x, y)) p p′, q′)
@@ -82,7 +88,7 @@ module _ {A B : Type 0} (F : Form A) (G : Form B) (joins : (b : B) (r : List ℕ
         write = λ x. F .write (x .0) ++ G .write (x .1);
         Within = λ x. F .Within (x .0) × G .Within (x .1);
         Follow = G .Follow;
-        unique = seq-unique
+        unique = seq-unique;
       }
 
   pub seq-reads : (S : A → Type 0) (S′ : B → Type 0) (l l′ l″ : Bool) (t u v : List ℕ) → Reads F S l l′ t u → Reads G S′ l′ l″ u v → Reads seq (λ x. S (x .0) × S′ (x .1)) l l″ t v
@@ -94,19 +100,19 @@ module _ {A B : Type 0} (F : Form A) (G : Form B) (joins : (b : B) (r : List ℕ
         says = (h .says, g .says);
         within = (h .within, g .within);
         here = h .here ∙ ap (λ (x : List ℕ). F .write (h .it) ++ x) (g .here) ∙ sym (append-assoc (F .write (h .it)) (G .write (g .it)) v);
-        after = g .after
+        after = g .after;
       }
   seq-reads S S′ true true false t u v h g =
       record {
         none = λ x r w f e.
-          let e′ : F .write (h .it) ++ u ≡ F .write (x .0) ++ (G .write (x .1) ++ r) = sym (h .here) ∙ e ∙ append-assoc (F .write (x .0)) (G .write (x .1)) r in
-          let q = F .unique (h .it) (x .0) u _ (h .within) (w .0) (h .after) (joins (x .1) r (w .1) f) e′ in
-          g .none (x .1) r (w .1) f (q .1)
+            let e′ : F .write (h .it) ++ u ≡ F .write (x .0) ++ (G .write (x .1) ++ r) = sym (h .here) ∙ e ∙ append-assoc (F .write (x .0)) (G .write (x .1)) r in
+            let q = F .unique (h .it) (x .0) u _ (h .within) (w .0) (h .after) (joins (x .1) r (w .1) f) e′ in
+            g .none (x .1) r (w .1) f (q .1);
       }
   seq-reads S S′ true false true t u v h g = absurd (right-wrong g)
   seq-reads S S′ true false false t u v h g =
       record {
-        none = λ x r w f e. h .none (x .0) (G .write (x .1) ++ r) (w .0) (joins (x .1) r (w .1) f) (e ∙ append-assoc (F .write (x .0)) (G .write (x .1)) r)
+        none = λ x r w f e. h .none (x .0) (G .write (x .1) ++ r) (w .0) (joins (x .1) r (w .1) f) (e ∙ append-assoc (F .write (x .0)) (G .write (x .1)) r);
       }
 
 module _ {A B : Type 0} (F : Form A) (to : B → A) (from : A → B) (from-to : (b : B) → from (to b) ≡ b) (to-from : (a : A) → to (from a) ≡ a) (W : B → Type 0) (to-within : (b : B) → W b → F .Within (to b)) (from-within : (a : A) → F .Within a → W (from a)) where
@@ -127,7 +133,7 @@ module _ {A B : Type 0} (F : Form A) (to : B → A) (from : A → B) (from-to : 
         says = h .says;
         within = from-within (h .it) (h .within);
         here = h .here ∙ ap (λ (x : A). F .write x ++ u) (sym (to-from (h .it)));
-        after = h .after
+        after = h .after;
       }
   via-reads S true false t u h = record { none = λ b r w f e. h .none (to b) r (to-within b w) f e }
 
@@ -182,7 +188,7 @@ module _ {A : Type 0} (I : Items A) (Fine : List A → Type 0) (fine : (xs : Lis
   items-prefix (d ∷ done) (a ∷ xs) now u hd ha b p e =
       let F = I .form in
       let e′ : F .write d ++ (each (F .write) done ++ now) ≡ F .write a ++ (each (F .write) xs ++ u) =
-        sym (append-assoc (F .write d) (each (F .write) done) now) ∙ e ∙ append-assoc (F .write a) (each (F .write) xs) u in
+      sym (append-assoc (F .write d) (each (F .write) done) now) ∙ e ∙ append-assoc (F .write a) (each (F .write) xs) u in
       let (p₁, q₁) = F .unique d a _ _ (hd .0) (ha .0) (follow-each done now b) (follow-each xs u (p .follow)) e′ in
       let (more, x, y) = items-prefix done xs now u (hd .1) (ha .1) (behind done b) p q₁ in
       (more, ap₂ (λ (a′ : A) (l : List A). a′ ∷ l) (sym p₁) x, y)
@@ -229,7 +235,7 @@ module _ {A : Type 0} (I : Items A) (Fine : List A → Type 0) (fine : (xs : Lis
         says = s;
         ok = ok;
         here = o .here ∙ ap (λ (l : List ℕ). each (I .form .write) (o .done) ++ l) (f .here) ∙ each-snoc (o .done) (f .it) next;
-        behind = behind-snoc (o .done) (f .it) next (f .after)
+        behind = behind-snoc (o .done) (f .it) next (f .after);
       }
 
   all-behind : (xs ys : List A) → All (I .form .Within) (xs ++ ys) → All (I .form .Within) ys
@@ -263,8 +269,8 @@ module _ {A : Type 0} (I : Items A) (Fine : List A → Type 0) (fine : (xs : Lis
   going-missing Says t now o h m =
       record {
         none = λ xs u ok p e.
-          let (a, more, f, w, y, v) = next-item (o .done) now u (rest-of o xs u ok p e) p h in
-          m .none a (each (I .form .write) more ++ u) w v y
+            let (a, more, f, w, y, v) = next-item (o .done) now u (rest-of o xs u ok p e) p h in
+            m .none a (each (I .form .write) more ++ u) w v y;
       }
 
   -- an item with which no list goes on
@@ -272,9 +278,9 @@ module _ {A : Type 0} (I : Items A) (Fine : List A → Type 0) (fine : (xs : Lis
   going-wrong Says S t now next o h i bad =
       record {
         none = λ xs u ok p e.
-          let (a, more, f, w, y, v) = next-item (o .done) now u (rest-of o xs u ok p e) p h in
-          let q = I .form .unique a (i .it) _ next w (i .within) v (i .after) (sym y ∙ i .here) in
-          bad more (subst (λ (x : A). Fine (o .done ++ x ∷ more)) (q .0) f)
+            let (a, more, f, w, y, v) = next-item (o .done) now u (rest-of o xs u ok p e) p h in
+            let q = I .form .unique a (i .it) _ next w (i .within) v (i .after) (sym y ∙ i .here) in
+            bad more (subst (λ (x : A). Fine (o .done ++ x ∷ more)) (q .0) f);
       }
 
   -- the list's end: the text goes on with no item, or the list is full
@@ -294,7 +300,7 @@ module _ {A : Type 0} (I : Items A) (Fine : List A → Type 0) (fine : (xs : Lis
     chain-unique a b r s ha hb hr hs e =
         let w = each (I .form .write) in
         let e′ : w (a .0) ++ (G .write (a .1) ++ r) ≡ w (b .0) ++ (G .write (b .1) ++ s) =
-          sym (append-assoc (w (a .0)) (G .write (a .1)) r) ∙ e ∙ append-assoc (w (b .0)) (G .write (b .1)) s in
+        sym (append-assoc (w (a .0)) (G .write (a .1)) r) ∙ e ∙ append-assoc (w (b .0)) (G .write (b .1)) s in
         let p = apart (a .1) r (ha .1) hr in
         let (more, x, y) = items-prefix (a .0) (b .0) (G .write (a .1) ++ r) (G .write (b .1) ++ s) (fine (a .0) (ha .0)) (fine (b .0) (hb .0)) (behind-all (a .0) (G .write (a .1) ++ r) (p .follow)) (apart (b .1) s (hb .1) hs) e′ in
         go p more x y
@@ -311,14 +317,14 @@ module _ {A : Type 0} (I : Items A) (Fine : List A → Type 0) (fine : (xs : Lis
           write = chained;
           Within = λ x. Fine (x .0) × G .Within (x .1);
           Follow = G .Follow;
-          unique = chain-unique
+          unique = chain-unique;
         }
 
     pub chain-reads : (Says : List A → Type 0) (S : B → Type 0) (l l′ : Bool) (t now next : List ℕ) → Going Says l t now → (l ≡ true → Ends Says now) → Reads G S l l′ now next → Reads chain (λ x. Says (x .0) × S (x .1)) true l′ t next
     chain-reads Says S false true t now next g ends h = absurd (right-wrong h)
     chain-reads Says S false false t now next g ends h =
         record {
-          none = λ x r w f e. g .none (x .0) (G .write (x .1) ++ r) (w .0) (apart (x .1) r (w .1) f) (e ∙ append-assoc (each (I .form .write) (x .0)) (G .write (x .1)) r)
+          none = λ x r w f e. g .none (x .0) (G .write (x .1) ++ r) (w .0) (apart (x .1) r (w .1) f) (e ∙ append-assoc (each (I .form .write) (x .0)) (G .write (x .1)) r);
         }
     chain-reads Says S true true t now next g ends h =
         record {
@@ -326,14 +332,14 @@ module _ {A : Type 0} (I : Items A) (Fine : List A → Type 0) (fine : (xs : Lis
           says = (g .says, h .says);
           within = (g .ok, h .within);
           here = g .here ∙ ap (λ (l : List ℕ). each (I .form .write) (g .done) ++ l) (h .here) ∙ sym (append-assoc (each (I .form .write) (g .done)) (G .write (h .it)) next);
-          after = h .after
+          after = h .after;
         }
     chain-reads Says S true false t now next g ends h =
         record {
           none = λ x r w f e.
-            let p = apart (x .1) r (w .1) f in
-            let o = rest-of g (x .0) (G .write (x .1) ++ r) (w .0) p (e ∙ append-assoc (each (I .form .write) (x .0)) (G .write (x .1)) r) in
-            go (x .1) r (w .1) f (o .more) (o .ok) (o .here) (ends refl (g .done) (g .says))
+              let p = apart (x .1) r (w .1) f in
+              let o = rest-of g (x .0) (G .write (x .1) ++ r) (w .0) p (e ∙ append-assoc (each (I .form .write) (x .0)) (G .write (x .1)) r) in
+              go (x .1) r (w .1) f (o .more) (o .ok) (o .here) (ends refl (g .done) (g .says));
         }
       where
         go : (b : B) (r : List ℕ) → G .Within b → G .Follow r → (more : List A) → Fine (g .done ++ more) → now ≡ each (I .form .write) more ++ (G .write b ++ r) → (getD now 0 0 ≡ I .mark → ⊥) ⊎ ((x : A) (more : List A) → Fine (g .done ++ x ∷ more) → ⊥) → ⊥

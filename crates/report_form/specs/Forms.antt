@@ -17,7 +17,7 @@ numbers most =
       write = decimal;
       Within = λ v. v ≤ most;
       Follow = Stops;
-      unique = λ a b r s _ _ p q e. decimal-unique a b r s p q e
+      unique = λ a b r s _ _ p q e. decimal-unique a b r s p q e;
     }
 
 -- a number of 8 bits with its sign
@@ -27,7 +27,7 @@ smalls =
       write = signed;
       Within = Small;
       Follow = Stops;
-      unique = λ a b r s _ _ p q e. signed-unique a b r s p q e
+      unique = λ a b r s _ _ p q e. signed-unique a b r s p q e;
     }
 
 no-digit : (n : ℕ) (r s : List ℕ) → 83 ∷ s ≡ decimal n ++ r → ⊥
@@ -49,7 +49,7 @@ schedules =
       write = scheduleText;
       Within = ScheduleWithin;
       Follow = Stops;
-      unique = λ a b r s _ _ p q e. schedule-unique a b r s p q e
+      unique = λ a b r s _ _ p q e. schedule-unique a b r s p q e;
     }
 
 abbrev pub address : ℕ → List ℕ
@@ -108,7 +108,7 @@ settingsOf x =
       schedule = x .1 .1 .1 .0;
       rounds = x .1 .1 .1 .1 .0;
       first = x .1 .1 .1 .1 .1 .0;
-      bits = x .1 .1 .1 .1 .1 .1 .0
+      bits = x .1 .1 .1 .1 .1 .1 .0;
     }
 
 -- the settings' line
@@ -195,7 +195,7 @@ words n =
       mark = 87;
       body = λ w. (9 ∷ signed (w .default)) ++ (each pairText (w .pairs) ++ 10 ∷ []);
       begins = λ a. refl;
-      goes = λ u. tt
+      goes = λ u. tt;
     }
 
 pub record WordsWithin (n : ℕ) (ws : List Word) : Type 0 where

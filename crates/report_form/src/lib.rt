@@ -1,5 +1,6 @@
 // Reads the report's text: a description within the limits, or refusal 1.
 ghost use mathlib.Core.Path.{_≡_};
+ghost use mathlib.Core.Bool.{true, false};
 ghost use Prim.Native.Nat.{ℕ, _+_, _*_, _≤_, _<_};
 ghost use lib.Dec.{ltb, eqb};
 ghost use lib.ListN.{length, drop, getD};
@@ -39,11 +40,7 @@ fn digit_at(text: &[u8], at: usize) -> bool
     ensures { λ r. ⌜ r ≡ digit (getD (now (text .entry)) at 0) ⌝ }
 {
     let b = byte_at(text, at);
-    if b < 48 {
-        false
-    } else {
-        b <= 57
-    }
+    if b < 48 { false } else { b <= 57 }
 }
 
 // One byte that has to stand at a place; 0 never does.
