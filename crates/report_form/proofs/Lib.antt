@@ -1,2 +1,4 @@
 mod Bytes
 mod Spell
+mod Smalls
+mod Orders

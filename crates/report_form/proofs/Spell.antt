@@ -32,7 +32,7 @@ spelled-start t at most l h =
       positive = omega arith;
       bound = omega arith;
       here = byte-here t at b (omega arith) refl
-        ∙ ap (λ (xs : List ℕ). xs ++ drop (at + 1) t) (sym (decimal-small (b - 48) (omega arith) ∙ ap (λ (x : ℕ). x ∷ []) e))
+          ∙ ap (λ (xs : List ℕ). xs ++ drop (at + 1) t) (sym (decimal-small (b - 48) (omega arith) ∙ ap (λ (x : ℕ). x ∷ []) e));
     }
 
 pub spelled-again : (t : List ℕ) (at most value i : ℕ) → Spelled t at most value i → value ≤ most → digit (getD t i 0) ≡ true → Spelled t at most (value * 10 + (getD t i 0 - 48)) (i + 1)
@@ -44,9 +44,9 @@ spelled-again t at most value i s l h =
       positive = omega (arith, s .positive);
       bound = omega arith;
       here = s .here
-        ∙ ap (λ (xs : List ℕ). decimal value ++ xs) (byte-here t i b (omega arith) refl)
-        ∙ sym (append-assoc (decimal value) (b ∷ []) (drop (i + 1) t))
-        ∙ ap (λ (xs : List ℕ). xs ++ drop (i + 1) t) (sym (decimal-snoc value (b - 48) (s .positive) (omega arith) ∙ ap (λ (x : ℕ). decimal value ++ (x ∷ [])) e))
+          ∙ ap (λ (xs : List ℕ). decimal value ++ xs) (byte-here t i b (omega arith) refl)
+          ∙ sym (append-assoc (decimal value) (b ∷ []) (drop (i + 1) t))
+          ∙ ap (λ (xs : List ℕ). xs ++ drop (i + 1) t) (sym (decimal-snoc value (b - 48) (s .positive) (omega arith) ∙ ap (λ (x : ℕ). decimal value ++ (x ∷ [])) e));
     }
 
 -- the digits are already more than the bound
@@ -54,8 +54,8 @@ pub spelled-over : (t : List ℕ) (at most value i : ℕ) → Spelled t at most 
 spelled-over t at most value i s l =
     record {
       none = λ x r w f e.
-        let (more, p, q) = span-prefix (decimal value) (decimal x) (drop i t) r (decimal-digits value) f (sym (s .here) ∙ e) in
-        omega (arith, decimal-prefix x value more p)
+          let (more, p, q) = span-prefix (decimal value) (decimal x) (drop i t) r (decimal-digits value) f (sym (s .here) ∙ e) in
+          omega (arith, decimal-prefix x value more p);
     }
 
 pub spelled-end : (t : List ℕ) (at most value i : ℕ) → Spelled t at most value i → value ≤ most → digit (getD t i 0) ≡ false → Found (numbers most) (λ v. v ≡ value) (drop at t) (drop i t)
@@ -69,7 +69,7 @@ zero-found t at most e h =
       says = refl;
       within = omega arith;
       here = byte-here t at 48 (omega arith) e ∙ ap (λ (xs : List ℕ). xs ++ drop (at + 1) t) (sym (decimal-small 0 (omega arith)));
-      after = ap digit (head-at t (at + 1)) ∙ h
+      after = ap digit (head-at t (at + 1)) ∙ h;
     }
 
 -- no leading zeros
@@ -77,14 +77,14 @@ pub zero-missing : (t : List ℕ) (at most : ℕ) → getD t at 0 ≡ 48 → dig
 zero-missing t at most e h =
     record {
       none = λ x r w f g.
-        let l = decimal-leads x in
-        let p : 48 ∷ drop (at + 1) t ≡ l .first ∷ (l .others ++ r) = sym (byte-here t at 48 (omega arith) e) ∙ g ∙ ap (λ (xs : List ℕ). xs ++ r) (l .is) in
-        let q : 48 ≡ l .first = cc in
-        let z : x ≡ 0 = l .zero-only (sym q) in
-        let d : decimal x ≡ 48 ∷ [] = ap decimal z ∙ decimal-small 0 (omega arith) in
-        let u : 48 ∷ drop (at + 1) t ≡ 48 ∷ r = sym (byte-here t at 48 (omega arith) e) ∙ g ∙ ap (λ (xs : List ℕ). xs ++ r) d in
-        let v : drop (at + 1) t ≡ r = cc in
-        subst T (sym h ∙ ap digit (sym (head-at t (at + 1))) ∙ ap (λ (xs : List ℕ). digit (getD xs 0 0)) v ∙ f) tt
+          let l = decimal-leads x in
+          let p : 48 ∷ drop (at + 1) t ≡ l .first ∷ (l .others ++ r) = sym (byte-here t at 48 (omega arith) e) ∙ g ∙ ap (λ (xs : List ℕ). xs ++ r) (l .is) in
+          let q : 48 ≡ l .first = cc in
+          let z : x ≡ 0 = l .zero-only (sym q) in
+          let d : decimal x ≡ 48 ∷ [] = ap decimal z ∙ decimal-small 0 (omega arith) in
+          let u : 48 ∷ drop (at + 1) t ≡ 48 ∷ r = sym (byte-here t at 48 (omega arith) e) ∙ g ∙ ap (λ (xs : List ℕ). xs ++ r) d in
+          let v : drop (at + 1) t ≡ r = cc in
+          subst T (sym h ∙ ap digit (sym (head-at t (at + 1))) ∙ ap (λ (xs : List ℕ). digit (getD xs 0 0)) v ∙ f) tt;
     }
 
 -- a number begins with a digit
@@ -92,9 +92,9 @@ pub digit-missing : (t : List ℕ) (at most : ℕ) → digit (getD t at 0) ≡ f
 digit-missing t at most h =
     record {
       none = λ x r w f g.
-        let l = decimal-leads x in
-        let p : getD (drop at t) 0 0 ≡ l .first = ap (λ (xs : List ℕ). getD xs 0 0) (g ∙ ap (λ (xs : List ℕ). xs ++ r) (l .is)) in
-        subst T (sym (digit-yes (l .first) (l .low) (l .high)) ∙ ap digit (sym p ∙ head-at t at) ∙ h) tt
+          let l = decimal-leads x in
+          let p : getD (drop at t) 0 0 ≡ l .first = ap (λ (xs : List ℕ). getD xs 0 0) (g ∙ ap (λ (xs : List ℕ). xs ++ r) (l .is)) in
+          subst T (sym (digit-yes (l .first) (l .low) (l .high)) ∙ ap digit (sym p ∙ head-at t at) ∙ h) tt;
     }
   where
     digit-yes : (b : ℕ) → 48 ≤ b → b ≤ 57 → digit b ≡ true

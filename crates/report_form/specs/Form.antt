@@ -29,25 +29,84 @@ pub record Missing {A : Type 0} (F : Form A) (t : List ℕ) : Type 0 where
   pub none : (a : A) (rest : List ℕ) → F .Within a → F .Follow rest → t ≡ F .write a ++ rest → ⊥
 
 -- what a reader answers at t. Where the text was wrong before, it stays wrong; otherwise it is right exactly if t begins with one of the form
-abbrev pub Reads : {A : Type 0} → Form A → (A → Type 0) → Bool → Bool → List ℕ → List ℕ → Type 0
-Reads F Says false right t rest = right ≡ false
-Reads F Says true true t rest = Found F Says t rest
-Reads F Says true false t rest = Missing F t
+abbrev pub Answer : {A : Type 0} → Form A → (A → Type 0) → Bool → Bool → List ℕ → List ℕ → Type 0
+Answer F Says false right t rest = right ≡ false
+Answer F Says true true t rest = Found F Says t rest
+Answer F Says true false t rest = Missing F t
+
+pub record Reads {A : Type 0} (F : Form A) (Says : A → Type 0) (l l′ : Bool) (t rest : List ℕ) : Type 0 where
+  pub answer : Answer F Says l l′ t rest
 
 pub right-wrong : true ≡ false → ⊥
 right-wrong e = subst T e tt
 
--- a reader that says more of what it found
-pub reads-map : {A : Type 0} (F : Form A) (S S′ : A → Type 0) → ((a : A) → S a → S′ a) → (l l′ : Bool) (t u : List ℕ) → Reads F S l l′ t u → Reads F S′ l l′ t u
-reads-map F S S′ f false l′ t u h = h
-reads-map F S S′ f true true t u h = record { it = h .it; says = f (h .it) (h .says); within = h .within; here = h .here; after = h .after }
-reads-map F S S′ f true false t u h = h
+none-here : {A : Type 0} (F : Form A) (S : A → Type 0) (l : Bool) (t u : List ℕ) → Missing F t → Answer F S l false t u
+none-here F S false t u m = refl
+none-here F S true t u m = m
 
-pub reads-right : {A : Type 0} (F : Form A) (S : A → Type 0) (l l′ : Bool) (t u : List ℕ) → l ≡ true → Reads F S true l′ t u → Reads F S l l′ t u
-reads-right F S l l′ t u e h = subst (λ (b : Bool). Reads F S b l′ t u) (sym e) h
+module _ {A : Type 0} {F : Form A} {S : A → Type 0} where
+  pub reads-right : {l l′ : Bool} {t u : List ℕ} → l ≡ true → Answer F S true l′ t u → Reads F S l l′ t u
+  reads-right {l} {l′} {t} {u} e h = record { answer = subst (λ (b : Bool). Answer F S b l′ t u) (sym e) h }
 
-pub reads-wrong : {A : Type 0} (F : Form A) (S : A → Type 0) (l : Bool) (t u : List ℕ) → l ≡ false → Reads F S l false t u
-reads-wrong F S l t u e = subst (λ (b : Bool). Reads F S b false t u) (sym e) refl
+  pub reads-wrong : {l : Bool} {t u : List ℕ} → l ≡ false → Reads F S l false t u
+  reads-wrong {l} {t} {u} e = record { answer = subst (λ (b : Bool). Answer F S b false t u) (sym e) refl }
+
+  pub reads-none : {l : Bool} {t u : List ℕ} → Missing F t → Reads F S l false t u
+  reads-none {l} {t} {u} m = record { answer = none-here F S l t u m }
+
+  one-here : (l : Bool) (t u : List ℕ) → Found F S t u → Answer F S l l t u
+  one-here false t u f = refl
+  one-here true t u f = f
+
+  pub reads-one : {l : Bool} {t u : List ℕ} → Found F S t u → Reads F S l l t u
+  reads-one {l} {t} {u} f = record { answer = one-here l t u f }
+
+  there : (l l′ : Bool) (t u : List ℕ) → Answer F S l l′ t u → l′ ≡ true → Found F S t u
+  there false l′ t u h e = absurd (right-wrong (sym e ∙ h))
+  there true true t u h e = h
+  there true false t u h e = absurd (right-wrong (sym e))
+
+  pub found-there : {l l′ : Bool} {t u : List ℕ} → Reads F S l l′ t u → l′ ≡ true → Found F S t u
+  found-there {l} {l′} {t} {u} h e = there l l′ t u (h .answer) e
+
+-- what one reader found, or did not find, says what another does
+module _ {A B : Type 0} (F : Form A) (S : A → Type 0) (G : Form B) (S′ : B → Type 0) where
+  by-found : (l l′ : Bool) (t u v w : List ℕ) → Answer F S l l′ t u → l′ ≡ true → (Found F S t u → Found G S′ v w) → Answer G S′ l true v w
+  by-found false l′ t u v w h e f = absurd (right-wrong (sym e ∙ h))
+  by-found true true t u v w h e f = f h
+  by-found true false t u v w h e f = absurd (right-wrong (sym e))
+
+  by-missing : (l l′ : Bool) (t u v w : List ℕ) → Answer F S l l′ t u → l′ ≡ false → (Missing F t → Missing G v) → Answer G S′ l false v w
+  by-missing false l′ t u v w h e f = refl
+  by-missing true true t u v w h e f = absurd (right-wrong e)
+  by-missing true false t u v w h e f = f h
+
+  by-spoiled : (l l′ : Bool) (t u v w : List ℕ) → Answer F S l l′ t u → l′ ≡ true → (Found F S t u → Missing G v) → Answer G S′ l false v w
+  by-spoiled false l′ t u v w h e f = refl
+  by-spoiled true true t u v w h e f = f h
+  by-spoiled true false t u v w h e f = absurd (right-wrong (sym e))
+
+  by-both : (l l′ : Bool) (t u v w : List ℕ) → Answer F S l l′ t u → (Found F S t u → Found G S′ v w) → (Missing F t → Missing G v) → Answer G S′ l l′ v w
+  by-both false l′ t u v w h f m = h
+  by-both true true t u v w h f m = f h
+  by-both true false t u v w h f m = m h
+
+module _ {A B : Type 0} {F : Form A} {S : A → Type 0} {G : Form B} {S′ : B → Type 0} {l l′ : Bool} {t u v w : List ℕ} (h : Reads F S l l′ t u) where
+  pub reads-found : l′ ≡ true → (Found F S t u → Found G S′ v w) → Reads G S′ l true v w
+  reads-found e f = record { answer = by-found F S G S′ l l′ t u v w (h .answer) e f }
+
+  pub reads-missing : l′ ≡ false → (Missing F t → Missing G v) → Reads G S′ l false v w
+  reads-missing e f = record { answer = by-missing F S G S′ l l′ t u v w (h .answer) e f }
+
+  -- what was found, where another form has none
+  pub reads-spoiled : l′ ≡ true → (Found F S t u → Missing G v) → Reads G S′ l false v w
+  reads-spoiled e f = record { answer = by-spoiled F S G S′ l l′ t u v w (h .answer) e f }
+
+  pub reads-both : (Found F S t u → Found G S′ v w) → (Missing F t → Missing G v) → Reads G S′ l l′ v w
+  reads-both f m = record { answer = by-both F S G S′ l l′ t u v w (h .answer) f m }
+
+pub reads-as : {A : Type 0} {F : Form A} {a b : A} {l l′ : Bool} {t u : List ℕ} → Reads F (λ x. x ≡ a) l l′ t u → a ≡ b → Reads F (λ x. x ≡ b) l l′ t u
+reads-as h e = reads-both h (λ f. record { it = f .it; says = f .says ∙ e; within = f .within; here = f .here; after = f .after }) (λ m. m)
 
 -- one byte
 pub one-byte : (b : ℕ) (r s : List ℕ) → b ∷ r ≡ b ∷ s → r ≡ s
@@ -91,10 +150,10 @@ module _ {A B : Type 0} (F : Form A) (G : Form B) (joins : (b : B) (r : List ℕ
         unique = seq-unique;
       }
 
-  pub seq-reads : (S : A → Type 0) (S′ : B → Type 0) (l l′ l″ : Bool) (t u v : List ℕ) → Reads F S l l′ t u → Reads G S′ l′ l″ u v → Reads seq (λ x. S (x .0) × S′ (x .1)) l l″ t v
-  seq-reads S S′ false false l″ t u v h g = g
-  seq-reads S S′ false true l″ t u v h g = absurd (right-wrong h)
-  seq-reads S S′ true true true t u v h g =
+  seq-answer : (S : A → Type 0) (S′ : B → Type 0) (l l′ l″ : Bool) (t u v : List ℕ) → Answer F S l l′ t u → Answer G S′ l′ l″ u v → Answer seq (λ x. S (x .0) × S′ (x .1)) l l″ t v
+  seq-answer S S′ false false l″ t u v h g = g
+  seq-answer S S′ false true l″ t u v h g = absurd (right-wrong h)
+  seq-answer S S′ true true true t u v h g =
       record {
         it = (h .it, g .it);
         says = (h .says, g .says);
@@ -102,18 +161,21 @@ module _ {A B : Type 0} (F : Form A) (G : Form B) (joins : (b : B) (r : List ℕ
         here = h .here ∙ ap (λ (x : List ℕ). F .write (h .it) ++ x) (g .here) ∙ sym (append-assoc (F .write (h .it)) (G .write (g .it)) v);
         after = g .after;
       }
-  seq-reads S S′ true true false t u v h g =
+  seq-answer S S′ true true false t u v h g =
       record {
         none = λ x r w f e.
             let e′ : F .write (h .it) ++ u ≡ F .write (x .0) ++ (G .write (x .1) ++ r) = sym (h .here) ∙ e ∙ append-assoc (F .write (x .0)) (G .write (x .1)) r in
             let q = F .unique (h .it) (x .0) u _ (h .within) (w .0) (h .after) (joins (x .1) r (w .1) f) e′ in
             g .none (x .1) r (w .1) f (q .1);
       }
-  seq-reads S S′ true false true t u v h g = absurd (right-wrong g)
-  seq-reads S S′ true false false t u v h g =
+  seq-answer S S′ true false true t u v h g = absurd (right-wrong g)
+  seq-answer S S′ true false false t u v h g =
       record {
         none = λ x r w f e. h .none (x .0) (G .write (x .1) ++ r) (w .0) (joins (x .1) r (w .1) f) (e ∙ append-assoc (F .write (x .0)) (G .write (x .1)) r);
       }
+
+  pub seq-reads : {S : A → Type 0} {S′ : B → Type 0} {l l′ l″ : Bool} {t u v : List ℕ} → Reads F S l l′ t u → Reads G S′ l′ l″ u v → Reads seq (λ x. S (x .0) × S′ (x .1)) l l″ t v
+  seq-reads {S} {S′} {l} {l′} {l″} {t} {u} {v} h g = record { answer = seq-answer S S′ l l′ l″ t u v (h .answer) (g .answer) }
 
 module _ {A B : Type 0} (F : Form A) (to : B → A) (from : A → B) (from-to : (b : B) → from (to b) ≡ b) (to-from : (a : A) → to (from a) ≡ a) (W : B → Type 0) (to-within : (b : B) → W b → F .Within (to b)) (from-within : (a : A) → F .Within a → W (from a)) where
   -- the same texts, of other values and with the limits said otherwise
@@ -125,17 +187,11 @@ module _ {A B : Type 0} (F : Form A) (to : B → A) (from : A → B) (from-to : 
   abbrev pub via : Form B
   via = record { write = λ b. F .write (to b); Within = W; Follow = F .Follow; unique = via-unique }
 
-  pub via-reads : (S : B → Type 0) (l l′ : Bool) (t u : List ℕ) → Reads F (λ a. S (from a)) l l′ t u → Reads via S l l′ t u
-  via-reads S false l′ t u h = h
-  via-reads S true true t u h =
-      record {
-        it = from (h .it);
-        says = h .says;
-        within = from-within (h .it) (h .within);
-        here = h .here ∙ ap (λ (x : A). F .write x ++ u) (sym (to-from (h .it)));
-        after = h .after;
-      }
-  via-reads S true false t u h = record { none = λ b r w f e. h .none (to b) r (to-within b w) f e }
+  pub via-reads : {S : A → Type 0} {S′ : B → Type 0} {l l′ : Bool} {t u : List ℕ} → ((a : A) → S a → S′ (from a)) → Reads F S l l′ t u → Reads via S′ l l′ t u
+  via-reads {S} {S′} {l} {l′} {t} {u} s h =
+      reads-both h
+      (λ f. record { it = from (f .it); says = s (f .it) (f .says); within = from-within (f .it) (f .within); here = f .here ∙ ap (λ (x : A). F .write x ++ u) (sym (to-from (f .it))); after = f .after })
+      (λ m. record { none = λ b r w f e. m .none (to b) r (to-within b w) f e })
 
 -- a byte before one
 module _ {A : Type 0} (b : ℕ) (F : Form A) where
@@ -145,14 +201,11 @@ module _ {A : Type 0} (b : ℕ) (F : Form A) where
   abbrev pub lead : Form A
   lead = record { write = λ a. b ∷ F .write a; Within = F .Within; Follow = F .Follow; unique = lead-unique }
 
-  pub lead-reads : (S : A → Type 0) (l l′ l″ : Bool) (t u v : List ℕ) → Reads (byte b) (λ _. Unit) l l′ t u → Reads F S l′ l″ u v → Reads lead S l l″ t v
-  lead-reads S l l′ l″ t u v h g =
-      lead-is l l″ (seq-reads (byte b) F (λ _ _ _ _. tt) (λ _. Unit) S l l′ l″ t u v h g)
-    where
-      lead-is : (l l″ : Bool) → Reads (seq (byte b) F (λ _ _ _ _. tt)) (λ x. Unit × S (x .1)) l l″ t v → Reads lead S l l″ t v
-      lead-is false l″ h = h
-      lead-is true true h = record { it = h .it .1; says = h .says .1; within = h .within .1; here = h .here; after = h .after }
-      lead-is true false h = record { none = λ a r w f e. h .none (tt, a) r (tt, w) f e }
+  pub lead-reads : {S : A → Type 0} {l l′ l″ : Bool} {t u v : List ℕ} → Reads (byte b) (λ _. Unit) l l′ t u → Reads F S l′ l″ u v → Reads lead S l l″ t v
+  lead-reads h g =
+      reads-both (seq-reads (byte b) F (λ _ _ _ _. tt) h g)
+      (λ f. record { it = f .it .1; says = f .says .1; within = f .within .1; here = f .here; after = f .after })
+      (λ m. record { none = λ a r w f e. m .none (tt, a) r (tt, w) f e })
 
 -- items that begin with a byte of their own, and may follow one another
 pub record Items (A : Type 0) : Type 1 where
@@ -320,13 +373,13 @@ module _ {A : Type 0} (I : Items A) (Fine : List A → Type 0) (fine : (xs : Lis
           unique = chain-unique;
         }
 
-    pub chain-reads : (Says : List A → Type 0) (S : B → Type 0) (l l′ : Bool) (t now next : List ℕ) → Going Says l t now → (l ≡ true → Ends Says now) → Reads G S l l′ now next → Reads chain (λ x. Says (x .0) × S (x .1)) true l′ t next
-    chain-reads Says S false true t now next g ends h = absurd (right-wrong h)
-    chain-reads Says S false false t now next g ends h =
+    chain-answer : (Says : List A → Type 0) (S : B → Type 0) (l l′ : Bool) (t now next : List ℕ) → Going Says l t now → (l ≡ true → Ends Says now) → Answer G S l l′ now next → Answer chain (λ x. Says (x .0) × S (x .1)) true l′ t next
+    chain-answer Says S false true t now next g ends h = absurd (right-wrong h)
+    chain-answer Says S false false t now next g ends h =
         record {
           none = λ x r w f e. g .none (x .0) (G .write (x .1) ++ r) (w .0) (apart (x .1) r (w .1) f) (e ∙ append-assoc (each (I .form .write) (x .0)) (G .write (x .1)) r);
         }
-    chain-reads Says S true true t now next g ends h =
+    chain-answer Says S true true t now next g ends h =
         record {
           it = (g .done, h .it);
           says = (g .says, h .says);
@@ -334,7 +387,7 @@ module _ {A : Type 0} (I : Items A) (Fine : List A → Type 0) (fine : (xs : Lis
           here = g .here ∙ ap (λ (l : List ℕ). each (I .form .write) (g .done) ++ l) (h .here) ∙ sym (append-assoc (each (I .form .write) (g .done)) (G .write (h .it)) next);
           after = h .after;
         }
-    chain-reads Says S true false t now next g ends h =
+    chain-answer Says S true false t now next g ends h =
         record {
           none = λ x r w f e.
               let p = apart (x .1) r (w .1) f in
@@ -346,3 +399,10 @@ module _ {A : Type 0} (I : Items A) (Fine : List A → Type 0) (fine : (xs : Lis
         go b r w f [] ok y z = h .none b r w f y
         go b r w f (a ∷ more) ok y (inl z) = z (ap (λ (l : List ℕ). getD l 0 0) y ∙ item-here a more (G .write b ++ r))
         go b r w f (a ∷ more) ok y (inr z) = z a more ok
+
+    -- after the items read so far, the list ends
+    pub chain-reads : {Says : List A → Type 0} {S : B → Type 0} {l : Bool} {t now next : List ℕ} → Ongoing Says t now → Ends Says now → Reads G S true l now next → Reads chain (λ x. Says (x .0) × S (x .1)) true l t next
+    chain-reads {Says} {S} {l} {t} {now} {next} o e h = record { answer = chain-answer Says S true l t now next o (λ _. e) (h .answer) }
+
+    pub chain-missing : {S : List A × B → Type 0} {t u : List ℕ} → Hopeless t → Reads chain S true false t u
+    chain-missing {S} {t} {u} h = record { answer = chain-answer (λ _. Unit) (λ _. Unit) false false t t u h (λ e. absurd (right-wrong (sym e))) refl }

@@ -8,7 +8,7 @@ use lib.IntN.{ℤ, pos, negsuc}
 use lib.ListN.{length, getD}
 use Rattle.laws.specs.Decimal.{decimal, signed, Stops, decimal-unique, signed-unique, decimal-leads}
 use Rattle.report_form.specs.Description.{Schedule, sequential, layered, Settings, Pair, Word, Description, All, Wide, Small, Ascending, RowWithin, ScheduleWithin, SettingsWithin, WordWithin, Within, each, scheduleText}
-use Rattle.report_form.specs.Form.{Form, byte, end, seq, via, lead, Items, Apart, chain}
+use Rattle.report_form.specs.Form.{Form, Reads, byte, end, seq, seq-reads, via, via-reads, lead, lead-reads, Items, Apart, chain}
 
 -- a number of at most `most`
 abbrev pub numbers : ℕ → Form ℕ
@@ -51,6 +51,26 @@ schedules =
       Follow = Stops;
       unique = λ a b r s _ _ p q e. schedule-unique a b r s p q e;
     }
+
+-- the schedule of a flag and a step
+abbrev pub scheduleFrom : Bool → ℕ → Schedule
+scheduleFrom true step = layered step
+scheduleFrom false step = sequential
+
+abbrev pub settingsWith : ℕ → ℕ → ℤ → Schedule → ℕ → ℕ → ℕ → Settings
+settingsWith lanes iterations offset order rounds first bits =
+    record {
+      lanes = lanes;
+      iterations = iterations;
+      offset = offset;
+      schedule = order;
+      rounds = rounds;
+      first = first;
+      bits = bits;
+    }
+
+abbrev pub settingsFrom : ℕ → ℕ → ℤ → Bool → ℕ → ℕ → ℕ → ℕ → Settings
+settingsFrom lanes iterations offset steps step rounds first bits = settingsWith lanes iterations offset (scheduleFrom steps step) rounds first bits
 
 abbrev pub address : ℕ → List ℕ
 address a = 9 ∷ decimal a
@@ -118,6 +138,22 @@ settingsForm =
     (λ _ w. (w .lanes, (w .iterations, (w .offset, (w .schedule, (w .rounds, (w .first, (w .bits, tt))))))))
     (λ _ w. record { lanes = w .0; iterations = w .1 .0; offset = w .1 .1 .0; schedule = w .1 .1 .1 .0; rounds = w .1 .1 .1 .1 .0; first = w .1 .1 .1 .1 .1 .0; bits = w .1 .1 .1 .1 .1 .1 .0 })
 
+pub settings-reads : {lanes iterations rounds first bits : ℕ} {offset : ℤ} {order : Schedule} {l₀ l₁ l₂ l₃ l₄ l₅ l₆ l₇ l₈ l₉ : Bool} {t₀ t₁ t₂ t₃ t₄ t₅ t₆ t₇ t₈ t₉ : List ℕ} → Reads (byte 80) (λ _. Unit) l₀ l₁ t₀ t₁ → Reads (lead 9 (numbers 4)) (λ v. v ≡ lanes) l₁ l₂ t₁ t₂ → Reads wides (λ v. v ≡ iterations) l₂ l₃ t₂ t₃ → Reads (lead 9 smalls) (λ v. v ≡ offset) l₃ l₄ t₃ t₄ → Reads (lead 9 schedules) (λ s. s ≡ order) l₄ l₅ t₄ t₅ → Reads wides (λ v. v ≡ rounds) l₅ l₆ t₅ t₆ → Reads wides (λ v. v ≡ first) l₆ l₇ t₆ t₇ → Reads wides (λ v. v ≡ bits) l₇ l₈ t₇ t₈ → Reads (byte 10) (λ _. Unit) l₈ l₉ t₈ t₉ → Reads settingsForm (λ s. s ≡ settingsWith lanes iterations offset order rounds first bits) l₀ l₉ t₀ t₉
+settings-reads {lanes} {iterations} {rounds} {first} {bits} {offset} {order} p a b o s r f c e =
+    via-reads (lead 80 seven-fields) fieldsOf settingsOf (λ _. refl) (λ _. refl) SettingsWithin
+    (λ _ w. (w .lanes, (w .iterations, (w .offset, (w .schedule, (w .rounds, (w .first, (w .bits, tt))))))))
+    (λ _ w. record { lanes = w .0; iterations = w .1 .0; offset = w .1 .1 .0; schedule = w .1 .1 .1 .0; rounds = w .1 .1 .1 .1 .0; first = w .1 .1 .1 .1 .1 .0; bits = w .1 .1 .1 .1 .1 .1 .0 })
+    (λ x h. said x (h .0) (h .1 .0) (h .1 .1 .0) (h .1 .1 .1 .0) (h .1 .1 .1 .1 .0) (h .1 .1 .1 .1 .1 .0) (h .1 .1 .1 .1 .1 .1 .0))
+    (lead-reads 80 seven-fields p
+    (seq-reads (lead 9 (numbers 4)) six-fields (λ _ _ _ _. refl) a
+    (seq-reads wides five-fields (λ _ _ _ _. refl) b
+    (seq-reads (lead 9 smalls) four-fields (λ _ _ _ _. refl) o
+    (seq-reads (lead 9 schedules) three-fields (λ _ _ _ _. refl) s
+    (seq-reads wides two-fields (λ _ _ _ _. refl) r (seq-reads wides last-field (λ _ _ _ _. refl) f (seq-reads wides (byte 10) (λ _ _ _ _. refl) c e))))))))
+  where
+    said : (x : Fields) → x .0 ≡ lanes → x .1 .0 ≡ iterations → x .1 .1 .0 ≡ offset → x .1 .1 .1 .0 ≡ order → x .1 .1 .1 .1 .0 ≡ rounds → x .1 .1 .1 .1 .1 .0 ≡ first → x .1 .1 .1 .1 .1 .1 .0 ≡ bits → settingsOf x ≡ settingsWith lanes iterations offset order rounds first bits
+    said x a b c d e f g = λ i. record { lanes = a i; iterations = b i; offset = c i; schedule = d i; rounds = e i; first = f i; bits = g i }
+
 -- a pair, of a position of any size: which positions are right is said of a word's list of pairs
 pub record PairWithin (p : Pair) : Type 0 where
   pub position : Wide (p .position)
@@ -128,6 +164,20 @@ pairForm =
     via (seq wides (lead 9 smalls) (λ _ _ _ _. refl)) (λ p. (p .position, p .value)) (λ x. record { position = x .0; value = x .1 }) (λ _. refl) (λ _. refl) PairWithin
     (λ _ w. (w .position, w .value))
     (λ _ w. record { position = w .0; value = w .1 })
+
+abbrev pub pairFrom : ℕ → ℤ → Pair
+pairFrom position value = record { position = position; value = value }
+
+pub pair-reads : {position : ℕ} {value : ℤ} {l l′ l″ : Bool} {t u v : List ℕ} → Reads wides (λ p. p ≡ position) l l′ t u → Reads (lead 9 smalls) (λ z. z ≡ value) l′ l″ u v → Reads pairForm (λ p. p ≡ pairFrom position value) l l″ t v
+pair-reads {position} {value} p z =
+    via-reads (seq wides (lead 9 smalls) (λ _ _ _ _. refl)) (λ p. (p .position, p .value)) (λ x. record { position = x .0; value = x .1 }) (λ _. refl) (λ _. refl) PairWithin
+    (λ _ w. (w .position, w .value))
+    (λ _ w. record { position = w .0; value = w .1 })
+    (λ x h. said x (h .0) (h .1))
+    (seq-reads wides (lead 9 smalls) (λ _ _ _ _. refl) p z)
+  where
+    said : (x : ℕ × ℤ) → x .0 ≡ position → x .1 ≡ value → pairFrom (x .0) (x .1) ≡ pairFrom position value
+    said x a b = λ i. pairFrom (a i) (b i)
 
 abbrev pub pairText : Pair → List ℕ
 pairText p = 9 ∷ (decimal (p .position) ++ (9 ∷ signed (p .value)))

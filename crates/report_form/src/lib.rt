@@ -1,12 +1,13 @@
 // Reads the report's text: a description within the limits, or refusal 1.
 ghost use mathlib.Core.Path.{_≡_};
 ghost use mathlib.Core.Bool.{true, false};
-ghost use Prim.Native.Nat.{ℕ, _+_, _*_, _≤_, _<_};
+ghost use Prim.Native.Nat.{ℕ, _+_, _-_, _*_, _≤_, _<_};
+ghost use lib.IntN.{negsuc};
 ghost use lib.Dec.{ltb, eqb};
 ghost use lib.ListN.{length, drop, getD};
 ghost use Rattle.laws.specs.Decimal.{digit};
 ghost use Rattle.report_form.specs.Form.{Reads, byte, lead};
-ghost use Rattle.report_form.specs.Forms.{numbers, smalls};
+ghost use Rattle.report_form.specs.Forms.{numbers, smalls, schedules, scheduleFrom, settingsForm, settingsFrom, pairForm, pairFrom};
 
 // Whether the text is right so far, and the place behind what was read.
 struct Place {
@@ -25,6 +26,36 @@ struct Number {
 struct Small {
     right: bool,
     value: i8,
+    next: usize,
+}
+
+// A schedule that was read: layered with a step, or sequential.
+struct Order {
+    right: bool,
+    layered: bool,
+    step: u32,
+    next: usize,
+}
+
+// A pair that was read.
+struct Pair {
+    right: bool,
+    position: u32,
+    value: i8,
+    next: usize,
+}
+
+// The settings that were read.
+struct Line {
+    right: bool,
+    lanes: u32,
+    iterations: u32,
+    offset: i8,
+    layered: bool,
+    step: u32,
+    rounds: u32,
+    first: u32,
+    bits: u32,
     next: usize,
 }
 
@@ -63,7 +94,7 @@ fn expect(text: &[u8], right: bool, at: usize, b: u8) -> Place
 }
 
 // The digits behind a first one that is not 0.
-fn digits(text: &[u8], at: usize, most: u32) -> Number
+fn read_digits(text: &[u8], at: usize, most: u32) -> Number
     requires { ⌜ (48 < getD (now text) at 0) × (getD (now text) at 0 ≤ 57) ⌝ }
     ensures { λ r. ⌜ Reads (numbers most) (λ v. v ≡ r .value) true (r .right) (drop at (now (text .entry))) (drop (r .next) (now (text .entry))) ⌝ }
 {
@@ -91,5 +122,168 @@ fn digits(text: &[u8], at: usize, most: u32) -> Number
         right: true,
         value: value as u32,
         next: i,
+    }
+}
+
+// A number of at most `most`.
+fn read_number(text: &[u8], right: bool, at: usize, most: u32) -> Number
+    ensures { λ r. ⌜ Reads (numbers most) (λ v. v ≡ r .value) right (r .right) (drop at (now (text .entry))) (drop (r .next) (now (text .entry))) ⌝ }
+{
+    if right {
+        if digit_at(text, at) {
+            if byte_at(text, at) != 48 {
+                return read_digits(text, at, most);
+            }
+            let next = at + 1;
+            if !digit_at(text, next) {
+                return Number {
+                    right: true,
+                    value: 0,
+                    next,
+                };
+            }
+        }
+    }
+    Number {
+        right: false,
+        value: 0,
+        next: 0,
+    }
+}
+
+// A tab and a number of at most `most`.
+fn read_field(text: &[u8], right: bool, at: usize, most: u32) -> Number
+    ensures { λ r. ⌜ Reads (lead 9 (numbers most)) (λ v. v ≡ r .value) right (r .right) (drop at (now (text .entry))) (drop (r .next) (now (text .entry))) ⌝ }
+{
+    let tab = expect(text, right, at, 9);
+    read_number(text, tab.right, tab.next, most)
+}
+
+// The number below 0 that many.
+fn minus(value: u32) -> i8
+    requires { ⌜ (0 < value) × (value ≤ 128) ⌝ }
+    ensures { λ r. ⌜ r ≡ negsuc (value - 1) ⌝ }
+{
+    (0 - (value as i32)) as i8
+}
+
+// A number of 8 bits with its sign.
+fn read_small(text: &[u8], right: bool, at: usize) -> Small
+    ensures { λ r. ⌜ Reads smalls (λ v. v ≡ r .value) right (r .right) (drop at (now (text .entry))) (drop (r .next) (now (text .entry))) ⌝ }
+{
+    if byte_at(text, at) != 45 {
+        let v = read_number(text, right, at, 127);
+        let value = v.value;
+        if v.right {
+            return Small {
+                right: true,
+                value: value as i8,
+                next: v.next,
+            };
+        }
+    } else {
+        let m = read_number(text, right, at + 1, 128);
+        let value = m.value;
+        if m.right {
+            if value != 0 {
+                return Small {
+                    right: true,
+                    value: minus(value),
+                    next: m.next,
+                };
+            }
+        }
+    }
+    Small {
+        right: false,
+        value: 0,
+        next: 0,
+    }
+}
+
+// A tab and a number of 8 bits with its sign.
+fn read_small_field(text: &[u8], right: bool, at: usize) -> Small
+    ensures { λ r. ⌜ Reads (lead 9 smalls) (λ v. v ≡ r .value) right (r .right) (drop at (now (text .entry))) (drop (r .next) (now (text .entry))) ⌝ }
+{
+    let tab = expect(text, right, at, 9);
+    read_small(text, tab.right, tab.next)
+}
+
+// `S` or a step.
+fn read_order(text: &[u8], right: bool, at: usize) -> Order
+    ensures { λ r. ⌜ Reads schedules (λ s. s ≡ scheduleFrom (r .layered) (r .step)) right (r .right) (drop at (now (text .entry))) (drop (r .next) (now (text .entry))) ⌝ }
+{
+    if byte_at(text, at) == 83 {
+        let next = at + 1;
+        if digit_at(text, next) {
+            return Order {
+                right: false,
+                layered: false,
+                step: 0,
+                next: 0,
+            };
+        }
+        return Order {
+            right,
+            layered: false,
+            step: 0,
+            next,
+        };
+    }
+    let step = read_number(text, right, at, 4294967295);
+    Order {
+        right: step.right,
+        layered: true,
+        step: step.value,
+        next: step.next,
+    }
+}
+
+// A tab and `S` or a step.
+fn read_order_field(text: &[u8], right: bool, at: usize) -> Order
+    ensures { λ r. ⌜ Reads (lead 9 schedules) (λ s. s ≡ scheduleFrom (r .layered) (r .step)) right (r .right) (drop at (now (text .entry))) (drop (r .next) (now (text .entry))) ⌝ }
+{
+    let tab = expect(text, right, at, 9);
+    read_order(text, tab.right, tab.next)
+}
+
+// The settings' line.
+fn read_settings(text: &[u8], right: bool, at: usize) -> Line
+    ensures { λ r. ⌜ Reads settingsForm (λ s. s ≡ settingsFrom (r .lanes) (r .iterations) (r .offset) (r .layered) (r .step) (r .rounds) (r .first) (r .bits)) right (r .right) (drop at (now (text .entry))) (drop (r .next) (now (text .entry))) ⌝ }
+{
+    let letter = expect(text, right, at, 80);
+    let lanes = read_field(text, letter.right, letter.next, 4);
+    let iterations = read_field(text, lanes.right, lanes.next, 4294967295);
+    let offset = read_small_field(text, iterations.right, iterations.next);
+    let order = read_order_field(text, offset.right, offset.next);
+    let rounds = read_field(text, order.right, order.next, 4294967295);
+    let first = read_field(text, rounds.right, rounds.next, 4294967295);
+    let bits = read_field(text, first.right, first.next, 4294967295);
+    let end = expect(text, bits.right, bits.next, 10);
+    Line {
+        right: end.right,
+        lanes: lanes.value,
+        iterations: iterations.value,
+        offset: offset.value,
+        layered: order.layered,
+        step: order.step,
+        rounds: rounds.value,
+        first: first.value,
+        bits: bits.value,
+        next: end.next,
+    }
+}
+
+// A pair of position and value, each behind a tab.
+fn read_pair(text: &[u8], at: usize) -> Pair
+    ensures { λ r. ⌜ Reads pairForm (λ p. p ≡ pairFrom (r .position) (r .value)) true (r .right) (drop at (now (text .entry))) (drop (r .next) (now (text .entry))) ⌝ }
+{
+    let position = read_field(text, true, at, 4294967295);
+    let value = read_small_field(text, position.right, position.next);
+    Pair {
+        right: value.right,
+        position: position.value,
+        value: value.value,
+        next: value.next,
     }
 }

@@ -23,17 +23,17 @@ add-t8 c =
 returns : tie.Need-returns
 returns c =
     let a = c .before .before .before .before .args in
-    reads-right _ _ _ _ _ _ (c .before .before .if1 .taken)
+    reads-right (c .before .before .if1 .taken)
     (byte-found (a .text .now) (a .at) (a .b) (c .before .before .before .before .pre) (sym (c .before .byte-at .ensures) ∙ c .if2 .taken))
 
 returns-2 : tie.Need-returns-2
 returns-2 c =
     let a = c .before .before .before .before .args in
-    reads-right _ _ _ _ _ _ (c .before .before .if1 .taken)
+    reads-right (c .before .before .if1 .taken)
     (byte-missing (a .text .now) (a .at) (a .b) (λ e. c .if2 .left (c .before .byte-at .ensures ∙ e)))
 
 returns-3 : tie.Need-returns-3
-returns-3 c = reads-wrong _ _ _ _ _ (c .if1 .left)
+returns-3 c = reads-wrong (c .if1 .left)
 
 pub expect-spec : {M : Type 1} → statement M
 expect-spec = tie.close (tie.spec byte-at-requires add-t8 returns returns-2 returns-3)

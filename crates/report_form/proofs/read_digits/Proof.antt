@@ -1,4 +1,4 @@
--- `report_form::digits` meets its contract. The loop's invariant: the number spells the bytes so far, and is at most one digit over the bound.
+-- `report_form::read_digits` meets its contract. The loop's invariant: the number spells the bytes so far, and is at most one digit over the bound.
 -- Assumes nothing.
 use mathlib.Core.Path.{_≡_, sym, ap, _∙_, subst}
 use Prim.Native.Nat.{ℕ, _+_, _-_, _*_, _≤_, _<_}
@@ -8,8 +8,8 @@ use lib.ListN.{length, getD}
 use Rattle.laws.specs.Decimal.{digit}
 use Rattle.report_form.proofs.Bytes.{inside}
 use Rattle.report_form.proofs.Spell.{Spelled, digit-bounds, spelled-start, spelled-again, spelled-over, spelled-end}
-use Rattle.report_form.proofs.digits.Statement.{statement}
-use Rattle.report_form.proofs.digits.Tie as tie
+use Rattle.report_form.proofs.read_digits.Statement.{statement}
+use Rattle.report_form.proofs.read_digits.Tie as tie
 
 abbrev Inv-loop : tie.InvT-loop
 Inv-loop text at most value₀ i₀ value i = Spelled text at most value i
@@ -39,7 +39,7 @@ digit-at-requires : tie.Need-digit-at-requires Inv-loop μ-loop
 digit-at-requires c κs = search needs
 
 returns : tie.Need-returns Inv-loop μ-loop
-returns c = let a = c .before .before .before .before .before .before .args in spelled-over (a .text .now) (a .at) (a .most) (c .before .before .before .loop .value) (c .before .before .before .loop .i) (c .before .before .before .loop .inv) (c .if2 .taken)
+returns c = let a = c .before .before .before .before .before .before .args in record { answer = spelled-over (a .text .now) (a .at) (a .most) (c .before .before .before .loop .value) (c .before .before .before .loop .i) (c .before .before .before .loop .inv) (c .if2 .taken) }
 
 mul-value : tie.Need-mul-value Inv-loop μ-loop
 mul-value c = omega (arith, c .if2 .left, c .before .before .before .before .before .before .fits .most .fits)
@@ -57,7 +57,7 @@ cast-value-2 : tie.Need-cast-value-2 Inv-loop μ-loop
 cast-value-2 c = search needs
 
 add-value : tie.Need-add-value Inv-loop μ-loop
-add-value c = 
+add-value c =
     let a = c .before .before .before .before .before .before .before .args in
     let d = digit-bounds (getD (a .text .now) (c .before .before .before .before .loop .i) 0) (sym (c .before .before .before .digit-at .ensures) ∙ c .before .before .if1 .taken) in
     omega (arith, c .byte-at2 .ensures, d .1, c .before .if2 .left, c .before .before .before .before .before .before .before .fits .most .fits)
@@ -81,7 +81,7 @@ loop-again c =
     (spelled-again (a .text .now) (a .at) (a .most) (c .before .before .before .before .loop .value) (c .before .before .before .before .loop .i) (c .before .before .before .before .loop .inv) (c .before .if2 .left) (sym (c .before .before .before .digit-at .ensures) ∙ c .before .before .if1 .taken))
 
 returns-2 : tie.Need-returns-2 Inv-loop μ-loop
-returns-2 c = let a = c .before .before .before .before .before .before .args in spelled-over (a .text .now) (a .at) (a .most) (c .before .before .before .loop .value) (c .before .before .before .loop .i) (c .before .before .before .loop .inv) (c .if3 .taken)
+returns-2 c = let a = c .before .before .before .before .before .before .args in record { answer = spelled-over (a .text .now) (a .at) (a .most) (c .before .before .before .loop .value) (c .before .before .before .loop .i) (c .before .before .before .loop .inv) (c .if3 .taken) }
 
 cast-t16 : tie.Need-cast-t16 Inv-loop μ-loop
 cast-t16 c = omega (arith, c .if3 .left, c .before .before .before .before .before .before .fits .most .fits)
@@ -89,10 +89,10 @@ cast-t16 c = omega (arith, c .if3 .left, c .before .before .before .before .befo
 returns-3 : tie.Need-returns-3 Inv-loop μ-loop
 returns-3 c =
     let a = c .before .before .before .before .before .before .args in
-    spelled-end (a .text .now) (a .at) (a .most) (c .before .before .before .loop .value) (c .before .before .before .loop .i) (c .before .before .before .loop .inv) (c .if3 .left) (sym (c .before .before .digit-at .ensures) ∙ c .before .if1 .left)
+    record { answer = spelled-end (a .text .now) (a .at) (a .most) (c .before .before .before .loop .value) (c .before .before .before .loop .i) (c .before .before .before .loop .inv) (c .if3 .left) (sym (c .before .before .digit-at .ensures) ∙ c .before .if1 .left) }
 
-pub digits-spec : {M : Type 1} → statement M
-digits-spec =
+pub read-digits-spec : {M : Type 1} → statement M
+read-digits-spec =
     tie.close
     (tie.spec
     Inv-loop
