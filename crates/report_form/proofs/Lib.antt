@@ -2,3 +2,6 @@ mod Bytes
 mod Spell
 mod Smalls
 mod Orders
+mod Lists
+mod Pairs
+mod Words

@@ -40,6 +40,10 @@ pub record Reads {A : Type 0} (F : Form A) (Says : A → Type 0) (l l′ : Bool)
 pub right-wrong : true ≡ false → ⊥
 right-wrong e = subst T e tt
 
+not-there : {A : Type 0} (F : Form A) (S : A → Type 0) (l′ : Bool) (t u : List ℕ) → Answer F S true l′ t u → l′ ≡ false → Missing F t
+not-there F S true t u h e = absurd (right-wrong e)
+not-there F S false t u h e = h
+
 none-here : {A : Type 0} (F : Form A) (S : A → Type 0) (l : Bool) (t u : List ℕ) → Missing F t → Answer F S l false t u
 none-here F S false t u m = refl
 none-here F S true t u m = m
@@ -68,6 +72,9 @@ module _ {A : Type 0} {F : Form A} {S : A → Type 0} where
 
   pub found-there : {l l′ : Bool} {t u : List ℕ} → Reads F S l l′ t u → l′ ≡ true → Found F S t u
   found-there {l} {l′} {t} {u} h e = there l l′ t u (h .answer) e
+
+  pub missing-there : {l′ : Bool} {t u : List ℕ} → Reads F S true l′ t u → l′ ≡ false → Missing F t
+  missing-there {l′} {t} {u} h e = not-there F S l′ t u (h .answer) e
 
 -- what one reader found, or did not find, says what another does
 module _ {A B : Type 0} (F : Form A) (S : A → Type 0) (G : Form B) (S′ : B → Type 0) where
@@ -107,6 +114,14 @@ module _ {A B : Type 0} {F : Form A} {S : A → Type 0} {G : Form B} {S′ : B �
 
 pub reads-as : {A : Type 0} {F : Form A} {a b : A} {l l′ : Bool} {t u : List ℕ} → Reads F (λ x. x ≡ a) l l′ t u → a ≡ b → Reads F (λ x. x ≡ b) l l′ t u
 reads-as h e = reads-both h (λ f. record { it = f .it; says = f .says ∙ e; within = f .within; here = f .here; after = f .after }) (λ m. m)
+
+-- where none was found, nothing is said
+pub reads-off : {A : Type 0} {F : Form A} {S S′ : A → Type 0} {l : Bool} {t u v : List ℕ} → Reads F S l false t u → Reads F S′ l false t v
+reads-off h = reads-missing h refl (λ m. m)
+
+-- what was found, with nothing said of it
+pub reads-any : {A : Type 0} {F : Form A} {S : A → Type 0} {l l′ : Bool} {t u : List ℕ} → Reads F S l l′ t u → Reads F (λ _. Unit) l l′ t u
+reads-any h = reads-both h (λ f. record { it = f .it; says = tt; within = f .within; here = f .here; after = f .after }) (λ m. m)
 
 -- one byte
 pub one-byte : (b : ℕ) (r s : List ℕ) → b ∷ r ≡ b ∷ s → r ≡ s
@@ -400,9 +415,13 @@ module _ {A : Type 0} (I : Items A) (Fine : List A → Type 0) (fine : (xs : Lis
         go b r w f (a ∷ more) ok y (inl z) = z (ap (λ (l : List ℕ). getD l 0 0) y ∙ item-here a more (G .write b ++ r))
         go b r w f (a ∷ more) ok y (inr z) = z a more ok
 
-    -- after the items read so far, the list ends
-    pub chain-reads : {Says : List A → Type 0} {S : B → Type 0} {l : Bool} {t now next : List ℕ} → Ongoing Says t now → Ends Says now → Reads G S true l now next → Reads chain (λ x. Says (x .0) × S (x .1)) true l t next
-    chain-reads {Says} {S} {l} {t} {now} {next} o e h = record { answer = chain-answer Says S true l t now next o (λ _. e) (h .answer) }
+    chain-any : (Says : List A → Type 0) (S : B → Type 0) (l l′ : Bool) (t now next : List ℕ) → Ongoing Says t now → Ends Says now → Answer G S l l′ now next → Answer chain (λ x. Says (x .0) × S (x .1)) l l′ t next
+    chain-any Says S false l′ t now next o e h = h
+    chain-any Says S true l′ t now next o e h = chain-answer Says S true l′ t now next o (λ _. e) h
 
-    pub chain-missing : {S : List A × B → Type 0} {t u : List ℕ} → Hopeless t → Reads chain S true false t u
-    chain-missing {S} {t} {u} h = record { answer = chain-answer (λ _. Unit) (λ _. Unit) false false t t u h (λ e. absurd (right-wrong (sym e))) refl }
+    -- after the items read so far, the list ends
+    pub chain-reads : {Says : List A → Type 0} {S : B → Type 0} {l l′ : Bool} {t now next : List ℕ} → Ongoing Says t now → Ends Says now → Reads G S l l′ now next → Reads chain (λ x. Says (x .0) × S (x .1)) l l′ t next
+    chain-reads {Says} {S} {l} {l′} {t} {now} {next} o e h = record { answer = chain-any Says S l l′ t now next o e (h .answer) }
+
+    pub chain-missing : {S : List A × B → Type 0} {l : Bool} {t u : List ℕ} → Hopeless t → Reads chain S l false t u
+    chain-missing {S} {l} {t} {u} h = reads-none (chain-answer (λ _. Unit) (λ _. Unit) false false t t u h (λ e. absurd (right-wrong (sym e))) refl)

@@ -231,6 +231,14 @@ wordForm n =
     (λ _ w. (w .within .default, (record { rising = w .within .pairs; few = w .within .few; short = w .short }, tt)))
     (λ _ w. record { within = record { default = w .0; pairs = w .1 .0 .rising; few = w .1 .0 .few }; short = w .1 .0 .short })
 
+pub word-reads : {S : ℤ → Type 0} {S′ : List Pair × Unit → Type 0} (n : ℕ) {l₀ l₁ l₂ l₃ : Bool} {t₀ t₁ t₂ t₃ : List ℕ} → Reads (byte 87) (λ _. Unit) l₀ l₁ t₀ t₁ → Reads (lead 9 smalls) S l₁ l₂ t₁ t₂ → Reads (pair-chain n) S′ l₂ l₃ t₂ t₃ → Reads (wordForm n) (λ _. Unit) l₀ l₃ t₀ t₃
+word-reads n w d p =
+    via-reads (lead 87 (word-fields n)) fieldsOfWord wordOfFields (λ _. refl) (λ _. refl) (LineWithin n)
+    (λ _ w. (w .within .default, (record { rising = w .within .pairs; few = w .within .few; short = w .short }, tt)))
+    (λ _ w. record { within = record { default = w .0; pairs = w .1 .0 .rising; few = w .1 .0 .few }; short = w .1 .0 .short })
+    (λ x h. tt)
+    (lead-reads 87 (word-fields n) w (seq-reads (lead 9 smalls) (pair-chain n) (λ b r _ _. pairs-stop (b .0) r) d p))
+
 abbrev pub rows : Items (List ℕ)
 rows = record { form = rowForm; mark = 82; body = λ row. each address row ++ 10 ∷ []; begins = λ a. refl; goes = λ u. tt }
 

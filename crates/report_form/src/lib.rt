@@ -6,8 +6,9 @@ ghost use lib.IntN.{negsuc};
 ghost use lib.Dec.{ltb, eqb};
 ghost use lib.ListN.{length, drop, getD};
 ghost use Rattle.laws.specs.Decimal.{digit};
+ghost use Rattle.laws.specs.Tests.{both};
 ghost use Rattle.report_form.specs.Form.{Reads, byte, lead};
-ghost use Rattle.report_form.specs.Forms.{numbers, smalls, schedules, scheduleFrom, settingsForm, settingsFrom, pairForm, pairFrom};
+ghost use Rattle.report_form.specs.Forms.{numbers, smalls, pair-chain, wordForm, wordsForm, schedules, scheduleFrom, settingsForm, settingsFrom, pairForm, pairFrom};
 
 // Whether the text is right so far, and the place behind what was read.
 struct Place {
@@ -285,5 +286,95 @@ fn read_pair(text: &[u8], at: usize) -> Pair
         position: position.value,
         value: value.value,
         next: value.next,
+    }
+}
+
+// Whether a list of at most `most` items goes on: there is room, and the next item's mark.
+fn goes_on(text: &[u8], at: usize, mark: u8, count: u32, most: u32) -> bool
+    ensures { λ r. ⌜ r ≡ both (ltb count most) (eqb (getD (now (text .entry)) at 0) mark) ⌝ }
+{
+    if count < most {
+        byte_at(text, at) == mark
+    } else {
+        false
+    }
+}
+
+// A word's pairs and its newline, in a word of n soft values.
+fn read_pairs(text: &[u8], right: bool, at: usize, n: u32) -> Place
+    requires { ⌜ n ≤ 1122 ⌝ }
+    ensures { λ r. ⌜ Reads (pair-chain n) (λ _. Unit) right (r .right) (drop at (now (text .entry))) (drop (r .next) (now (text .entry))) ⌝ }
+{
+    let mut i = at;
+    let mut least: u32 = 0;
+    let mut count: u32 = 0;
+    while goes_on(text, i, 9, count, 64) {
+        let p = read_pair(text, i);
+        let position = p.position;
+        if !p.right {
+            return Place {
+                right: false,
+                next: 0,
+            };
+        }
+        if position < least {
+            return Place {
+                right: false,
+                next: 0,
+            };
+        }
+        if n <= position {
+            return Place {
+                right: false,
+                next: 0,
+            };
+        }
+        least = position + 1;
+        i = p.next;
+        count += 1;
+    }
+    expect(text, right, i, 10)
+}
+
+// A word's line, of n soft values.
+fn read_word(text: &[u8], at: usize, n: u32) -> Place
+    requires { ⌜ n ≤ 1122 ⌝ }
+    ensures { λ r. ⌜ Reads (wordForm n) (λ _. Unit) true (r .right) (drop at (now (text .entry))) (drop (r .next) (now (text .entry))) ⌝ }
+{
+    let letter = expect(text, true, at, 87);
+    let value = read_small_field(text, letter.right, letter.next);
+    read_pairs(text, value.right, value.next, n)
+}
+
+// The words' lines, up to the text's end.
+fn read_words(text: &[u8], right: bool, at: usize, n: u32) -> Number
+    requires { ⌜ n ≤ 1122 ⌝ }
+    ensures { λ r. ⌜ Reads (wordsForm n) (λ w. length (w .0) ≡ r .value) right (r .right) (drop at (now (text .entry))) (drop (r .next) (now (text .entry))) ⌝ }
+{
+    let mut i = at;
+    let mut count: u32 = 0;
+    while goes_on(text, i, 87, count, 16) {
+        let w = read_word(text, i, n);
+        if !w.right {
+            return Number {
+                right: false,
+                value: 0,
+                next: 0,
+            };
+        }
+        i = w.next;
+        count += 1;
+    }
+    if i < text.len() {
+        return Number {
+            right: false,
+            value: 0,
+            next: 0,
+        };
+    }
+    Number {
+        right,
+        value: count,
+        next: i,
     }
 }
