@@ -5,3 +5,4 @@ mod Orders
 mod Lists
 mod Pairs
 mod Words
+mod RowLists

@@ -53,11 +53,11 @@ module _ (n : ℕ) where
       (record {
         rising = rising-snoc n 0 (o .done) (f .it) (o .ok .rising) (omega (arith, o .says .least-is, at)) (omega (arith, at)) (f .within .value);
         few = omega (arith, length-snoc (o .done) (f .it), o .says .count-is);
-        short = o .ok .short
+        short = o .ok .short;
       })
       (record {
         least-is = least-snoc 0 (o .done) (f .it) ∙ ap suc at ∙ sym (add-one position);
-        count-is = length-snoc (o .done) (f .it) ∙ ap suc (o .says .count-is) ∙ sym (add-one count)
+        count-is = length-snoc (o .done) (f .it) ∙ ap suc (o .says .count-is) ∙ sym (add-one count);
       })
 
   pub pairs-none : (least count : ℕ) (t now : List ℕ) → PairsSoFar least count t now → getD now 0 0 ≡ 9 → Missing pairForm now → NoPairs t

@@ -30,7 +30,7 @@ module _ (n : ℕ) where
       (record {
         all = all-snoc (WordWithin n) (o .done) (f .it) (o .ok .all) (f .within .within);
         sixteen = omega (arith, length-snoc (o .done) (f .it), o .says .count-is);
-        short = o .ok .short
+        short = o .ok .short;
       })
       (record { count-is = length-snoc (o .done) (f .it) ∙ ap suc (o .says .count-is) ∙ sym (add-one count) })
 

@@ -355,6 +355,29 @@ module _ {A : Type 0} (I : Items A) (Fine : List A → Type 0) (fine : (xs : Lis
   abbrev pub Ends : (List A → Type 0) → List ℕ → Type 0
   Ends Says now = (xs : List A) → Says xs → (getD now 0 0 ≡ I .mark → ⊥) ⊎ ((x : A) (more : List A) → Fine (xs ++ x ∷ more) → ⊥)
 
+  -- what a reader of a list answers at t: the list ends at now, or there is none
+  abbrev pub Lists : (List A → Type 0) → Bool → Bool → List ℕ → List ℕ → Type 0
+  Lists Says false right t now = right ≡ false
+  Lists Says true true t now = Ongoing Says t now × Ends Says now
+  Lists Says true false t now = Hopeless t
+
+  pub record Listed (Says : List A → Type 0) (l l′ : Bool) (t now : List ℕ) : Type 0 where
+    pub answer : Lists Says l l′ t now
+
+  any-list : (Says : List A → Type 0) (l : Bool) (t now : List ℕ) → Ongoing Says t now → Ends Says now → Lists Says l l t now
+  any-list Says false t now o e = refl
+  any-list Says true t now o e = (o, e)
+
+  pub listed : {Says : List A → Type 0} {l : Bool} {t now : List ℕ} → Ongoing Says t now → Ends Says now → Listed Says l l t now
+  listed {Says} {l} {t} {now} o e = record { answer = any-list Says l t now o e }
+
+  no-list : (Says : List A → Type 0) (l : Bool) (t now : List ℕ) → Hopeless t → Lists Says l false t now
+  no-list Says false t now h = refl
+  no-list Says true t now h = h
+
+  pub not-listed : {Says : List A → Type 0} {l : Bool} {t now : List ℕ} → Hopeless t → Listed Says l false t now
+  not-listed {Says} {l} {t} {now} h = record { answer = no-list Says l t now h }
+
   -- a list, and then another form
   module _ {B : Type 0} (G : Form B) (apart : (b : B) (r : List ℕ) → G .Within b → G .Follow r → Apart (G .write b ++ r)) where
     behind-all : (xs : List A) (u : List ℕ) → I .form .Follow u → Behind xs u
@@ -425,3 +448,12 @@ module _ {A : Type 0} (I : Items A) (Fine : List A → Type 0) (fine : (xs : Lis
 
     pub chain-missing : {S : List A × B → Type 0} {l : Bool} {t u : List ℕ} → Hopeless t → Reads chain S l false t u
     chain-missing {S} {l} {t} {u} h = reads-none (chain-answer (λ _. Unit) (λ _. Unit) false false t t u h (λ e. absurd (right-wrong (sym e))) refl)
+
+    listed-answer : (Says : List A → Type 0) (S : B → Type 0) (l l′ l″ : Bool) (t now next : List ℕ) → Lists Says l l′ t now → Answer G S l′ l″ now next → Answer chain (λ x. Says (x .0) × S (x .1)) l l″ t next
+    listed-answer Says S false false l″ t now next h g = g
+    listed-answer Says S false true l″ t now next h g = absurd (right-wrong h)
+    listed-answer Says S true true l″ t now next h g = chain-answer Says S true l″ t now next (h .0) (λ _. h .1) g
+    listed-answer Says S true false l″ t now next h g = chain-answer Says S false l″ t now next h (λ e. absurd (right-wrong (sym e))) g
+
+    pub listed-reads : {Says : List A → Type 0} {S : B → Type 0} {l l′ l″ : Bool} {t now next : List ℕ} → Listed Says l l′ t now → Reads G S l′ l″ now next → Reads chain (λ x. Says (x .0) × S (x .1)) l l″ t next
+    listed-reads {Says} {S} {l} {l′} {l″} {t} {now} {next} h g = record { answer = listed-answer Says S l l′ l″ t now next (h .answer) (g .answer) }

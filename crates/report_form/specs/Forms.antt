@@ -1,11 +1,12 @@
 -- The forms of the report's text: numbers, the fields of a line, the lines.
 use mathlib.Core.Path.{_≡_, refl, sym, ap, _∙_, subst}
 use mathlib.Core.Bool.{Bool, true, false}
-use mathlib.Core.List.{List, [], _∷_, _++_}
+use mathlib.Core.List.{List, [], _∷_, _++_, map}
 use Prim.Native.Nat.{ℕ, zero, suc, _+_, _≤_, _<_}
 use native.Mathlib.Omega.{arith}
 use lib.IntN.{ℤ, pos, negsuc}
-use lib.ListN.{length, getD}
+use lib.ListN.{length, getD, replicate}
+use lib.Seq.{sets}
 use Rattle.laws.specs.Decimal.{decimal, signed, Stops, decimal-unique, signed-unique, decimal-leads}
 use Rattle.report_form.specs.Description.{Schedule, sequential, layered, Settings, Pair, Word, Description, All, Wide, Small, Ascending, RowWithin, ScheduleWithin, SettingsWithin, WordWithin, Within, each, scheduleText}
 use Rattle.report_form.specs.Form.{Form, Reads, byte, end, seq, seq-reads, via, via-reads, lead, lead-reads, Items, Apart, chain}
@@ -246,6 +247,21 @@ pub record RowsWithin (rs : List (List ℕ)) : Type 0 where
   pub all : All RowWithin rs
   pub three : length rs ≤ 3
 
+abbrev pub rows-within : (rs : List (List ℕ)) → RowsWithin rs → All RowWithin rs
+rows-within rs w = w .all
+
+-- rows one after another
+abbrev pub flat : List (List ℕ) → List ℕ
+flat [] = []
+flat (r ∷ rs) = r ++ flat rs
+
+-- rows in arrays: their number and lengths, the number of their addresses and the addresses
+pub record RowsSo (count : ℕ) (lengths : List ℕ) (total : ℕ) (places : List ℕ) (rs : List (List ℕ)) : Type 0 where
+  pub count-is : length rs ≡ count
+  pub lengths-are : lengths ≡ sets (replicate 3 0) 0 (map length rs)
+  pub total-is : length (flat rs) ≡ total
+  pub places-are : places ≡ sets (replicate 12 0) 0 (flat rs)
+
 abbrev pub words : ℕ → Items Word
 words n =
     record {
@@ -278,7 +294,7 @@ wordsForm n = chain (words n) (WordsWithin n) (words-within n) end (λ b r _ e. 
 abbrev pub settingsThen : ℕ → Form (Settings × (List Word × Unit))
 settingsThen n = seq settingsForm (wordsForm n) (λ _ _ _ _. tt)
 
-pub settings-apart : (u : List ℕ) → Apart rows RowsWithin (λ rs w. w .all) (80 ∷ u)
+pub settings-apart : (u : List ℕ) → Apart rows RowsWithin rows-within (80 ∷ u)
 settings-apart u = record { other = λ e. omega arith; follow = tt }
 
 abbrev pub Body : Type 0
@@ -286,7 +302,7 @@ Body = List (List ℕ) × (Settings × (List Word × Unit))
 
 -- the lines behind the first one
 abbrev pub bodyForm : ℕ → Form Body
-bodyForm n = chain rows RowsWithin (λ rs w. w .all) (settingsThen n) (λ b r _ _. settings-apart _)
+bodyForm n = chain rows RowsWithin rows-within (settingsThen n) (λ b r _ _. settings-apart _)
 
 -- the first line
 abbrev pub headForm : Form (ℕ × Unit)

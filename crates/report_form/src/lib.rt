@@ -5,10 +5,11 @@ ghost use Prim.Native.Nat.{ℕ, _+_, _-_, _*_, _≤_, _<_};
 ghost use lib.IntN.{negsuc};
 ghost use lib.Dec.{ltb, eqb};
 ghost use lib.ListN.{length, drop, getD};
+ghost use lib.Seq.{sets};
 ghost use Rattle.laws.specs.Decimal.{digit};
 ghost use Rattle.laws.specs.Tests.{both};
-ghost use Rattle.report_form.specs.Form.{Reads, byte, lead};
-ghost use Rattle.report_form.specs.Forms.{numbers, smalls, pair-chain, wordForm, wordsForm, schedules, scheduleFrom, settingsForm, settingsFrom, pairForm, pairFrom};
+ghost use Rattle.report_form.specs.Form.{Reads, Listed, byte, lead};
+ghost use Rattle.report_form.specs.Forms.{numbers, smalls, rowForm, rows, RowsWithin, rows-within, RowsSo, pair-chain, wordForm, wordsForm, schedules, scheduleFrom, settingsForm, settingsFrom, pairForm, pairFrom};
 
 // Whether the text is right so far, and the place behind what was read.
 struct Place {
@@ -57,6 +58,24 @@ struct Line {
     rounds: u32,
     first: u32,
     bits: u32,
+    next: usize,
+}
+
+// A row that was read, laid into the addresses of all rows.
+struct Row {
+    right: bool,
+    addresses: [u16; 12],
+    count: u32,
+    next: usize,
+}
+
+// The rows that were read: their number, their lengths and their addresses.
+struct Rows {
+    right: bool,
+    count: u32,
+    lengths: [u32; 3],
+    total: u32,
+    addresses: [u16; 12],
     next: usize,
 }
 
@@ -375,6 +394,79 @@ fn read_words(text: &[u8], right: bool, at: usize, n: u32) -> Number
     Number {
         right,
         value: count,
+        next: i,
+    }
+}
+
+// A row's line, its addresses laid into those of all rows behind the first `from`.
+fn read_row(text: &[u8], at: usize, into: [u16; 12], from: u32) -> Row
+    requires { ⌜ from ≤ 8 ⌝ }
+    ensures { λ r. ⌜ Reads rowForm (λ row. (length row ≡ r .count) × (r .addresses ≡ sets into from row)) true (r .right) (drop at (now (text .entry))) (drop (r .next) (now (text .entry))) ⌝ }
+{
+    let letter = expect(text, true, at, 82);
+    let mut addresses = into;
+    let mut i = letter.next;
+    let mut count: u32 = 0;
+    while goes_on(text, i, 9, count, 4) {
+        let a = read_field(text, true, i, 65535);
+        let value = a.value;
+        if !a.right {
+            return Row {
+                right: false,
+                addresses,
+                count: 0,
+                next: 0,
+            };
+        }
+        let place = (from + count) as usize;
+        addresses[place] = value as u16;
+        count += 1;
+        i = a.next;
+    }
+    let end = expect(text, letter.right, i, 10);
+    Row {
+        right: end.right,
+        addresses,
+        count,
+        next: end.next,
+    }
+}
+
+// The rows' lines, as many as there are.
+fn read_rows(text: &[u8], right: bool, at: usize) -> Rows
+    ensures { λ r. ⌜ Listed rows RowsWithin rows-within (RowsSo (r .count) (r .lengths) (r .total) (r .addresses)) right (r .right) (drop at (now (text .entry))) (drop (r .next) (now (text .entry))) ⌝ }
+{
+    let mut lengths = [0u32; 3];
+    let mut addresses = [0u16; 12];
+    let mut count: u32 = 0;
+    let mut total: u32 = 0;
+    let mut i = at;
+    while goes_on(text, i, 82, count, 3) {
+        let row = read_row(text, i, addresses, total);
+        let size = row.count;
+        if !row.right {
+            return Rows {
+                right: false,
+                count: 0,
+                lengths,
+                total: 0,
+                addresses,
+                next: 0,
+            };
+        }
+        let place = count as usize;
+        lengths[place] = size;
+        addresses = row.addresses;
+        total += size;
+        count += 1;
+        i = row.next;
+    }
+    Rows {
+        right,
+        count,
+        lengths,
+        total,
+        addresses,
         next: i,
     }
 }
