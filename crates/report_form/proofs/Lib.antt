@@ -6,3 +6,5 @@ mod Lists
 mod Pairs
 mod Words
 mod RowLists
+mod Stores
+mod Fill

@@ -4,7 +4,7 @@ use mathlib.Core.Bool.{Bool, true, false}
 use mathlib.Core.Logic.{_⊎_, inl, inr}
 use mathlib.Core.List.{List, [], _∷_, _++_, map, append-assoc, append-nil}
 use Prim.Native.Nat.{ℕ, suc, _+_, _*_, _≤_, _<_}
-use native.Mathlib.Nat.{add-zero, zero-add, add-suc, suc-add}
+use native.Mathlib.Nat.{zero-add}
 use native.Mathlib.Numerals.{add-one}
 use native.Mathlib.Omega.{arith}
 use lib.ListN.{length, getD, set, replicate, length-append, length-map}
@@ -12,11 +12,8 @@ use lib.Seq.{sets}
 use Rattle.report_form.specs.Description.{RowWithin, All}
 use Rattle.report_form.specs.Form.{Form, Found, Missing, Reads, reads-both, byte, lead, lead-reads, via-reads, Ongoing, Hopeless, Ends, Listed, listed, not-listed, going-start, going-more, going-missing, chain-reads, chain-missing}
 use Rattle.report_form.specs.Forms.{numbers, addresses, newline-apart, row-chain, rowForm, rows, RowsWithin, rows-within, RowsSo, flat}
+use Rattle.report_form.proofs.Stores.{sets-append}
 use Rattle.report_form.proofs.Lists.{too-many, length-snoc, all-snoc}
-
-pub sets-append : (l : List ℕ) (i : ℕ) (xs ys : List ℕ) → sets l i (xs ++ ys) ≡ sets (sets l i xs) (i + length xs) ys
-sets-append l i [] ys = ap (λ (k : ℕ). sets l k ys) (sym (add-zero i))
-sets-append l i (x ∷ xs) ys = sets-append (set l i x) (suc i) xs ys ∙ ap (λ (k : ℕ). sets (sets (set l i x) (suc i) xs) k ys) (suc-add i (length xs) ∙ sym (add-suc i (length xs)))
 
 -- ---- a row
 
@@ -37,11 +34,11 @@ row-again into from count value places {t} {now} {next} o f c =
     going-more addresses RowWithin (λ xs w. w .addresses) (RowSo into from count places) (RowSo into from (count + 1) (set places (from + count) value)) (λ v. v ≡ value) t now next o f
     (record {
       addresses = all-snoc (λ (a : ℕ). a ≤ 65535) (o .done) (f .it) (o .ok .addresses) (f .within);
-      few = omega (arith, length-snoc (o .done) (f .it), o .says .count-is)
+      few = omega (arith, length-snoc (o .done) (f .it), o .says .count-is);
     })
     (record {
       count-is = length-snoc (o .done) (f .it) ∙ ap suc (o .says .count-is) ∙ sym (add-one count);
-      places-are = stored (o .done) (f .it) (o .says .count-is) (o .says .places-are) (f .says)
+      places-are = stored (o .done) (f .it) (o .says .count-is) (o .says .places-are) (f .says);
     })
   where
     stored : (row : List ℕ) (v : ℕ) → length row ≡ count → places ≡ sets into from row → v ≡ value → set places (from + count) value ≡ sets into from (row ++ v ∷ [])
@@ -98,13 +95,13 @@ rows-again count lengths total places size places′ {t} {now} {next} o f c =
     going-more rows RowsWithin rows-within (RowsSo count lengths total places) (RowsSo (count + 1) (set lengths count size) (total + size) places′) (λ row. (length row ≡ size) × (places′ ≡ sets places total row)) t now next o f
     (record {
       all = all-snoc RowWithin (o .done) (f .it) (o .ok .all) (f .within);
-      three = omega (arith, length-snoc (o .done) (f .it), o .says .count-is)
+      three = omega (arith, length-snoc (o .done) (f .it), o .says .count-is);
     })
     (record {
       count-is = length-snoc (o .done) (f .it) ∙ ap suc (o .says .count-is) ∙ sym (add-one count);
       lengths-are = lengths-stored (o .done) (f .it) (o .says .count-is) (o .says .lengths-are) (f .says .0);
       total-is = ap length (flat-snoc (o .done) (f .it)) ∙ length-append (flat (o .done)) (f .it) ∙ ap₂ (λ (a b : ℕ). a + b) (o .says .total-is) (f .says .0);
-      places-are = places-stored (o .done) (f .it) (o .says .total-is) (o .says .places-are) (f .says .1)
+      places-are = places-stored (o .done) (f .it) (o .says .total-is) (o .says .places-are) (f .says .1);
     })
   where
     lengths-stored : (rs : List (List ℕ)) (r : List ℕ) → length rs ≡ count → lengths ≡ sets (replicate 3 0) 0 (map length rs) → length r ≡ size → set lengths count size ≡ sets (replicate 3 0) 0 (map length (rs ++ r ∷ []))
@@ -114,6 +111,7 @@ rows-again count lengths total places size places′ {t} {now} {next} o f c =
         ∙ ap₂ (λ (i a : ℕ). set (sets (replicate 3 0) 0 (map length rs)) i a) k (sym e)
         ∙ sym (sets-append (replicate 3 0) 0 (map length rs) (length r ∷ []))
         ∙ ap (λ (l : List ℕ). sets (replicate 3 0) 0 l) (sym (map-snoc rs r))
+
     places-stored : (rs : List (List ℕ)) (r : List ℕ) → length (flat rs) ≡ total → places ≡ sets (replicate 12 0) 0 (flat rs) → places′ ≡ sets places total r → places′ ≡ sets (replicate 12 0) 0 (flat (rs ++ r ∷ []))
     places-stored rs r n p e =
         let k : total ≡ 0 + length (flat rs) = sym n ∙ sym (zero-add (length (flat rs))) in

@@ -123,6 +123,16 @@ reads-off h = reads-missing h refl (λ m. m)
 pub reads-any : {A : Type 0} {F : Form A} {S : A → Type 0} {l l′ : Bool} {t u : List ℕ} → Reads F S l l′ t u → Reads F (λ _. Unit) l l′ t u
 reads-any h = reads-both h (λ f. record { it = f .it; says = tt; within = f .within; here = f .here; after = f .after }) (λ m. m)
 
+-- where a text begins with one, a reader finds that one
+find : {A : Type 0} (F : Form A) (S : A → Type 0) (l : Bool) (t u : List ℕ) (a : A) (r : List ℕ) → Answer F S true l t u → F .Within a → F .Follow r → t ≡ F .write a ++ r → S a × (u ≡ r)
+find F S true t u a r h w f e =
+    let (p, q) = F .unique (h .it) a u r (h .within) w (h .after) f (sym (h .here) ∙ e) in
+    (subst S p (h .says), q)
+find F S false t u a r h w f e = absurd (h .none a r w f e)
+
+pub must-find : {A : Type 0} {F : Form A} {S : A → Type 0} {l : Bool} {t u : List ℕ} → Reads F S true l t u → (a : A) (r : List ℕ) → F .Within a → F .Follow r → t ≡ F .write a ++ r → S a × (u ≡ r)
+must-find {F = F} {S} {l} {t} {u} h a r w f e = find F S l t u a r (h .answer) w f e
+
 -- one byte
 pub one-byte : (b : ℕ) (r s : List ℕ) → b ∷ r ≡ b ∷ s → r ≡ s
 one-byte b r s e = cc

@@ -3,3 +3,5 @@ pub mod Form
 pub mod Forms
 pub mod Unique
 pub mod Longest
+pub mod Reading
+pub mod Places

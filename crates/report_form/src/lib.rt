@@ -4,12 +4,36 @@ ghost use mathlib.Core.Bool.{true, false};
 ghost use Prim.Native.Nat.{ℕ, _+_, _-_, _*_, _≤_, _<_};
 ghost use lib.IntN.{negsuc};
 ghost use lib.Dec.{ltb, eqb};
-ghost use lib.ListN.{length, drop, getD};
+ghost use mathlib.Core.List.{List};
+ghost use lib.ListN.{length, drop, getD, replicate};
 ghost use lib.Seq.{sets};
 ghost use Rattle.laws.specs.Decimal.{digit};
 ghost use Rattle.laws.specs.Tests.{both};
+ghost use Rattle.report_form.specs.Description.{Pair, Word};
+ghost use Rattle.report_form.specs.Reading.{stored, softWord, softWords, refusedReading, RightReading};
+ghost use Rattle.report_form.specs.Places.{PairsAt, PairsHere, WordAt, WordHere, WordsAt, WordsHere, Filled};
 ghost use Rattle.report_form.specs.Form.{Reads, Listed, byte, lead};
 ghost use Rattle.report_form.specs.Forms.{numbers, smalls, rowForm, rows, RowsWithin, rows-within, RowsSo, pair-chain, wordForm, wordsForm, schedules, scheduleFrom, settingsForm, settingsFrom, pairForm, pairFrom};
+
+// What a text says: refusal 1 and zeros, or refusal 0 and a description's numbers: the code's n, the number of rows, their lengths and
+// their addresses one after another, the settings, and the number of words.
+pub struct Reading {
+    pub refusal: u32,
+    pub n: u32,
+    pub rows: u32,
+    pub lengths: [u32; 3],
+    pub total: u32,
+    pub addresses: [u16; 12],
+    pub lanes: u32,
+    pub iterations: u32,
+    pub offset: i8,
+    pub layered: bool,
+    pub step: u32,
+    pub rounds: u32,
+    pub first: u32,
+    pub bits: u32,
+    pub words: u32,
+}
 
 // Whether the text is right so far, and the place behind what was read.
 struct Place {
@@ -40,7 +64,7 @@ struct Order {
 }
 
 // A pair that was read.
-struct Pair {
+struct Entry {
     right: bool,
     position: u32,
     value: i8,
@@ -295,12 +319,12 @@ fn read_settings(text: &[u8], right: bool, at: usize) -> Line
 }
 
 // A pair of position and value, each behind a tab.
-fn read_pair(text: &[u8], at: usize) -> Pair
+fn read_pair(text: &[u8], at: usize) -> Entry
     ensures { λ r. ⌜ Reads pairForm (λ p. p ≡ pairFrom (r .position) (r .value)) true (r .right) (drop at (now (text .entry))) (drop (r .next) (now (text .entry))) ⌝ }
 {
     let position = read_field(text, true, at, 4294967295);
     let value = read_small_field(text, position.right, position.next);
-    Pair {
+    Entry {
         right: value.right,
         position: position.value,
         value: value.value,
@@ -468,5 +492,125 @@ fn read_rows(text: &[u8], right: bool, at: usize) -> Rows
         total,
         addresses,
         next: i,
+    }
+}
+
+// A soft value at n places.
+fn fill_default(words: &mut [i8], base: usize, n: u32, value: i8)
+    requires { ⌜ base + n ≤ length (now words) ⌝ }
+    ensures { λ _. ⌜ now (words .exit) ≡ sets (now (words .entry)) base (replicate n value) ⌝ }
+{
+    let mut i: usize = 0;
+    let end = n as usize;
+    while i < end {
+        words[base + i] = value;
+        i += 1;
+    }
+}
+
+// A word's pairs, stored: the place behind their line.
+fn fill_pairs(text: &[u8], at: usize, n: u32, words: &mut [i8], base: usize) -> usize
+    requires { ⌜ (base + n ≤ length (now words)) × PairsHere n (drop at (now text)) ⌝ }
+    ensures { λ r. ⌜ ((ps : List Pair) (rest : List ℕ) → PairsAt n (drop at (now (text .entry))) ps rest → Filled (drop r (now (text .entry))) rest (now (words .exit)) (stored base ps (now (words .entry)))) ⌝ }
+{
+    let mut i = at;
+    let mut count: u32 = 0;
+    while goes_on(text, i, 9, count, 64) {
+        let p = read_pair(text, i);
+        let place = base + (p.position as usize);
+        let value = p.value;
+        words[place] = value;
+        i = p.next;
+        count += 1;
+    }
+    i + 1
+}
+
+// A word's soft values: the place behind its line.
+fn fill_word(text: &[u8], at: usize, n: u32, words: &mut [i8], base: usize) -> usize
+    requires { ⌜ (base + n ≤ length (now words)) × WordHere n (drop at (now text)) ⌝ }
+    ensures { λ r. ⌜ ((w : Word) (rest : List ℕ) → WordAt n (drop at (now (text .entry))) w rest → Filled (drop r (now (text .entry))) rest (now (words .exit)) (sets (now (words .entry)) base (softWord n w))) ⌝ }
+{
+    let value = read_small_field(text, true, at + 1);
+    fill_default(words, base, n, value.value);
+    fill_pairs(text, value.next, n, words, base)
+}
+
+// The soft values of all words, one after another.
+fn fill_words(text: &[u8], at: usize, n: u32, words: &mut [i8])
+    requires { ⌜ (17952 ≤ length (now words)) × WordsHere n (drop at (now text)) ⌝ }
+    ensures { λ _. ⌜ ((ws : List Word) → WordsAt n (drop at (now (text .entry))) ws → now (words .exit) ≡ sets (now (words .entry)) 0 (softWords n ws)) ⌝ }
+{
+    let mut i = at;
+    let mut count: u32 = 0;
+    let mut base: usize = 0;
+    let size = n as usize;
+    while goes_on(text, i, 87, count, 16) {
+        i = fill_word(text, i, n, words, base);
+        base += size;
+        count += 1;
+    }
+}
+
+// Refusal 1.
+fn refused() -> Reading
+    ensures { λ r. ⌜ r ≡ refusedReading ⌝ }
+{
+    Reading {
+        refusal: 1,
+        n: 0,
+        rows: 0,
+        lengths: [0u32; 3],
+        total: 0,
+        addresses: [0u16; 12],
+        lanes: 0,
+        iterations: 0,
+        offset: 0,
+        layered: false,
+        step: 0,
+        rounds: 0,
+        first: 0,
+        bits: 0,
+        words: 0,
+    }
+}
+
+// Reads a whole text. The words' soft values go into the lent slice, one word after another.
+pub fn read(text: &[u8], words: &mut [i8]) -> Reading
+    requires { ⌜ 17952 ≤ length (now words) ⌝ }
+    ensures { λ r. ⌜ RightReading (now (text .entry)) (now (words .entry)) r (now (words .exit)) ⌝ }
+{
+    let letter = expect(text, true, 0, 78);
+    let size = read_field(text, letter.right, letter.next, 1122);
+    let line = expect(text, size.right, size.next, 10);
+    let n = size.value;
+    if !line.right {
+        return refused();
+    }
+    let rows = read_rows(text, true, line.next);
+    let settings = read_settings(text, rows.right, rows.next);
+    let list = read_words(text, settings.right, settings.next, n);
+    if !list.right {
+        return refused();
+    }
+    fill_words(text, settings.next, n, words);
+    let lengths = rows.lengths;
+    let addresses = rows.addresses;
+    Reading {
+        refusal: 0,
+        n,
+        rows: rows.count,
+        lengths,
+        total: rows.total,
+        addresses,
+        lanes: settings.lanes,
+        iterations: settings.iterations,
+        offset: settings.offset,
+        layered: settings.layered,
+        step: settings.step,
+        rounds: settings.rounds,
+        first: settings.first,
+        bits: settings.bits,
+        words: list.value,
     }
 }
