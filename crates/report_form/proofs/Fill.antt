@@ -4,7 +4,7 @@ use mathlib.Core.Bool.{Bool, true, false}
 use mathlib.Core.Logic.{_⊎_, inl, inr}
 use mathlib.Core.List.{List, [], _∷_, _++_, append-assoc, append-nil}
 use Prim.Native.Nat.{ℕ, zero, suc, _+_, _-_, _*_, _≤_, _<_}
-use native.Mathlib.Nat.{add-zero}
+use native.Mathlib.Nat.{zero-add}
 use native.Mathlib.Numerals.{add-one}
 use native.Mathlib.Omega.{arith}
 use lib.IntN.{ℤ}
@@ -147,3 +147,126 @@ filled-here text i rest h =
     let b : getD text i 0 ≡ 10 = sym (head-at text i) ∙ ap (λ (l : List ℕ). getD l 0 0) (h .0) in
     let e : 10 ∷ drop (i + 1) text ≡ 10 ∷ rest = sym (byte-here text i 10 (omega arith) b) ∙ h .0 in
     record { next = one-byte 10 (drop (i + 1) text) rest e; stores = h .1 }
+
+-- ---- a word
+
+length-stored : (base : ℕ) (ps : List Pair) (l : List ℤ) → length (stored base ps l) ≡ length l
+length-stored base [] l = refl
+length-stored base (p ∷ ps) l = length-stored base ps (set l (base + p .position) (p .value)) ∙ length-set l (base + p .position) (p .value)
+
+soft-length : (n : ℕ) (w : Word) → length (softWord n w) ≡ n
+soft-length n w = length-stored 0 (w .pairs) (replicate n (w .default)) ∙ length-replicate n (w .default)
+
+stored-sets : (n least base : ℕ) (ps : List Pair) (l vs : List ℤ) → Ascending n least ps → length vs ≡ n → base + n ≤ length l → stored base ps (sets l base vs) ≡ sets l base (stored 0 ps vs)
+stored-sets n least base [] l vs r e h = refl
+stored-sets n least base (p ∷ ps) l vs r e h =
+    ap (stored base ps) (set-sets l base vs (p .position) (p .value) (omega arith) (omega (arith, r .1)))
+    ∙ stored-sets n (suc (p .position)) base ps l (set vs (p .position) (p .value)) (r .3) (length-set vs (p .position) (p .value) ∙ e) h
+    ∙ ap (λ (k : ℕ). sets l base (stored 0 ps (set vs k (p .value)))) (sym (zero-add (p .position)))
+
+-- a word's letter, its default and its pairs
+pub word-letter : (n : ℕ) (text : List ℕ) (at : ℕ) (w : Word) (rest : List ℕ) → WordAt n (drop at text) w rest → getD text at 0 ≡ 87
+word-letter n text at w rest a = sym (head-at text at) ∙ ap (λ (l : List ℕ). getD l 0 0) (a .here)
+
+word-behind : (n : ℕ) (text : List ℕ) (at : ℕ) (w : Word) (rest : List ℕ) → WordAt n (drop at text) w rest → drop (at + 1) text ≡ (9 ∷ signed (w .default)) ++ (each pairText (w .pairs) ++ 10 ∷ rest)
+word-behind n text at w rest a =
+    one-byte 87 (drop (at + 1) text) (((9 ∷ signed (w .default)) ++ (each pairText (w .pairs) ++ 10 ∷ [])) ++ rest)
+    (sym (byte-here text at 87 (omega arith) (word-letter n text at w rest a)) ∙ a .here)
+    ∙ append-assoc (9 ∷ signed (w .default)) (each pairText (w .pairs) ++ 10 ∷ []) rest
+    ∙ ap (λ (l : List ℕ). (9 ∷ signed (w .default)) ++ l) (append-assoc (each pairText (w .pairs)) (10 ∷ []) rest)
+
+pub word-default : (n : ℕ) (text : List ℕ) (at : ℕ) (w : Word) (rest : List ℕ) {value : ℤ} {right : Bool} {next : List ℕ} → WordAt n (drop at text) w rest → Reads (lead 9 smalls) (λ v. v ≡ value) true right (drop (at + 1) text) next → (w .default ≡ value) × PairsAt n next (w .pairs) rest
+word-default n text at w rest {value} {right} {next} a h =
+    let (e, u) = must-find h (w .default) (each pairText (w .pairs) ++ 10 ∷ rest) (a .within .within .default) (stop (w .pairs) rest) (word-behind n text at w rest a) in
+    (e, record { within = record { rising = a .within .within .pairs; few = a .within .within .few; short = a .within .short }; here = u })
+
+pub word-pairs-here : (n : ℕ) (text : List ℕ) (at : ℕ) {value : ℤ} {right : Bool} {next : List ℕ} → WordHere n (drop at text) → Reads (lead 9 smalls) (λ v. v ≡ value) true right (drop (at + 1) text) next → PairsHere n next
+word-pairs-here n text at x h = record { pairs = x .word .pairs; rest = x .rest; at-place = word-default n text at (x .word) (x .rest) (x .at-place) h .1 }
+
+pub word-filled : (n : ℕ) (text : List ℕ) (at base : ℕ) (l : List ℤ) {l₁ l₂ : List ℤ} {value : ℤ} {right : Bool} {next behind : List ℕ} → base + n ≤ length l → Reads (lead 9 smalls) (λ v. v ≡ value) true right (drop (at + 1) text) next → l₁ ≡ sets l base (replicate n value) → ((ps : List Pair) (rest : List ℕ) → PairsAt n next ps rest → Filled behind rest l₂ (stored base ps l₁)) → (w : Word) (rest : List ℕ) → WordAt n (drop at text) w rest → Filled behind rest l₂ (sets l base (softWord n w))
+word-filled n text at base l {value = value} room h d p w rest a =
+    let (e, x) = word-default n text at w rest a h in
+    let f = p (w .pairs) rest x in
+    record {
+      next = f .next;
+      stores = f .stores
+        ∙ ap (stored base (w .pairs)) (d ∙ ap (λ (z : ℤ). sets l base (replicate n z)) (sym e))
+        ∙ stored-sets n 0 base (w .pairs) l (replicate n (w .default)) (a .within .within .pairs) (length-replicate n (w .default)) room
+    }
+
+-- ---- all words
+
+-- the words that are left, and what they lead to
+pub record WordsLeft (n : ℕ) (goal : List ℤ) (now : List ℕ) (count base : ℕ) (l : List ℤ) : Type 0 where
+  pub left : List Word
+  pub all : All (LineWithin n) left
+  pub few : count + length left ≤ 16
+  pub here : now ≡ each (wordForm n .write) left
+  pub stores : sets l base (softWords n left) ≡ goal
+
+-- the next word of those
+pub record NextWord (n : ℕ) (goal : List ℤ) (now : List ℕ) (count base : ℕ) (l : List ℤ) : Type 0 where
+  pub word : Word
+  pub more : List Word
+  pub at-place : WordAt n now word (each (wordForm n .write) more)
+  pub all : All (LineWithin n) more
+  pub few : suc (count + length more) ≤ 16
+  pub stores : sets l base (softWord n word ++ softWords n more) ≡ goal
+
+module _ {n : ℕ} {goal : List ℤ} where
+  pub next-word : {now : List ℕ} {count base : ℕ} {l : List ℤ} → WordsLeft n goal now count base l → getD now 0 0 ≡ 87 → NextWord n goal now count base l
+  next-word {now} {count} {base} {l} p h = go (p .left) (p .all) (p .few) (p .here) (p .stores)
+    where
+      go : (left : List Word) → All (LineWithin n) left → count + length left ≤ 16 → now ≡ each (wordForm n .write) left → sets l base (softWords n left) ≡ goal → NextWord n goal now count base l
+      go [] a f e s = absurd (omega (arith, ap (λ (x : List ℕ). getD x 0 0) e, h))
+      go (w ∷ more) a f e s =
+          record { word = w; more = more; at-place = record { within = a .0; here = e }; all = a .1; few = omega arith; stores = s }
+
+  pub no-word : {now : List ℕ} {count base : ℕ} {l : List ℤ} → WordsLeft n goal now count base l → (16 ≤ count) ⊎ (getD now 0 0 ≡ 87 → ⊥) → l ≡ goal
+  no-word {now} {count} {base} {l} p h = go (p .left) (p .few) (p .here) (p .stores) h
+    where
+      go : (left : List Word) → count + length left ≤ 16 → now ≡ each (wordForm n .write) left → sets l base (softWords n left) ≡ goal → (16 ≤ count) ⊎ (getD now 0 0 ≡ 87 → ⊥) → l ≡ goal
+      go [] f e s h = s
+      go (w ∷ more) f e s (inl full) = absurd (omega arith)
+      go (w ∷ more) f e s (inr other) = absurd (other (ap (λ (x : List ℕ). getD x 0 0) e))
+
+  word-left : {now next : List ℕ} {count base : ℕ} {l l′ : List ℤ} → NextWord n goal now count base l → ((w : Word) (rest : List ℕ) → WordAt n now w rest → Filled next rest l′ (sets l base (softWord n w))) → WordsLeft n goal next (count + 1) (base + n) l′
+  word-left {base = base} {l} {l′} x f =
+      let g = f (x .word) (each (wordForm n .write) (x .more)) (x .at-place) in
+      record {
+        left = x .more;
+        all = x .all;
+        few = omega (arith, x .few);
+        here = g .next;
+        stores = ap₂ (λ (y : List ℤ) (k : ℕ). sets y (base + k) (softWords n (x .more))) (g .stores) (sym (soft-length n (x .word)))
+          ∙ sym (sets-append l base (softWord n (x .word)) (softWords n (x .more)))
+          ∙ x .stores
+      }
+
+-- for whatever words stand at the start, those that are left
+pub record FillingWords (n : ℕ) (t : List ℕ) (l : List ℤ) (now : List ℕ) (count base : ℕ) (l′ : List ℤ) : Type 0 where
+  pub same : length l′ ≡ length l
+  pub place : base ≤ count * 1122
+  pub left : (ws : List Word) → WordsAt n t ws → WordsLeft n (sets l 0 (softWords n ws)) now count base l′
+
+pub words-filling-start : (n : ℕ) (t : List ℕ) (l : List ℤ) → FillingWords n t l t 0 0 l
+words-filling-start n t l =
+    record {
+      same = refl;
+      place = omega arith;
+      left = λ ws a. record { left = ws; all = lines-fine n ws (a .within .short) (a .within .all); few = omega (arith, a .within .sixteen); here = a .here; stores = refl }
+    }
+
+pub words-filling-again : (n : ℕ) (t : List ℕ) (l : List ℤ) (now : List ℕ) (count base : ℕ) (l′ : List ℤ) {next : List ℕ} {l″ : List ℤ} → FillingWords n t l now count base l′ → n ≤ 1122 → getD now 0 0 ≡ 87 → length l″ ≡ length l′ → ((w : Word) (rest : List ℕ) → WordAt n now w rest → Filled next rest l″ (sets l′ base (softWord n w))) → FillingWords n t l next (count + 1) (base + n) l″
+words-filling-again n t l now count base l′ f short h k g =
+    record {
+      same = k ∙ f .same;
+      place = omega (arith, f .place);
+      left = λ ws a. word-left (next-word (f .left ws a) h) g
+    }
+
+-- where there are words, the next one is there
+pub words-filling-here : (n : ℕ) (t : List ℕ) (l : List ℤ) (now : List ℕ) (count base : ℕ) (l′ : List ℤ) → FillingWords n t l now count base l′ → getD now 0 0 ≡ 87 → WordsHere n t → WordHere n now
+words-filling-here n t l now count base l′ f h x =
+    let w = next-word (f .left (x .words) (x .at-place)) h in
+    record { word = w .word; rest = each (wordForm n .write) (w .more); at-place = w .at-place }
