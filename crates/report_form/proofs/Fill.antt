@@ -32,10 +32,10 @@ pub filled-again : (l : List ℤ) (base : ℕ) (z : ℤ) (end : ℕ) (l′ : Lis
 filled-again l base z end l′ i f h =
     record {
       stores = ap (λ (x : List ℤ). set x (base + i) z) (f .stores)
-        ∙ ap (λ (k : ℕ). set (sets l base (replicate i z)) (base + k) z) (sym (length-replicate i z))
-        ∙ sym (sets-append l base (replicate i z) (z ∷ []))
-        ∙ ap (sets l base) (sym (replicate-snoc i z));
-      bound = omega arith
+          ∙ ap (λ (k : ℕ). set (sets l base (replicate i z)) (base + k) z) (sym (length-replicate i z))
+          ∙ sym (sets-append l base (replicate i z) (z ∷ []))
+          ∙ ap (sets l base) (sym (replicate-snoc i z));
+      bound = omega arith;
     }
 
 pub filled-length : (l : List ℤ) (base : ℕ) (z : ℤ) (end : ℕ) (l′ : List ℤ) (i : ℕ) → FilledTo l base z end l′ i → length l′ ≡ length l
@@ -93,7 +93,7 @@ module _ {n base : ℕ} {rest : List ℕ} {goal : List ℤ} where
             few = omega arith;
             here = e ∙ append-assoc (pairText q) (each pairText more) (10 ∷ rest);
             follow = stop more rest;
-            stores = s
+            stores = s;
           }
 
   pub no-pair : {now : List ℕ} {count : ℕ} {l : List ℤ} → PairsLeft n base rest goal now count l → (64 ≤ count) ⊎ (getD now 0 0 ≡ 9 → ⊥) → (now ≡ 10 ∷ rest) × (l ≡ goal)
@@ -107,8 +107,8 @@ module _ {n base : ℕ} {rest : List ℕ} {goal : List ℤ} where
   -- a pair read is the next one
   pub found-pair : {now next : List ℕ} {count position : ℕ} {l : List ℤ} {value : ℤ} {right : Bool} → NextPair n base rest goal now count l → Reads pairForm (λ p. p ≡ pairFrom position value) true right now next → (position < n) × PairsLeft n base rest goal next (count + 1) (set l (base + position) value)
   found-pair {now} {next} {count} {position} {l} {value} x h =
-      let (e, u) = must-find h (x .pair) (each pairText (x .more) ++ 10 ∷ rest) (x .within) (x .follow) (x .here) in
-      (subst (λ (p : Pair). p .position < n) e (x .below),
+      let (e, u) = must-find h (x .pair) (each pairText (x .more) ++ 10 ∷ rest) (x .within) (x .follow) (x .here) in (
+        subst (λ (p : Pair). p .position < n) e (x .below),
         record {
           left = x .more;
           least = suc (x .pair .position);
@@ -116,8 +116,9 @@ module _ {n base : ℕ} {rest : List ℕ} {goal : List ℤ} where
           short = x .short;
           few = omega (arith, x .few);
           here = u;
-          stores = ap (λ (p : Pair). stored base (x .more) (set l (base + p .position) (p .value))) (sym e) ∙ x .stores
-        })
+          stores = ap (λ (p : Pair). stored base (x .more) (set l (base + p .position) (p .value))) (sym e) ∙ x .stores;
+        },
+      )
 
 -- for whatever pairs stand at the start, those that are left
 pub record Filling (n base : ℕ) (t : List ℕ) (l : List ℤ) (now : List ℕ) (count : ℕ) (l′ : List ℤ) : Type 0 where
@@ -128,14 +129,14 @@ pub filling-start : (n base : ℕ) (t : List ℕ) (l : List ℤ) → Filling n b
 filling-start n base t l =
     record {
       same = refl;
-      left = λ ps rest a. record { left = ps; least = 0; rising = a .within .rising; short = a .within .short; few = omega (arith, a .within .few); here = a .here; stores = refl }
+      left = λ ps rest a. record { left = ps; least = 0; rising = a .within .rising; short = a .within .short; few = omega (arith, a .within .few); here = a .here; stores = refl };
     }
 
 pub filling-again : (n base : ℕ) (t : List ℕ) (l : List ℤ) (now : List ℕ) (count : ℕ) (l′ : List ℤ) (position : ℕ) (value : ℤ) {right : Bool} {next : List ℕ} → Filling n base t l now count l′ → getD now 0 0 ≡ 9 → Reads pairForm (λ p. p ≡ pairFrom position value) true right now next → Filling n base t l next (count + 1) (set l′ (base + position) value)
 filling-again n base t l now count l′ position value f h r =
     record {
       same = length-set l′ (base + position) value ∙ f .same;
-      left = λ ps rest a. found-pair (next-pair (f .left ps rest a) h) r .1
+      left = λ ps rest a. found-pair (next-pair (f .left ps rest a) h) r .1;
     }
 
 -- where there are pairs, the position read is below n
@@ -154,7 +155,7 @@ length-stored : (base : ℕ) (ps : List Pair) (l : List ℤ) → length (stored 
 length-stored base [] l = refl
 length-stored base (p ∷ ps) l = length-stored base ps (set l (base + p .position) (p .value)) ∙ length-set l (base + p .position) (p .value)
 
-soft-length : (n : ℕ) (w : Word) → length (softWord n w) ≡ n
+pub soft-length : (n : ℕ) (w : Word) → length (softWord n w) ≡ n
 soft-length n w = length-stored 0 (w .pairs) (replicate n (w .default)) ∙ length-replicate n (w .default)
 
 stored-sets : (n least base : ℕ) (ps : List Pair) (l vs : List ℤ) → Ascending n least ps → length vs ≡ n → base + n ≤ length l → stored base ps (sets l base vs) ≡ sets l base (stored 0 ps vs)
@@ -190,8 +191,8 @@ word-filled n text at base l {value = value} room h d p w rest a =
     record {
       next = f .next;
       stores = f .stores
-        ∙ ap (stored base (w .pairs)) (d ∙ ap (λ (z : ℤ). sets l base (replicate n z)) (sym e))
-        ∙ stored-sets n 0 base (w .pairs) l (replicate n (w .default)) (a .within .within .pairs) (length-replicate n (w .default)) room
+          ∙ ap (stored base (w .pairs)) (d ∙ ap (λ (z : ℤ). sets l base (replicate n z)) (sym e))
+          ∙ stored-sets n 0 base (w .pairs) l (replicate n (w .default)) (a .within .within .pairs) (length-replicate n (w .default)) room;
     }
 
 -- ---- all words
@@ -239,8 +240,8 @@ module _ {n : ℕ} {goal : List ℤ} where
         few = omega (arith, x .few);
         here = g .next;
         stores = ap₂ (λ (y : List ℤ) (k : ℕ). sets y (base + k) (softWords n (x .more))) (g .stores) (sym (soft-length n (x .word)))
-          ∙ sym (sets-append l base (softWord n (x .word)) (softWords n (x .more)))
-          ∙ x .stores
+            ∙ sym (sets-append l base (softWord n (x .word)) (softWords n (x .more)))
+            ∙ x .stores;
       }
 
 -- for whatever words stand at the start, those that are left
@@ -254,7 +255,7 @@ words-filling-start n t l =
     record {
       same = refl;
       place = omega arith;
-      left = λ ws a. record { left = ws; all = lines-fine n ws (a .within .short) (a .within .all); few = omega (arith, a .within .sixteen); here = a .here; stores = refl }
+      left = λ ws a. record { left = ws; all = lines-fine n ws (a .within .short) (a .within .all); few = omega (arith, a .within .sixteen); here = a .here; stores = refl };
     }
 
 pub words-filling-again : (n : ℕ) (t : List ℕ) (l : List ℤ) (now : List ℕ) (count base : ℕ) (l′ : List ℤ) {next : List ℕ} {l″ : List ℤ} → FillingWords n t l now count base l′ → n ≤ 1122 → getD now 0 0 ≡ 87 → length l″ ≡ length l′ → ((w : Word) (rest : List ℕ) → WordAt n now w rest → Filled next rest l″ (sets l′ base (softWord n w))) → FillingWords n t l next (count + 1) (base + n) l″
@@ -262,7 +263,7 @@ words-filling-again n t l now count base l′ f short h k g =
     record {
       same = k ∙ f .same;
       place = omega (arith, f .place);
-      left = λ ws a. word-left (next-word (f .left ws a) h) g
+      left = λ ws a. word-left (next-word (f .left ws a) h) g;
     }
 
 -- where there are words, the next one is there

@@ -8,3 +8,4 @@ mod Words
 mod RowLists
 mod Stores
 mod Fill
+mod Whole

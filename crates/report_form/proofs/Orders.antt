@@ -8,10 +8,10 @@ use lib.ListN.{getD}
 use Rattle.laws.specs.Decimal.{decimal, digit, Stops, decimal-leads}
 use Rattle.report_form.specs.Description.{Schedule, sequential, layered, ScheduleWithin, scheduleText}
 use Rattle.report_form.specs.Form.{Form, Found, Missing, right-wrong}
-use Rattle.report_form.specs.Forms.{numbers, schedules}
+use Rattle.report_form.specs.Forms.{numbers, schedules, OrderSo}
 
-pub s-found : (t u : List ℕ) → t ≡ 83 ∷ u → Stops u → Found schedules (λ s. s ≡ sequential) t u
-s-found t u e h = record { it = sequential; says = refl; within = tt; here = e; after = h }
+pub s-found : (t u : List ℕ) → t ≡ 83 ∷ u → Stops u → Found schedules (OrderSo false 0) t u
+s-found t u e h = record { it = sequential; says = record { layered-is = refl; step-is = refl }; within = tt; here = e; after = h }
 
 no-s : (t : List ℕ) (v : ℕ) (r : List ℕ) → 83 ∷ t ≡ decimal v ++ r → ⊥
 no-s t v r e =
@@ -30,8 +30,8 @@ s-missing t u e d = record { none = go }
         right-wrong (sym d ∙ ap (λ (l : List ℕ). digit (getD l 0 0)) q ∙ f)
     go (layered v) r w f g = no-s u v r (sym e ∙ g)
 
-pub step-found : (t u : List ℕ) (value : ℕ) → Found (numbers 4294967295) (λ v. v ≡ value) t u → Found schedules (λ s. s ≡ layered value) t u
-step-found t u value f = record { it = layered (f .it); says = ap layered (f .says); within = f .within; here = f .here; after = f .after }
+pub step-found : (t u : List ℕ) (value : ℕ) → Found (numbers 4294967295) (λ v. v ≡ value) t u → Found schedules (OrderSo true value) t u
+step-found t u value f = record { it = layered (f .it); says = record { layered-is = refl; step-is = f .says }; within = f .within; here = f .here; after = f .after }
 
 pub step-missing : (t : List ℕ) → (getD t 0 0 ≡ 83 → ⊥) → Missing (numbers 4294967295) t → Missing schedules t
 step-missing t n m = record { none = go }

@@ -75,7 +75,7 @@ map-snoc : (rs : List (List ℕ)) (r : List ℕ) → map length (rs ++ r ∷ [])
 map-snoc [] r = refl
 map-snoc (q ∷ rs) r = ap (λ (l : List ℕ). length q ∷ l) (map-snoc rs r)
 
-flat-length : (rs : List (List ℕ)) → All RowWithin rs → length (flat rs) ≤ length rs * 4
+pub flat-length : (rs : List (List ℕ)) → All RowWithin rs → length (flat rs) ≤ length rs * 4
 flat-length [] w = omega arith
 flat-length (r ∷ rs) w = omega (arith, length-append r (flat rs), w .0 .few, flat-length rs (w .1))
 

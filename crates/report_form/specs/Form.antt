@@ -40,6 +40,10 @@ pub record Reads {A : Type 0} (F : Form A) (Says : A → Type 0) (l l′ : Bool)
 pub right-wrong : true ≡ false → ⊥
 right-wrong e = subst T e tt
 
+before : {A : Type 0} (F : Form A) (S : A → Type 0) (l l′ : Bool) (t u : List ℕ) → Answer F S l l′ t u → l′ ≡ true → l ≡ true
+before F S false l′ t u h e = absurd (right-wrong (sym e ∙ h))
+before F S true l′ t u h e = refl
+
 not-there : {A : Type 0} (F : Form A) (S : A → Type 0) (l′ : Bool) (t u : List ℕ) → Answer F S true l′ t u → l′ ≡ false → Missing F t
 not-there F S true t u h e = absurd (right-wrong e)
 not-there F S false t u h e = h
@@ -72,6 +76,10 @@ module _ {A : Type 0} {F : Form A} {S : A → Type 0} where
 
   pub found-there : {l l′ : Bool} {t u : List ℕ} → Reads F S l l′ t u → l′ ≡ true → Found F S t u
   found-there {l} {l′} {t} {u} h e = there l l′ t u (h .answer) e
+
+  -- where the text is right now, it was right before
+  pub right-before : {l l′ : Bool} {t u : List ℕ} → Reads F S l l′ t u → l′ ≡ true → l ≡ true
+  right-before {l} {l′} {t} {u} h e = before F S l l′ t u (h .answer) e
 
   pub missing-there : {l′ : Bool} {t u : List ℕ} → Reads F S true l′ t u → l′ ≡ false → Missing F t
   missing-there {l′} {t} {u} h e = not-there F S l′ t u (h .answer) e
@@ -387,6 +395,14 @@ module _ {A : Type 0} (I : Items A) (Fine : List A → Type 0) (fine : (xs : Lis
 
   pub not-listed : {Says : List A → Type 0} {l : Bool} {t now : List ℕ} → Hopeless t → Listed Says l false t now
   not-listed {Says} {l} {t} {now} h = record { answer = no-list Says l t now h }
+
+  list-there : (Says : List A → Type 0) (l l′ : Bool) (t now : List ℕ) → Lists Says l l′ t now → l′ ≡ true → Ongoing Says t now
+  list-there Says false l′ t now h e = absurd (right-wrong (sym e ∙ h))
+  list-there Says true true t now h e = h .0
+  list-there Says true false t now h e = absurd (right-wrong (sym e))
+
+  pub listed-there : {Says : List A → Type 0} {l l′ : Bool} {t now : List ℕ} → Listed Says l l′ t now → l′ ≡ true → Ongoing Says t now
+  listed-there {Says} {l} {l′} {t} {now} h e = list-there Says l l′ t now (h .answer) e
 
   -- a list, and then another form
   module _ {B : Type 0} (G : Form B) (apart : (b : B) (r : List ℕ) → G .Within b → G .Follow r → Apart (G .write b ++ r)) where

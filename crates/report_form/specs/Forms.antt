@@ -53,25 +53,27 @@ schedules =
       unique = λ a b r s _ _ p q e. schedule-unique a b r s p q e;
     }
 
--- the schedule of a flag and a step
-abbrev pub scheduleFrom : Bool → ℕ → Schedule
-scheduleFrom true step = layered step
-scheduleFrom false step = sequential
+abbrev pub isLayered : Schedule → Bool
+isLayered sequential = false
+isLayered (layered step) = true
 
-abbrev pub settingsWith : ℕ → ℕ → ℤ → Schedule → ℕ → ℕ → ℕ → Settings
-settingsWith lanes iterations offset order rounds first bits =
-    record {
-      lanes = lanes;
-      iterations = iterations;
-      offset = offset;
-      schedule = order;
-      rounds = rounds;
-      first = first;
-      bits = bits;
-    }
+-- a layered schedule's step, 0 for a sequential one
+abbrev pub stepOf : Schedule → ℕ
+stepOf sequential = 0
+stepOf (layered step) = step
 
-abbrev pub settingsFrom : ℕ → ℕ → ℤ → Bool → ℕ → ℕ → ℕ → ℕ → Settings
-settingsFrom lanes iterations offset steps step rounds first bits = settingsWith lanes iterations offset (scheduleFrom steps step) rounds first bits
+pub record OrderSo (steps : Bool) (step : ℕ) (s : Schedule) : Type 0 where
+  pub layered-is : isLayered s ≡ steps
+  pub step-is : stepOf s ≡ step
+
+pub record SettingsSo (lanes iterations : ℕ) (offset : ℤ) (steps : Bool) (step rounds first bits : ℕ) (s : Settings) : Type 0 where
+  pub lanes-is : s .lanes ≡ lanes
+  pub iterations-is : s .iterations ≡ iterations
+  pub offset-is : s .offset ≡ offset
+  pub order-is : OrderSo steps step (s .schedule)
+  pub rounds-is : s .rounds ≡ rounds
+  pub first-is : s .first ≡ first
+  pub bits-is : s .bits ≡ bits
 
 abbrev pub address : ℕ → List ℕ
 address a = 9 ∷ decimal a
@@ -139,21 +141,18 @@ settingsForm =
     (λ _ w. (w .lanes, (w .iterations, (w .offset, (w .schedule, (w .rounds, (w .first, (w .bits, tt))))))))
     (λ _ w. record { lanes = w .0; iterations = w .1 .0; offset = w .1 .1 .0; schedule = w .1 .1 .1 .0; rounds = w .1 .1 .1 .1 .0; first = w .1 .1 .1 .1 .1 .0; bits = w .1 .1 .1 .1 .1 .1 .0 })
 
-pub settings-reads : {lanes iterations rounds first bits : ℕ} {offset : ℤ} {order : Schedule} {l₀ l₁ l₂ l₃ l₄ l₅ l₆ l₇ l₈ l₉ : Bool} {t₀ t₁ t₂ t₃ t₄ t₅ t₆ t₇ t₈ t₉ : List ℕ} → Reads (byte 80) (λ _. Unit) l₀ l₁ t₀ t₁ → Reads (lead 9 (numbers 4)) (λ v. v ≡ lanes) l₁ l₂ t₁ t₂ → Reads wides (λ v. v ≡ iterations) l₂ l₃ t₂ t₃ → Reads (lead 9 smalls) (λ v. v ≡ offset) l₃ l₄ t₃ t₄ → Reads (lead 9 schedules) (λ s. s ≡ order) l₄ l₅ t₄ t₅ → Reads wides (λ v. v ≡ rounds) l₅ l₆ t₅ t₆ → Reads wides (λ v. v ≡ first) l₆ l₇ t₆ t₇ → Reads wides (λ v. v ≡ bits) l₇ l₈ t₇ t₈ → Reads (byte 10) (λ _. Unit) l₈ l₉ t₈ t₉ → Reads settingsForm (λ s. s ≡ settingsWith lanes iterations offset order rounds first bits) l₀ l₉ t₀ t₉
-settings-reads {lanes} {iterations} {rounds} {first} {bits} {offset} {order} p a b o s r f c e =
+pub settings-reads : {lanes iterations step rounds first bits : ℕ} {offset : ℤ} {steps : Bool} {l₀ l₁ l₂ l₃ l₄ l₅ l₆ l₇ l₈ l₉ : Bool} {t₀ t₁ t₂ t₃ t₄ t₅ t₆ t₇ t₈ t₉ : List ℕ} → Reads (byte 80) (λ _. Unit) l₀ l₁ t₀ t₁ → Reads (lead 9 (numbers 4)) (λ v. v ≡ lanes) l₁ l₂ t₁ t₂ → Reads wides (λ v. v ≡ iterations) l₂ l₃ t₂ t₃ → Reads (lead 9 smalls) (λ v. v ≡ offset) l₃ l₄ t₃ t₄ → Reads (lead 9 schedules) (OrderSo steps step) l₄ l₅ t₄ t₅ → Reads wides (λ v. v ≡ rounds) l₅ l₆ t₅ t₆ → Reads wides (λ v. v ≡ first) l₆ l₇ t₆ t₇ → Reads wides (λ v. v ≡ bits) l₇ l₈ t₇ t₈ → Reads (byte 10) (λ _. Unit) l₈ l₉ t₈ t₉ → Reads settingsForm (SettingsSo lanes iterations offset steps step rounds first bits) l₀ l₉ t₀ t₉
+settings-reads p a b o s r f c e =
     via-reads (lead 80 seven-fields) fieldsOf settingsOf (λ _. refl) (λ _. refl) SettingsWithin
     (λ _ w. (w .lanes, (w .iterations, (w .offset, (w .schedule, (w .rounds, (w .first, (w .bits, tt))))))))
     (λ _ w. record { lanes = w .0; iterations = w .1 .0; offset = w .1 .1 .0; schedule = w .1 .1 .1 .0; rounds = w .1 .1 .1 .1 .0; first = w .1 .1 .1 .1 .1 .0; bits = w .1 .1 .1 .1 .1 .1 .0 })
-    (λ x h. said x (h .0) (h .1 .0) (h .1 .1 .0) (h .1 .1 .1 .0) (h .1 .1 .1 .1 .0) (h .1 .1 .1 .1 .1 .0) (h .1 .1 .1 .1 .1 .1 .0))
+    (λ x h. record { lanes-is = h .0; iterations-is = h .1 .0; offset-is = h .1 .1 .0; order-is = h .1 .1 .1 .0; rounds-is = h .1 .1 .1 .1 .0; first-is = h .1 .1 .1 .1 .1 .0; bits-is = h .1 .1 .1 .1 .1 .1 .0 })
     (lead-reads 80 seven-fields p
     (seq-reads (lead 9 (numbers 4)) six-fields (λ _ _ _ _. refl) a
     (seq-reads wides five-fields (λ _ _ _ _. refl) b
     (seq-reads (lead 9 smalls) four-fields (λ _ _ _ _. refl) o
     (seq-reads (lead 9 schedules) three-fields (λ _ _ _ _. refl) s
     (seq-reads wides two-fields (λ _ _ _ _. refl) r (seq-reads wides last-field (λ _ _ _ _. refl) f (seq-reads wides (byte 10) (λ _ _ _ _. refl) c e))))))))
-  where
-    said : (x : Fields) → x .0 ≡ lanes → x .1 .0 ≡ iterations → x .1 .1 .0 ≡ offset → x .1 .1 .1 .0 ≡ order → x .1 .1 .1 .1 .0 ≡ rounds → x .1 .1 .1 .1 .1 .0 ≡ first → x .1 .1 .1 .1 .1 .1 .0 ≡ bits → settingsOf x ≡ settingsWith lanes iterations offset order rounds first bits
-    said x a b c d e f g = λ i. record { lanes = a i; iterations = b i; offset = c i; schedule = d i; rounds = e i; first = f i; bits = g i }
 
 -- a pair, of a position of any size: which positions are right is said of a word's list of pairs
 pub record PairWithin (p : Pair) : Type 0 where
@@ -306,4 +305,4 @@ bodyForm n = chain rows RowsWithin rows-within (settingsThen n) (λ b r _ _. set
 
 -- the first line
 abbrev pub headForm : Form (ℕ × Unit)
-headForm = lead 78 (lead 9 (seq (numbers 1122) (byte 10) (λ _ _ _ _. refl)))
+headForm = lead 78 (seq (lead 9 (numbers 1122)) (byte 10) (λ _ _ _ _. refl))

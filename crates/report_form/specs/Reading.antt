@@ -6,21 +6,13 @@ use mathlib.Core.List.{List, [], _∷_, _++_, map}
 use Prim.Native.Nat.{ℕ, _+_, _-_, _≤_}
 use lib.IntN.{ℤ, pos}
 use lib.ListN.{length, drop, set, replicate}
-use Rattle.report_form.specs.Description.{Schedule, sequential, layered, Pair, Word, Description, Within, render}
-use Rattle.report_form.specs.Forms.{flat}
+use Rattle.report_form.specs.Description.{Pair, Word, Description, Within, render}
+use Rattle.report_form.specs.Forms.{flat, isLayered, stepOf}
 use Rattle.report_form.specs.declared.Reading.{Reading}
 
 -- a list with zeros behind it, k long
 abbrev pub padded : ℕ → List ℕ → List ℕ
 padded k xs = xs ++ replicate (k - length xs) 0
-
-abbrev pub isLayered : Schedule → Bool
-isLayered sequential = false
-isLayered (layered step) = true
-
-abbrev pub stepOf : Schedule → ℕ
-stepOf sequential = 0
-stepOf (layered step) = step
 
 -- a description's numbers: the rows' lengths and addresses are padded with zeros
 abbrev pub readingOf : Description → Reading

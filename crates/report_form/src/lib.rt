@@ -13,7 +13,7 @@ ghost use Rattle.report_form.specs.Description.{Pair, Word};
 ghost use Rattle.report_form.specs.Reading.{stored, softWord, softWords, refusedReading, RightReading};
 ghost use Rattle.report_form.specs.Places.{PairsAt, PairsHere, WordAt, WordHere, WordsAt, WordsHere, Filled};
 ghost use Rattle.report_form.specs.Form.{Reads, Listed, byte, lead};
-ghost use Rattle.report_form.specs.Forms.{numbers, smalls, rowForm, rows, RowsWithin, rows-within, RowsSo, pair-chain, wordForm, wordsForm, schedules, scheduleFrom, settingsForm, settingsFrom, pairForm, pairFrom};
+ghost use Rattle.report_form.specs.Forms.{numbers, smalls, rowForm, rows, RowsWithin, rows-within, RowsSo, pair-chain, wordForm, wordsForm, schedules, OrderSo, settingsForm, SettingsSo, pairForm, pairFrom};
 
 // What a text says: refusal 1 and zeros, or refusal 0 and a description's numbers: the code's n, the number of rows, their lengths and
 // their addresses one after another, the settings, and the number of words.
@@ -255,7 +255,7 @@ fn read_small_field(text: &[u8], right: bool, at: usize) -> Small
 
 // `S` or a step.
 fn read_order(text: &[u8], right: bool, at: usize) -> Order
-    ensures { λ r. ⌜ Reads schedules (λ s. s ≡ scheduleFrom (r .layered) (r .step)) right (r .right) (drop at (now (text .entry))) (drop (r .next) (now (text .entry))) ⌝ }
+    ensures { λ r. ⌜ Reads schedules (OrderSo (r .layered) (r .step)) right (r .right) (drop at (now (text .entry))) (drop (r .next) (now (text .entry))) ⌝ }
 {
     if byte_at(text, at) == 83 {
         let next = at + 1;
@@ -285,7 +285,7 @@ fn read_order(text: &[u8], right: bool, at: usize) -> Order
 
 // A tab and `S` or a step.
 fn read_order_field(text: &[u8], right: bool, at: usize) -> Order
-    ensures { λ r. ⌜ Reads (lead 9 schedules) (λ s. s ≡ scheduleFrom (r .layered) (r .step)) right (r .right) (drop at (now (text .entry))) (drop (r .next) (now (text .entry))) ⌝ }
+    ensures { λ r. ⌜ Reads (lead 9 schedules) (OrderSo (r .layered) (r .step)) right (r .right) (drop at (now (text .entry))) (drop (r .next) (now (text .entry))) ⌝ }
 {
     let tab = expect(text, right, at, 9);
     read_order(text, tab.right, tab.next)
@@ -293,7 +293,7 @@ fn read_order_field(text: &[u8], right: bool, at: usize) -> Order
 
 // The settings' line.
 fn read_settings(text: &[u8], right: bool, at: usize) -> Line
-    ensures { λ r. ⌜ Reads settingsForm (λ s. s ≡ settingsFrom (r .lanes) (r .iterations) (r .offset) (r .layered) (r .step) (r .rounds) (r .first) (r .bits)) right (r .right) (drop at (now (text .entry))) (drop (r .next) (now (text .entry))) ⌝ }
+    ensures { λ r. ⌜ Reads settingsForm (SettingsSo (r .lanes) (r .iterations) (r .offset) (r .layered) (r .step) (r .rounds) (r .first) (r .bits)) right (r .right) (drop at (now (text .entry))) (drop (r .next) (now (text .entry))) ⌝ }
 {
     let letter = expect(text, right, at, 80);
     let lanes = read_field(text, letter.right, letter.next, 4);

@@ -41,8 +41,8 @@ add-place c =
     let s = c .before .before .before .before .loop in
     let r = c .before .read-pair .result in
     let b : r .position < a .n =
-      filling-below (a .n) (a .base) (drop (a .at) (a .text .now)) (a .words .now) (drop (s .i) (a .text .now)) (s .count) (s .words) (r .position) (r .value) (s .inv)
-      (goes-mark (a .text .now) (s .count) 64 (s .i) 9 (c .before .before .before .goes-on .ensures) (c .before .before .if1 .taken)) (c .before .read-pair .ensures) (c .before .before .before .before .before .before .pre .1) in
+    filling-below (a .n) (a .base) (drop (a .at) (a .text .now)) (a .words .now) (drop (s .i) (a .text .now)) (s .count) (s .words) (r .position) (r .value) (s .inv)
+    (goes-mark (a .text .now) (s .count) 64 (s .i) 9 (c .before .before .before .goes-on .ensures) (c .before .before .if1 .taken)) (c .before .read-pair .ensures) (c .before .before .before .before .before .before .pre .1) in
     omega (arith, c .before .before .before .before .before .before .pre .0, c .before .before .before .before .before .before .good .1 .1 .1 .0 .0)
 
 slice-set-from-value : tie.Need-slice-set-from-value Inv-loop μ-loop
@@ -51,8 +51,8 @@ slice-set-from-value c =
     let s = c .before .before .before .before .before .loop in
     let r = c .before .before .read-pair .result in
     let b : r .position < a .n =
-      filling-below (a .n) (a .base) (drop (a .at) (a .text .now)) (a .words .now) (drop (s .i) (a .text .now)) (s .count) (s .words) (r .position) (r .value) (s .inv)
-      (goes-mark (a .text .now) (s .count) 64 (s .i) 9 (c .before .before .before .before .goes-on .ensures) (c .before .before .before .if1 .taken)) (c .before .before .read-pair .ensures) (c .before .before .before .before .before .before .before .pre .1) in
+    filling-below (a .n) (a .base) (drop (a .at) (a .text .now)) (a .words .now) (drop (s .i) (a .text .now)) (s .count) (s .words) (r .position) (r .value) (s .inv)
+    (goes-mark (a .text .now) (s .count) 64 (s .i) 9 (c .before .before .before .before .goes-on .ensures) (c .before .before .before .if1 .taken)) (c .before .before .read-pair .ensures) (c .before .before .before .before .before .before .before .pre .1) in
     omega (arith, c .before .before .before .before .before .before .before .pre .0, s .inv .same)
 
 add-count : tie.Need-add-count Inv-loop μ-loop

@@ -26,10 +26,11 @@ fill-word-requires : tie.Need-fill-word-requires Inv-loop μ-loop
 fill-word-requires c κs =
     let a = c .before .before .before .before .before .args in
     let s = c .before .before .before .loop in
-    let x = c .before .before .before .before .before .pre .1 in
-    (omega (arith, c .before .before .before .before .before .pre .0, x .at-place .within .short, s .inv .same, s .inv .place, goes-room (a .text .now) (s .count) 16 (s .i) 87 (c .before .before .goes-on .ensures) (c .before .if1 .taken)),
+    let x = c .before .before .before .before .before .pre .1 in (
+      omega (arith, c .before .before .before .before .before .pre .0, x .at-place .within .short, s .inv .same, s .inv .place, goes-room (a .text .now) (s .count) 16 (s .i) 87 (c .before .before .goes-on .ensures) (c .before .if1 .taken)),
       words-filling-here (a .n) (drop (a .at) (a .text .now)) (a .words .now) (drop (s .i) (a .text .now)) (s .count) (s .base) (s .words) (s .inv)
-      (goes-mark (a .text .now) (s .count) 16 (s .i) 87 (c .before .before .goes-on .ensures) (c .before .if1 .taken)) x)
+          (goes-mark (a .text .now) (s .count) 16 (s .i) 87 (c .before .before .goes-on .ensures) (c .before .if1 .taken)) x,
+    )
 
 add-base : tie.Need-add-base Inv-loop μ-loop
 add-base c =
