@@ -35,10 +35,10 @@ pub copied-again : (text : List ℕ) (at : ℕ) (out out′ : List ℕ) (i : ℕ
 copied-again text at out out′ i c h =
     record {
       bytes = ap (λ (l : List ℕ). set l (at + i) (getD text i 0)) (c .bytes)
-        ∙ ap (λ (k : ℕ). set (sets out at (take i text)) (at + k) (getD text i 0)) (sym (length-take-le i text (c .bound)))
-        ∙ sym (sets-append out at (take i text) (getD text i 0 ∷ []))
-        ∙ ap (sets out at) (sym (ap (λ (k : ℕ). take k text) (add-one i) ∙ take-suc text i 0 h));
-      bound = omega arith
+          ∙ ap (λ (k : ℕ). set (sets out at (take i text)) (at + k) (getD text i 0)) (sym (length-take-le i text (c .bound)))
+          ∙ sym (sets-append out at (take i text) (getD text i 0 ∷ []))
+          ∙ ap (sets out at) (sym (ap (λ (k : ℕ). take k text) (add-one i) ∙ take-suc text i 0 h));
+      bound = omega arith;
     }
 
 pub copied-length : (text : List ℕ) (at : ℕ) (out out′ : List ℕ) (i : ℕ) → Copied text at out out′ i → length out′ ≡ length out

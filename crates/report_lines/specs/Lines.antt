@@ -34,6 +34,10 @@ pub record Result : Type 0 where
   pub lost : Bool
   pub corrected : ℕ
 
+abbrev pub resultOf : ℕ → ℕ → ℕ → Bool → ℕ → Result
+resultOf state iterations unsatisfied lost corrected =
+    record { state = state; iterations = iterations; unsatisfied = unsatisfied; lost = lost; corrected = corrected }
+
 -- "First line: ending, rounds"
 abbrev pub firstLine : Bool → ℕ → List ℕ
 firstLine stopped rounds = line (endingText stopped) (decimal rounds ∷ [])
