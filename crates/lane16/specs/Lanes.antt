@@ -1,5 +1,5 @@
 -- What the functions on sixteen lanes make of lane k.
-use Prim.Native.Nat.{ℕ, _<_, min, max}
+use Prim.Native.Nat.{ℕ, _<_, _≤_, min, max}
 use mathlib.Core.Path.{_≡_, ap, _∙_}
 use mathlib.Core.Bool.{false}
 use mathlib.Core.List.{List}
@@ -8,6 +8,7 @@ use lib.IntN.{ℤ, pos, _+ℤ_, _-ℤ_}
 use lib.Signed.{ltZ}
 use Rattle.laws.specs.Signed.{negative, times}
 use Rattle.lane_math.specs.Value.{satZ, magnitude, reduced, replied}
+use Rattle.lane_math.specs.Iteration.{hard}
 use Rattle.lane_math.specs.Laws.{reduced-nonneg}
 
 -- the value of lane k
@@ -41,3 +42,8 @@ reduced-none-negative {o} {m} h = record { is = λ k q. ap (λ (y : ℤ). ltZ y 
 pub record Answered (t s : List ℤ) (a : List ℕ) (m1 m2 : List ℤ) (m L : List ℤ) : Type 0 where
   pub message-is : (k : ℕ) → k < 16 → z m k ≡ replied (z t k) (z s k) (n a k) (z m1 k) (z m2 k)
   pub value-is : (k : ℕ) → k < 16 → z L k ≡ satZ (z t k +ℤ replied (z t k) (z s k) (n a k) (z m1 k) (z m2 k))
+
+-- hard decisions of the first `lanes` of 64 lanes, 0 past them
+pub record Decided (lanes : ℕ) (a : List ℤ) (b : List ℕ) : Type 0 where
+  pub is : (k : ℕ) → k < lanes → n b k ≡ hard (z a k)
+  pub none : (k : ℕ) → lanes ≤ k → k < 64 → n b k ≡ 0

@@ -1,9 +1,6 @@
 // Sixteen lanes by value: one fused loop for the scan of an edge and one for its answer.
-ghost use mathlib.Core.Path.{_≡_};
-ghost use Prim.Native.Nat.{ℕ, _<_};
-ghost use Rattle.laws.specs.Signed.{negative, times};
-ghost use Rattle.lane_math.specs.Iteration.{hard};
-ghost use Rattle.lane16.specs.Lanes.{z, n, Scanned, Reduced, NoneNegative, Answered};
+ghost use Prim.Native.Nat.{_≤_};
+ghost use Rattle.lane16.specs.Lanes.{Scanned, Reduced, NoneNegative, Answered, Decided};
 
 // Where a pass over a check's edges stands: the two smallest magnitudes, the sign of the product, and the last edge's t.
 pub struct Pass {
@@ -76,26 +73,14 @@ pub fn reply(t: [i8; 16], sign: [i8; 16], min1: [u8; 16], m1: [i8; 16], m2: [i8;
     Answer { m: m, y: y }
 }
 
-// The signs of the products.
-pub fn flip(a: [i8; 16], b: [i8; 16]) -> [i8; 16]
-    ensures { λ r. ⌜ ((k : ℕ) → k < 16 → negative (z r k) ≡ times (negative (z a k)) (negative (z b k))) ⌝ }
-{
-    let mut v: [i8; 16] = [0; 16];
-    let mut i: usize = 0;
-    while i < 16 {
-        v[i] = lane_math::flip(a[i], b[i]);
-        i += 1;
-    }
-    v
-}
-
-// 1 where the lane is negative, of all 64 lanes.
-pub fn bits(a: [i8; 64]) -> [u8; 64]
-    ensures { λ r. ⌜ ((k : ℕ) → k < 64 → n r k ≡ hard (z a k)) ⌝ }
+// 1 where the lane is negative, of `lanes` lanes; 0 past the last of them.
+pub fn bits(a: [i8; 64], lanes: usize) -> [u8; 64]
+    requires { ⌜ lanes ≤ 64 ⌝ }
+    ensures { λ r. ⌜ Decided lanes a r ⌝ }
 {
     let mut v: [u8; 64] = [0; 64];
     let mut i: usize = 0;
-    while i < 64 {
+    while i < lanes {
         v[i] = lane_math::bit(a[i]);
         i += 1;
     }

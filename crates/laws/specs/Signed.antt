@@ -111,6 +111,16 @@ times-swap false true false = refl
 times-swap false false true = refl
 times-swap false false false = refl
 
+pub times-assoc : (a b c : Bool) → times (times a b) c ≡ times a (times b c)
+times-assoc true true true = refl
+times-assoc true true false = refl
+times-assoc true false true = refl
+times-assoc true false false = refl
+times-assoc false true true = refl
+times-assoc false true false = refl
+times-assoc false false true = refl
+times-assoc false false false = refl
+
 pub times-twice : (a b : Bool) → times (times a b) b ≡ a
 times-twice true true = refl
 times-twice true false = refl

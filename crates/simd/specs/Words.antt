@@ -9,13 +9,13 @@ use borrow.Author.Tests.{ltb-true, ltb-false, lt-ltb, le-ltb, eqb-true, eqb-fals
 use lib.Dec.{ltb, eqb}
 use lib.ListN.{getD, length}
 use lib.IntN.{ℤ, pos, _+ℤ_, _-ℤ_}
-use Rattle.laws.specs.Signed.{negative}
+use Rattle.laws.specs.Signed.{negative, times}
 use Rattle.lane_math.specs.Value.{satZ}
 use Rattle.lane_math.specs.Check.{Word, check, message, put, wrote, tOf, newL, newR}
 use Rattle.lane_math.specs.Iteration.{unsatisfied, negatives, hard}
-use Rattle.lane_math.specs.Laws.{message-same, wrote-same, put-same, put-other, parity, unsatisfied-is}
-use Rattle.lane16.specs.Lanes.{z}
-use Rattle.simd.specs.Column.{column, Stored, Mapped}
+use Rattle.lane_math.specs.Laws.{message-same, wrote-same, put-other, parity, unsatisfied-is}
+use Rattle.lane16.specs.Lanes.{z, Decided}
+use Rattle.simd.specs.Column.{column, Mapped}
 use Rattle.simd.specs.Room.{var, Room}
 use Rattle.simd.specs.Pass.{tAt, written, checkColumn, messaged, messagesColumn, Signs}
 
@@ -265,45 +265,39 @@ module _ {rows : List ℕ} {s d n lanes : ℕ} {a : List ℤ} (r : Room rows s d
       value-is : (k : ℕ) → k < d → column lanes a i (var rows (s + k)) ≡ word n (length rows) lanes a i .L (var rows (s + k))
       value-is k q = sym (within-at n (column lanes a i) (var rows (s + k)) (inside .0 k q))
 
--- ---- the signs of the lanes below at are in a row of 64, the others are 0
-pub record Parities (v : ℕ → ℕ) (s lanes : ℕ) (a : List ℤ) (d at : ℕ) (g : List ℤ) : Type 0 where
-  pub done : (i : ℕ) → i < at → negative (column 64 g i 0) ≡ parity (λ e. column lanes a i (v (s + e))) d
-  pub none : (i : ℕ) → at ≤ i → i < 64 → column 64 g i 0 ≡ pos 0
+-- ---- the signs of the first m of 64 lanes, the others 0
+pub record Parities (v : ℕ → ℕ) (s lanes : ℕ) (a : List ℤ) (d m : ℕ) (g : List ℤ) : Type 0 where
+  pub done : (i : ℕ) → i < m → negative (z g i) ≡ parity (λ e. column lanes a i (v (s + e))) d
+  pub none : (i : ℕ) → m ≤ i → i < 64 → z g i ≡ pos 0
 
-first-row : (g : List ℤ) (i : ℕ) → column 64 g i 0 ≡ z g i
-unfolding column
-first-row g i = let e : 0 * 64 + i ≡ i = omega arith in ap (λ (p : ℕ). getD g p (pos 0)) e
+pub parities-start : (v : ℕ → ℕ) (s lanes : ℕ) (a : List ℤ) (d : ℕ) (g : List ℤ) → ((k : ℕ) → k < 64 → z g k ≡ pos 0) → Parities v s lanes a d (0 * 16) g
+parities-start v s lanes a d g h = record { done = λ i q. absurd (omega (arith, q)); none = λ i q p. h i p }
 
-pub parities-start : (v : ℕ → ℕ) (s lanes : ℕ) (a : List ℤ) (d : ℕ) (g : List ℤ) → ((k : ℕ) → k < 64 → z g k ≡ pos 0) → Parities v s lanes a d 0 g
-parities-start v s lanes a d g h = record { done = λ i q. absurd (omega (arith, q)); none = λ i q p. first-row g i ∙ h i p }
-
-pub parities-again : {v : ℕ → ℕ} {s lanes : ℕ} {a : List ℤ} {d at w : ℕ} {x g g′ : List ℤ} → w ≤ 16 → at + w ≤ 64 → Parities v s lanes a d at g → Signs v s lanes at a d x → Stored w 64 0 at x g g′ → Parities v s lanes a d (at + w) g′
-parities-again {v} {s} {lanes} {a} {d} {at} {w} {x} {g} {g′} narrow room c sx st =
+pub parities-again : {v : ℕ → ℕ} {s lanes : ℕ} {a : List ℤ} {d : ℕ} {g g′ : List ℤ} (j : ℕ) → j < 4 → Parities v s lanes a d (j * 16) g → Signs v s lanes (j * 16) a g d g′ → Parities v s lanes a d ((j + 1) * 16) g′
+parities-again {v} {s} {lanes} {a} {d} {g} {g′} j few c sx =
     record {
-      done = λ i q. grow i q (ltb i at) refl;
-      none = λ i q p. ap (λ (f : ℕ → ℤ). f 0) (st .outside i p (λ k b e. omega arith)) ∙ c .none i (omega arith) p;
+      done = λ i q. grow i q (ltb i (j * 16)) refl;
+      none = λ i q p. sx .outside i (λ k b e. omega arith) ∙ c .none i (omega arith) p;
     }
   where
-    grow : (i : ℕ) → i < at + w → (b : Bool) → ltb i at ≡ b → negative (column 64 g′ i 0) ≡ parity (λ e. column lanes a i (v (s + e))) d
+    grow : (i : ℕ) → i < (j + 1) * 16 → (b : Bool) → ltb i (j * 16) ≡ b → negative (z g′ i) ≡ parity (λ e. column lanes a i (v (s + e))) d
     grow i q true e =
-        let p : i < at = ltb-true i at e in
-        ap (λ (f : ℕ → ℤ). negative (f 0)) (st .outside i (omega arith) (λ k b y. omega arith)) ∙ c .done i p
+        let p : i < j * 16 = ltb-true i (j * 16) e in
+        ap negative (sx .outside i (λ k b y. omega arith)) ∙ c .done i p
     grow i q false e =
-        let p : at ≤ i = ltb-false i at e in
-        let y : at + (i - at) ≡ i = omega arith in
-        subst (λ (j : ℕ). negative (column 64 g′ j 0) ≡ parity (λ e. column lanes a j (v (s + e))) d) y
-        (ap (λ (f : ℕ → ℤ). negative (f 0)) (st .inside (i - at) (omega arith))
-        ∙ ap negative (put-same (column 64 g (at + (i - at))) 0 (z x (i - at)))
-        ∙ sx .sign-is (i - at) (omega arith))
+        let p : j * 16 ≤ i = ltb-false i (j * 16) e in
+        let y : j * 16 + (i - j * 16) ≡ i = omega arith in
+        subst (λ (l : ℕ). negative (z g′ l) ≡ parity (λ e. column lanes a l (v (s + e))) d) y
+        (sx .inside (i - j * 16) (omega arith)
+        ∙ ap (λ (x : ℤ). times (negative x) (parity (λ e. column lanes a (j * 16 + (i - j * 16)) (v (s + e))) d)) (c .none (j * 16 + (i - j * 16)) (omega arith) (omega arith)))
 
-pub parities-end : {rows : List ℕ} {s d n lanes at : ℕ} {a g : List ℤ} (b : List ℕ) → Room rows s d n lanes a → at ≡ lanes → Parities (var rows) s lanes a d at g → ((k : ℕ) → k < 64 → getD b k 0 ≡ hard (z g k)) → SignParity rows s d n lanes a b
-parities-end {rows} {s} {d} {n} {lanes} {at} {a} {g} b r e c h =
+pub parities-end : {rows : List ℕ} {s d n lanes m : ℕ} {a g : List ℤ} {b : List ℕ} → Room rows s d n lanes a → lanes ≤ m → Parities (var rows) s lanes a d m g → Decided lanes g b → SignParity rows s d n lanes a b
+parities-end {rows} {s} {d} {n} {lanes} {m} {a} {g} {b} r e c h =
     record {
       bits =
-          λ i q. h i (omega (arith, r .few-lanes, q))
-          ∙ ap (λ (y : ℤ). hard y) (sym (first-row g i))
+          λ i q. h .is i q
           ∙ ap (λ (y : Bool). cond y 1 0) (c .done i (omega arith))
           ∙ sym (unsatisfied-is (var rows) s d (column lanes a i))
           ∙ sign-parity r i;
-      none = λ i q p. h i p ∙ ap (λ (y : ℤ). hard y) (sym (first-row g i) ∙ c .none i (omega arith) p);
+      none = h .none;
     }

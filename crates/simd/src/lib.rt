@@ -9,7 +9,7 @@ ghost use lib.ListN.{length};
 ghost use Rattle.lane16.specs.Lanes.{z, NoneNegative};
 ghost use Rattle.simd.specs.Column.{column, Stored, Part};
 ghost use Rattle.simd.specs.Room.{var, Room, Width};
-ghost use Rattle.simd.specs.Pass.{Scan, Replied, Kept, Signs, checkColumn, messagesColumn};
+ghost use Rattle.simd.specs.Pass.{Scan, Replied, Kept, Flipped, Signs, checkColumn, messagesColumn};
 ghost use Rattle.simd.specs.Words.{CheckNode, CheckMessages, SignParity};
 
 // The variable of edge e.
@@ -295,36 +295,52 @@ pub fn check_messages(
     }
 }
 
-// The signs of the products of a check's values, of the sixteen lanes from `at`.
-fn signs(rows: &[u32], s: usize, d: usize, a: &[i8], n: usize, lanes: usize, at: usize) -> [i8; 16]
-    requires { ⌜ Room (now rows) s d n lanes (now a) ⌝ }
-    requires { ⌜ at < lanes ⌝ }
-    ensures { λ r. ⌜ Signs (var (now (rows .entry))) s lanes at (now (a .entry)) d r ⌝ }
+// Row u's signs, of the sixteen lanes from `at`, multiplied into g.
+fn flip_row(g: &mut [i8], a: &[i8], u: usize, lanes: usize, at: usize)
+    requires { ⌜ (u * lanes + at + 16 ≤ length (now a)) × (at + 16 ≤ length (now g)) ⌝ }
+    ensures { λ _. ⌜ Flipped u lanes at (now (a .entry)) (now (g .entry)) 16 (now (g .exit)) ⌝ }
 {
-    let mut g: [i8; 16] = [0; 16];
+    let base = u * lanes + at;
+    let mut i: usize = 0;
+    while i < 16 {
+        g[at + i] = lane_math::flip(g[at + i], a[base + i]);
+        i += 1;
+    }
+}
+
+// The signs of a check's values, of the sixteen lanes from `at`, multiplied into g.
+fn signs(
+    g: &mut [i8],
+    rows: &[u32],
+    s: usize,
+    d: usize,
+    a: &[i8],
+    n: usize,
+    lanes: usize,
+    at: usize,
+)
+    requires { ⌜ Room (now rows) s d n lanes (now a) ⌝ }
+    requires { ⌜ (at < lanes) × (at + 16 ≤ length (now g)) ⌝ }
+    ensures { λ _. ⌜ Signs (var (now (rows .entry))) s lanes at (now (a .entry)) (now (g .entry)) d (now (g .exit)) ⌝ }
+{
     let mut k: usize = 0;
     while k < d {
         let v = variable(rows, s + k);
-        let x = load(a, v, lanes, at);
-        let h = lane16::flip(g, x);
-        g = h;
+        flip_row(g, a, v, lanes, at);
         k += 1;
     }
-    g
 }
 
-// Which lanes have the check unsatisfied: 1 where an odd number of its values are negative.
+// Which lanes have the check unsatisfied: 1 where an odd number of its values are negative, 0 past the last lane.
 pub fn sign_parity(rows: &[u32], s: usize, d: usize, a: &[i8], n: usize, lanes: usize) -> [u8; 64]
     requires { ⌜ Room (now rows) s d n lanes (now a) ⌝ }
     ensures { λ r. ⌜ SignParity (now (rows .entry)) s d n lanes (now (a .entry)) r ⌝ }
 {
     let mut g: [i8; 64] = [0; 64];
-    let mut at: usize = 0;
-    while at < lanes {
-        let w = width(lanes - at);
-        let x = signs(rows, s, d, a, n, lanes, at);
-        store_lanes(&mut g, 0, 64, at, x, w);
-        at += w;
+    let mut j: usize = 0;
+    while j * 16 < lanes {
+        signs(&mut g, rows, s, d, a, n, lanes, j * 16);
+        j += 1;
     }
-    lane16::bits(g)
+    lane16::bits(g, lanes)
 }
