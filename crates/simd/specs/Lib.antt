@@ -1,5 +1,3 @@
--- Interleaved memory by columns, a check's two passes over it, and the column laws.
-pub mod Column
-pub mod Room
+-- A check's two passes over the memory, by columns, and the column laws.
 pub mod Pass
 pub mod Words

@@ -14,7 +14,7 @@ use Rattle.lane_math.specs.Value.{satZ, magnitude, reduced, replied}
 use Rattle.lane_math.specs.Check.{min1, min2, message, put, tOf}
 use Rattle.lane_math.specs.Laws.{min1-small, min2-small, min2-step, parity, reply-is, put-same, put-other, last-or}
 use Rattle.lane16.specs.Lanes.{z, n, Scanned, Reduced, Answered}
-use Rattle.simd.specs.Column.{column, Off, Stored, Part}
+use Rattle.lane_memory.specs.Column.{column, Off, Stored, Part}
 
 -- t of a check's edges in a column whose messages start at row base
 abbrev pub tAt : (ℕ → ℕ) → ℕ → ℕ → (ℕ → ℤ) → ℕ → ℤ
@@ -134,52 +134,53 @@ chunk-is {w} {v} {s} {d} {base} {lanes} {at} {a} {a′} {t} {g} {m1} {m2} {o} {r
       outside = p .outside;
     }
 
--- ---- the layered schedule: a column after d edges have their t, their old messages and their new messages m in their rows
-unfoldable pub messaged : ℕ → ℕ → ℕ → (ℕ → ℤ) → (ℕ → ℤ) → (ℕ → ℤ) → ℕ → ℕ → ℤ
-messaged base E s t m f zero = f
-messaged base E s t m f (suc d) =
-    put (put (put (messaged base E s t m f d) (base + E + (s + d)) (t d)) (base + 2 * E + (s + d)) (f (base + (s + d)))) (base + (s + d)) (m d)
+-- ---- the layered schedule: a column after d edges have their t and their old messages in the rows of the run's edges from place p on, and their new
+-- messages m in their own rows
+unfoldable pub messaged : ℕ → ℕ → ℕ → ℕ → (ℕ → ℤ) → (ℕ → ℤ) → (ℕ → ℤ) → ℕ → ℕ → ℤ
+messaged base E s p t m f zero = f
+messaged base E s p t m f (suc d) =
+    put (put (put (messaged base E s p t m f d) (base + E + (p + d)) (t d)) (base + 2 * E + (p + d)) (f (base + (s + d)))) (base + (s + d)) (m d)
 
-pub messaged-same : (base E s : ℕ) (t t′ m m′ f : ℕ → ℤ) (d : ℕ) → ((k : ℕ) → k < d → t k ≡ t′ k) → ((k : ℕ) → k < d → m k ≡ m′ k) → messaged base E s t m f d ≡ messaged base E s t′ m′ f d
+pub messaged-same : (base E s p : ℕ) (t t′ m m′ f : ℕ → ℤ) (d : ℕ) → ((k : ℕ) → k < d → t k ≡ t′ k) → ((k : ℕ) → k < d → m k ≡ m′ k) → messaged base E s p t m f d ≡ messaged base E s p t′ m′ f d
 unfolding messaged
-messaged-same base E s t t′ m m′ f zero h g = refl
-messaged-same base E s t t′ m m′ f (suc d) h g =
-    λ i. put (put (put (messaged-same base E s t t′ m m′ f d (λ k q. h k (omega arith)) (λ k q. g k (omega arith)) i) (base + E + (s + d)) (h d (omega arith) i)) (base + 2 * E + (s + d)) (f (base + (s + d)))) (base + (s + d)) (g d (omega arith) i)
+messaged-same base E s p t t′ m m′ f zero h g = refl
+messaged-same base E s p t t′ m m′ f (suc d) h g =
+    λ i. put (put (put (messaged-same base E s p t t′ m m′ f d (λ k q. h k (omega arith)) (λ k q. g k (omega arith)) i) (base + E + (p + d)) (h d (omega arith) i)) (base + 2 * E + (p + d)) (f (base + (s + d)))) (base + (s + d)) (g d (omega arith) i)
 
 -- a message that is not yet replaced
-messaged-next : (base E s : ℕ) (t m f : ℕ → ℤ) (d e : ℕ) → s + d ≤ e → e < E → messaged base E s t m f d (base + e) ≡ f (base + e)
+messaged-next : (base E s p : ℕ) (t m f : ℕ → ℤ) (d e : ℕ) → s + d ≤ e → e < E → messaged base E s p t m f d (base + e) ≡ f (base + e)
 unfolding messaged
-messaged-next base E s t m f zero e h q = refl
-messaged-next base E s t m f (suc d) e h q =
-    put-other (put (put (messaged base E s t m f d) (base + E + (s + d)) (t d)) (base + 2 * E + (s + d)) (f (base + (s + d)))) (base + (s + d)) (m d) (base + e) (λ k. omega arith)
-    ∙ put-other (put (messaged base E s t m f d) (base + E + (s + d)) (t d)) (base + 2 * E + (s + d)) (f (base + (s + d))) (base + e) (λ k. omega arith)
-    ∙ put-other (messaged base E s t m f d) (base + E + (s + d)) (t d) (base + e) (λ k. omega arith)
-    ∙ messaged-next base E s t m f d e (omega arith) q
+messaged-next base E s p t m f zero e h q = refl
+messaged-next base E s p t m f (suc d) e h q =
+    put-other (put (put (messaged base E s p t m f d) (base + E + (p + d)) (t d)) (base + 2 * E + (p + d)) (f (base + (s + d)))) (base + (s + d)) (m d) (base + e) (λ k. omega arith)
+    ∙ put-other (put (messaged base E s p t m f d) (base + E + (p + d)) (t d)) (base + 2 * E + (p + d)) (f (base + (s + d))) (base + e) (λ k. omega arith)
+    ∙ put-other (messaged base E s p t m f d) (base + E + (p + d)) (t d) (base + e) (λ k. omega arith)
+    ∙ messaged-next base E s p t m f d e (omega arith) q
 
-unfoldable pub messagesColumn : ℤ → (ℕ → ℕ) → ℕ → ℕ → ℕ → ℕ → (ℕ → ℤ) → ℕ → ℤ
-messagesColumn o v s d base E f = messaged base E s (tAt v s base f) (message o (tAt v s base f) d) f d
+unfoldable pub messagesColumn : ℤ → (ℕ → ℕ) → ℕ → ℕ → ℕ → ℕ → ℕ → (ℕ → ℤ) → ℕ → ℤ
+messagesColumn o v s d base E p f = messaged base E s p (tAt v s base f) (message o (tAt v s base f) d) f d
 
-pub record Kept (w s base E lanes at : ℕ) (t g : List ℤ) (least : List ℕ) (m1 m2 a : List ℤ) (d : ℕ) (a′ : List ℤ) : Type 0 where
-  pub inside : (k : ℕ) → k < w → column lanes a′ (at + k) ≡ messaged base E s (column 16 t (0 + k)) (answer t g least m1 m2 k) (column lanes a (at + k)) d
+pub record Kept (w s base E p lanes at : ℕ) (t g : List ℤ) (least : List ℕ) (m1 m2 a : List ℤ) (d : ℕ) (a′ : List ℤ) : Type 0 where
+  pub inside : (k : ℕ) → k < w → column lanes a′ (at + k) ≡ messaged base E s p (column 16 t (0 + k)) (answer t g least m1 m2 k) (column lanes a (at + k)) d
   pub outside : (i : ℕ) → i < lanes → Off at w i → column lanes a′ i ≡ column lanes a i
 
-pub kept-start : (w s base E lanes at : ℕ) (t g : List ℤ) (least : List ℕ) (m1 m2 a : List ℤ) → Kept w s base E lanes at t g least m1 m2 a 0 a
+pub kept-start : (w s base E p lanes at : ℕ) (t g : List ℤ) (least : List ℕ) (m1 m2 a : List ℤ) → Kept w s base E p lanes at t g least m1 m2 a 0 a
 unfolding messaged
-kept-start w s base E lanes at t g least m1 m2 a = record { inside = λ k q. refl; outside = λ i q f. refl }
+kept-start w s base E p lanes at t g least m1 m2 a = record { inside = λ k q. refl; outside = λ i q f. refl }
 
-module _ {w s base E lanes at : ℕ} {t g : List ℤ} {least : List ℕ} {m1 m2 a : List ℤ} {d : ℕ} {a′ b b′ a″ x old m y : List ℤ} where
-  pub kept-again : w ≤ 16 → s + d < E → Kept w s base E lanes at t g least m1 m2 a d a′
+module _ {w s base E p lanes at : ℕ} {t g : List ℤ} {least : List ℕ} {m1 m2 a : List ℤ} {d : ℕ} {a′ b b′ a″ x old m y : List ℤ} where
+  pub kept-again : w ≤ 16 → s + d < E → Kept w s base E p lanes at t g least m1 m2 a d a′
       → ((k : ℕ) → k < 16 → z x k ≡ column 16 t (0 + k) d) → ((k : ℕ) → k < 16 → z old k ≡ column lanes a′ (at + k) (base + (s + d)))
       → Answered x g least m1 m2 m y
-      → Stored w lanes (base + E + (s + d)) at x a′ b → Stored w lanes (base + 2 * E + (s + d)) at old b b′ → Stored w lanes (base + (s + d)) at m b′ a″
-      → Kept w s base E lanes at t g least m1 m2 a (d + 1) a″
+      → Stored w lanes (base + E + (p + d)) at x a′ b → Stored w lanes (base + 2 * E + (p + d)) at old b b′ → Stored w lanes (base + (s + d)) at m b′ a″
+      → Kept w s base E p lanes at t g least m1 m2 a (d + 1) a″
   unfolding messaged
   kept-again narrow inside c hx ho e st so sm =
-      subst (λ (j : ℕ). Kept w s base E lanes at t g least m1 m2 a j a″) (sym (add-one d))
+      subst (λ (j : ℕ). Kept w s base E p lanes at t g least m1 m2 a j a″) (sym (add-one d))
       (record {
         inside =
             λ k q. sm .inside k q
-            ∙ (λ i. put ((so .inside k q ∙ (λ j. put ((st .inside k q ∙ (λ l. put (c .inside k q l) (base + E + (s + d)) (hx k (omega arith) l))) j) (base + 2 * E + (s + d)) (old-is k q j))) i) (base + (s + d))
+            ∙ (λ i. put ((so .inside k q ∙ (λ j. put ((st .inside k q ∙ (λ l. put (c .inside k q l) (base + E + (p + d)) (hx k (omega arith) l))) j) (base + 2 * E + (p + d)) (old-is k q j))) i) (base + (s + d))
             ((e .message-is k (omega arith) ∙ (λ j. replied (hx k (omega arith) j) (z g k) (n least k) (z m1 k) (z m2 k))) i));
         outside = λ i q f. sm .outside i q f ∙ so .outside i q f ∙ st .outside i q f ∙ c .outside i q f;
       })
@@ -188,20 +189,20 @@ module _ {w s base E lanes at : ℕ} {t g : List ℤ} {least : List ℕ} {m1 m2 
       old-is k q =
           ho k (omega arith)
           ∙ ap (λ (f : ℕ → ℤ). f (base + (s + d))) (c .inside k q)
-          ∙ messaged-next base E s (column 16 t (0 + k)) (answer t g least m1 m2 k) (column lanes a (at + k)) d (s + d) (omega arith) (omega arith)
+          ∙ messaged-next base E s p (column 16 t (0 + k)) (answer t g least m1 m2 k) (column lanes a (at + k)) d (s + d) (omega arith) (omega arith)
 
-pub kept-end : {w s base E lanes at : ℕ} {t g : List ℤ} {least : List ℕ} {m1 m2 a : List ℤ} {i d : ℕ} {a′ : List ℤ} → i ≡ d → Kept w s base E lanes at t g least m1 m2 a i a′ → Kept w s base E lanes at t g least m1 m2 a d a′
-kept-end {w} {s} {base} {E} {lanes} {at} {t} {g} {least} {m1} {m2} {a} {i} {d} {a′} e c = subst (λ (j : ℕ). Kept w s base E lanes at t g least m1 m2 a j a′) e c
+pub kept-end : {w s base E p lanes at : ℕ} {t g : List ℤ} {least : List ℕ} {m1 m2 a : List ℤ} {i d : ℕ} {a′ : List ℤ} → i ≡ d → Kept w s base E p lanes at t g least m1 m2 a i a′ → Kept w s base E p lanes at t g least m1 m2 a d a′
+kept-end {w} {s} {base} {E} {p} {lanes} {at} {t} {g} {least} {m1} {m2} {a} {i} {d} {a′} e c = subst (λ (j : ℕ). Kept w s base E p lanes at t g least m1 m2 a j a′) e c
 
-pub messages-chunk-is : {w : ℕ} {v : ℕ → ℕ} {s d base E lanes at : ℕ} {a a′ t g : List ℤ} {m1 m2 : List ℕ} {o : ℤ} {r1 r2 : List ℤ} → w ≤ 16 → Scan v s base lanes at a d t m1 m2 g → Reduced o m1 r1 → Reduced o m2 r2
-    → Kept w s base E lanes at t g m1 r1 r2 a d a′ → Part (messagesColumn o v s d base E) w lanes at a a′
+pub messages-chunk-is : {w : ℕ} {v : ℕ → ℕ} {s d base E p lanes at : ℕ} {a a′ t g : List ℤ} {m1 m2 : List ℕ} {o : ℤ} {r1 r2 : List ℤ} → w ≤ 16 → Scan v s base lanes at a d t m1 m2 g → Reduced o m1 r1 → Reduced o m2 r2
+    → Kept w s base E p lanes at t g m1 r1 r2 a d a′ → Part (messagesColumn o v s d base E p) w lanes at a a′
 unfolding messagesColumn
-messages-chunk-is {w} {v} {s} {d} {base} {E} {lanes} {at} {a} {a′} {t} {g} {m1} {m2} {o} {r1} {r2} narrow c h1 h2 p =
+messages-chunk-is {w} {v} {s} {d} {base} {E} {p} {lanes} {at} {a} {a′} {t} {g} {m1} {m2} {o} {r1} {r2} narrow c h1 h2 b =
     record {
       inside =
-          λ k q. p .inside k q
-          ∙ messaged-same base E s _ _ _ _ (column lanes a (at + k)) d (λ e h. c .t-is k (omega arith) e h) (λ e h. answer-is c h1 h2 k (omega arith) e h);
-      outside = p .outside;
+          λ k q. b .inside k q
+          ∙ messaged-same base E s p _ _ _ _ (column lanes a (at + k)) d (λ e h. c .t-is k (omega arith) e h) (λ e h. answer-is c h1 h2 k (omega arith) e h);
+      outside = b .outside;
     }
 
 -- ---- signs alone: a row's signs multiplied into the first i of the sixteen lanes from at

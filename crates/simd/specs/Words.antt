@@ -15,8 +15,8 @@ use Rattle.lane_math.specs.Check.{Word, check, message, put, wrote, tOf, newL, 
 use Rattle.lane_math.specs.Iteration.{unsatisfied, negatives, hard}
 use Rattle.lane_math.specs.Laws.{message-same, wrote-same, put-other, parity, unsatisfied-is}
 use Rattle.lane16.specs.Lanes.{z, Decided}
-use Rattle.simd.specs.Column.{column, Mapped}
-use Rattle.simd.specs.Room.{var, Room}
+use Rattle.lane_memory.specs.Column.{column, Mapped}
+use Rattle.lane_memory.specs.Room.{var, Room}
 use Rattle.simd.specs.Pass.{tAt, written, checkColumn, messaged, messagesColumn, Signs}
 
 -- the first m of f, and 0 behind them
@@ -34,13 +34,13 @@ pub record CheckNode (rows : List ℕ) (s d n lanes : ℕ) (o : ℤ) (a a′ : L
   pub words : (i : ℕ) → i < lanes → word n (length rows) lanes a′ i ≡ check o (var rows) s d (word n (length rows) lanes a i)
   pub rest : (i : ℕ) → i < lanes → (u : ℕ) → n + length rows ≤ u → column lanes a′ i u ≡ column lanes a i u
 
--- A check's messages for the layered schedule: the values are only read; its edges' t and old messages are in their rows, where
--- the other edges' are as they were; so is all behind them.
-pub record CheckMessages (rows : List ℕ) (s d n lanes : ℕ) (o : ℤ) (a a′ : List ℤ) : Type 0 where
+-- A check's messages for the layered schedule: the values are only read; its edges' t and old messages stand among the run's from
+-- `place` on, where the others are as they were; so is all behind them.
+pub record CheckMessages (rows : List ℕ) (s d n lanes place : ℕ) (o : ℤ) (a a′ : List ℤ) : Type 0 where
   pub values : (i : ℕ) → i < lanes → word n (length rows) lanes a′ i .L ≡ word n (length rows) lanes a i .L
   pub messages : (i : ℕ) → i < lanes → word n (length rows) lanes a′ i .r ≡ newR o (var rows) s d (word n (length rows) lanes a i .L) (word n (length rows) lanes a i .r)
-  pub t-rows : (i : ℕ) → i < lanes → (e : ℕ) → e < length rows → column lanes a′ i (n + length rows + e) ≡ wrote (λ k. s + k) (tOf (var rows) s (word n (length rows) lanes a i .L) (word n (length rows) lanes a i .r)) (λ e. column lanes a i (n + length rows + e)) d e
-  pub old-rows : (i : ℕ) → i < lanes → (e : ℕ) → e < length rows → column lanes a′ i (n + 2 * length rows + e) ≡ wrote (λ k. s + k) (λ k. word n (length rows) lanes a i .r (s + k)) (λ e. column lanes a i (n + 2 * length rows + e)) d e
+  pub t-rows : (i : ℕ) → i < lanes → (e : ℕ) → e < length rows → column lanes a′ i (n + length rows + e) ≡ wrote (λ k. place + k) (tOf (var rows) s (word n (length rows) lanes a i .L) (word n (length rows) lanes a i .r)) (λ e. column lanes a i (n + length rows + e)) d e
+  pub old-rows : (i : ℕ) → i < lanes → (e : ℕ) → e < length rows → column lanes a′ i (n + 2 * length rows + e) ≡ wrote (λ k. place + k) (λ k. word n (length rows) lanes a i .r (s + k)) (λ e. column lanes a i (n + 2 * length rows + e)) d e
   pub rest : (i : ℕ) → i < lanes → (u : ℕ) → n + 3 * length rows ≤ u → column lanes a′ i u ≡ column lanes a i u
 
 -- Which of 64 lanes have the check unsatisfied; none past the last lane.
@@ -174,41 +174,41 @@ unfolding negatives
 negatives-same v s zero f g h = refl
 negatives-same v s (suc d) f g h = λ i. negatives-same v s d f g (λ k q. h k (omega arith)) i + hard (h d (omega arith) i)
 
-module _ (n E s : ℕ) where
-  word-messaged : (t m f : ℕ → ℤ) (d : ℕ) → s + d ≤ E → wordOf n E (messaged n E s t m f d) ≡ record { L = wordOf n E f .L; r = wrote (λ k. s + k) m (wordOf n E f .r) d }
+module _ (n E s p : ℕ) where
+  word-messaged : (t m f : ℕ → ℤ) (d : ℕ) → (s + d ≤ E) × (p + d ≤ E) → wordOf n E (messaged n E s p t m f d) ≡ record { L = wordOf n E f .L; r = wrote (λ k. s + k) m (wordOf n E f .r) d }
   unfolding messaged wrote
   word-messaged t m f zero h = refl
   word-messaged t m f (suc d) h =
-      message-put n E (put (put (messaged n E s t m f d) (n + E + (s + d)) (t d)) (n + 2 * E + (s + d)) (f (n + (s + d)))) (s + d) (m d) (omega arith)
+      message-put n E (put (put (messaged n E s p t m f d) (n + E + (p + d)) (t d)) (n + 2 * E + (p + d)) (f (n + (s + d)))) (s + d) (m d) (omega arith)
       ∙ ap (λ (w : Word). record { L = w .L; r = put (w .r) (s + d) (m d) })
-      (behind-put n E (put (messaged n E s t m f d) (n + E + (s + d)) (t d)) (n + 2 * E + (s + d)) (f (n + (s + d))) (omega arith)
-      ∙ behind-put n E (messaged n E s t m f d) (n + E + (s + d)) (t d) (omega arith)
-      ∙ word-messaged t m f d (omega arith))
+      (behind-put n E (put (messaged n E s p t m f d) (n + E + (p + d)) (t d)) (n + 2 * E + (p + d)) (f (n + (s + d))) (omega arith)
+      ∙ behind-put n E (messaged n E s p t m f d) (n + E + (p + d)) (t d) (omega arith)
+      ∙ word-messaged t m f d (omega (arith, h .0), omega (arith, h .1)))
 
-  t-messaged : (t m f : ℕ → ℤ) (d : ℕ) → s + d ≤ E → (e : ℕ) → e < E → messaged n E s t m f d (n + E + e) ≡ wrote (λ k. s + k) t (λ e. f (n + E + e)) d e
+  t-messaged : (t m f : ℕ → ℤ) (d : ℕ) → (s + d ≤ E) × (p + d ≤ E) → (e : ℕ) → e < E → messaged n E s p t m f d (n + E + e) ≡ wrote (λ k. p + k) t (λ e. f (n + E + e)) d e
   unfolding messaged wrote
   t-messaged t m f zero h e q = refl
   t-messaged t m f (suc d) h e q =
-      put-other (put (put (messaged n E s t m f d) (n + E + (s + d)) (t d)) (n + 2 * E + (s + d)) (f (n + (s + d)))) (n + (s + d)) (m d) (n + E + e) (λ k. omega arith)
-      ∙ put-other (put (messaged n E s t m f d) (n + E + (s + d)) (t d)) (n + 2 * E + (s + d)) (f (n + (s + d))) (n + E + e) (λ k. omega arith)
-      ∙ put-both (messaged n E s t m f d) (n + E) (s + d) (t d) e (wrote (λ k. s + k) t (λ e. f (n + E + e)) d) (t-messaged t m f d (omega arith) e q)
+      put-other (put (put (messaged n E s p t m f d) (n + E + (p + d)) (t d)) (n + 2 * E + (p + d)) (f (n + (s + d)))) (n + (s + d)) (m d) (n + E + e) (λ k. omega arith)
+      ∙ put-other (put (messaged n E s p t m f d) (n + E + (p + d)) (t d)) (n + 2 * E + (p + d)) (f (n + (s + d))) (n + E + e) (λ k. omega arith)
+      ∙ put-both (messaged n E s p t m f d) (n + E) (p + d) (t d) e (wrote (λ k. p + k) t (λ e. f (n + E + e)) d) (t-messaged t m f d (omega (arith, h .0), omega (arith, h .1)) e q)
 
-  old-messaged : (t m f : ℕ → ℤ) (d : ℕ) → s + d ≤ E → (e : ℕ) → e < E → messaged n E s t m f d (n + 2 * E + e) ≡ wrote (λ k. s + k) (λ k. f (n + (s + k))) (λ e. f (n + 2 * E + e)) d e
+  old-messaged : (t m f : ℕ → ℤ) (d : ℕ) → (s + d ≤ E) × (p + d ≤ E) → (e : ℕ) → e < E → messaged n E s p t m f d (n + 2 * E + e) ≡ wrote (λ k. p + k) (λ k. f (n + (s + k))) (λ e. f (n + 2 * E + e)) d e
   unfolding messaged wrote
   old-messaged t m f zero h e q = refl
   old-messaged t m f (suc d) h e q =
-      put-other (put (put (messaged n E s t m f d) (n + E + (s + d)) (t d)) (n + 2 * E + (s + d)) (f (n + (s + d)))) (n + (s + d)) (m d) (n + 2 * E + e) (λ k. omega arith)
-      ∙ put-both (put (messaged n E s t m f d) (n + E + (s + d)) (t d)) (n + 2 * E) (s + d) (f (n + (s + d))) e (wrote (λ k. s + k) (λ k. f (n + (s + k))) (λ e. f (n + 2 * E + e)) d)
-      (put-other (messaged n E s t m f d) (n + E + (s + d)) (t d) (n + 2 * E + e) (λ k. omega arith) ∙ old-messaged t m f d (omega arith) e q)
+      put-other (put (put (messaged n E s p t m f d) (n + E + (p + d)) (t d)) (n + 2 * E + (p + d)) (f (n + (s + d)))) (n + (s + d)) (m d) (n + 2 * E + e) (λ k. omega arith)
+      ∙ put-both (put (messaged n E s p t m f d) (n + E + (p + d)) (t d)) (n + 2 * E) (p + d) (f (n + (s + d))) e (wrote (λ k. p + k) (λ k. f (n + (s + k))) (λ e. f (n + 2 * E + e)) d)
+      (put-other (messaged n E s p t m f d) (n + E + (p + d)) (t d) (n + 2 * E + e) (λ k. omega arith) ∙ old-messaged t m f d (omega (arith, h .0), omega (arith, h .1)) e q)
 
-  messaged-rest : (t m f : ℕ → ℤ) (d : ℕ) → s + d ≤ E → (u : ℕ) → n + 3 * E ≤ u → messaged n E s t m f d u ≡ f u
+  messaged-rest : (t m f : ℕ → ℤ) (d : ℕ) → (s + d ≤ E) × (p + d ≤ E) → (u : ℕ) → n + 3 * E ≤ u → messaged n E s p t m f d u ≡ f u
   unfolding messaged
   messaged-rest t m f zero h u q = refl
   messaged-rest t m f (suc d) h u q =
-      put-other (put (put (messaged n E s t m f d) (n + E + (s + d)) (t d)) (n + 2 * E + (s + d)) (f (n + (s + d)))) (n + (s + d)) (m d) u (λ k. omega arith)
-      ∙ put-other (put (messaged n E s t m f d) (n + E + (s + d)) (t d)) (n + 2 * E + (s + d)) (f (n + (s + d))) u (λ k. omega arith)
-      ∙ put-other (messaged n E s t m f d) (n + E + (s + d)) (t d) u (λ k. omega arith)
-      ∙ messaged-rest t m f d (omega arith) u q
+      put-other (put (put (messaged n E s p t m f d) (n + E + (p + d)) (t d)) (n + 2 * E + (p + d)) (f (n + (s + d)))) (n + (s + d)) (m d) u (λ k. omega arith)
+      ∙ put-other (put (messaged n E s p t m f d) (n + E + (p + d)) (t d)) (n + 2 * E + (p + d)) (f (n + (s + d))) u (λ k. omega arith)
+      ∙ put-other (messaged n E s p t m f d) (n + E + (p + d)) (t d) u (λ k. omega arith)
+      ∙ messaged-rest t m f d (omega (arith, h .0), omega (arith, h .1)) u q
 
 -- ---- the laws of the code's columns
 module _ {rows : List ℕ} {s d n lanes : ℕ} {a : List ℤ} (r : Room rows s d n lanes a) where
@@ -222,21 +222,21 @@ module _ {rows : List ℕ} {s d n lanes : ℕ} {a : List ℤ} (r : Room rows s d
         rest = λ i q u p. ap (λ (f : ℕ → ℤ). f u) (h i q) ∙ check-rest n (length rows) (var rows) s o (column lanes a i) d inside u p;
       }
 
-  pub check-messages : {o : ℤ} {a′ : List ℤ} → Mapped (messagesColumn o (var rows) s d n (length rows)) lanes a a′ → CheckMessages rows s d n lanes o a a′
+  pub check-messages : {place : ℕ} {o : ℤ} {a′ : List ℤ} → place + d ≤ length rows → Mapped (messagesColumn o (var rows) s d n (length rows) place) lanes a a′ → CheckMessages rows s d n lanes place o a a′
   unfolding messagesColumn newR wordOf
-  check-messages {o} {a′} h =
+  check-messages {place} {o} {a′} room h =
       record {
         values = λ i q. ap (λ (w : Word). w .L) (word-is i q);
         messages = λ i q. ap (λ (w : Word). w .r) (word-is i q);
         t-rows =
             λ i q e p. ap (λ (f : ℕ → ℤ). f (n + length rows + e)) (h i q)
-            ∙ t-messaged n (length rows) s (t i) (message o (t i) d) (column lanes a i) d (r .edges) e p
-            ∙ ap (λ (f : ℕ → ℤ). f e) (wrote-same (λ k. s + k) (t i) (t′ i) (λ e. column lanes a i (n + length rows + e)) d (λ k b. t-same n (length rows) (var rows) s (column lanes a i) d inside k b));
+            ∙ t-messaged n (length rows) s place (t i) (message o (t i) d) (column lanes a i) d (r .edges, room) e p
+            ∙ ap (λ (f : ℕ → ℤ). f e) (wrote-same (λ k. place + k) (t i) (t′ i) (λ e. column lanes a i (n + length rows + e)) d (λ k b. t-same n (length rows) (var rows) s (column lanes a i) d inside k b));
         old-rows =
             λ i q e p. ap (λ (f : ℕ → ℤ). f (n + 2 * length rows + e)) (h i q)
-            ∙ old-messaged n (length rows) s (t i) (message o (t i) d) (column lanes a i) d (r .edges) e p
-            ∙ ap (λ (f : ℕ → ℤ). f e) (wrote-same (λ k. s + k) _ _ (λ e. column lanes a i (n + 2 * length rows + e)) d (λ k b. old-same i k b));
-        rest = λ i q u p. ap (λ (f : ℕ → ℤ). f u) (h i q) ∙ messaged-rest n (length rows) s (t i) (message o (t i) d) (column lanes a i) d (r .edges) u p;
+            ∙ old-messaged n (length rows) s place (t i) (message o (t i) d) (column lanes a i) d (r .edges, room) e p
+            ∙ ap (λ (f : ℕ → ℤ). f e) (wrote-same (λ k. place + k) _ _ (λ e. column lanes a i (n + 2 * length rows + e)) d (λ k b. old-same i k b));
+        rest = λ i q u p. ap (λ (f : ℕ → ℤ). f u) (h i q) ∙ messaged-rest n (length rows) s place (t i) (message o (t i) d) (column lanes a i) d (r .edges, room) u p;
       }
     where
       t : ℕ → ℕ → ℤ
@@ -248,7 +248,7 @@ module _ {rows : List ℕ} {s d n lanes : ℕ} {a : List ℤ} (r : Room rows s d
       word-is : (i : ℕ) → i < lanes → word n (length rows) lanes a′ i ≡ record { L = word n (length rows) lanes a i .L; r = wrote (λ k. s + k) (message o (t′ i) d) (word n (length rows) lanes a i .r) d }
       word-is i q =
           ap (wordOf n (length rows)) (h i q)
-          ∙ word-messaged n (length rows) s (t i) (message o (t i) d) (column lanes a i) d (r .edges)
+          ∙ word-messaged n (length rows) s place (t i) (message o (t i) d) (column lanes a i) d (r .edges, room)
           ∙ (λ j. record {
             L = word n (length rows) lanes a i .L;
             r = wrote-same (λ k. s + k) _ _ (word n (length rows) lanes a i .r) d (λ k b. message-is n (length rows) (var rows) s o (column lanes a i) d inside k) j;

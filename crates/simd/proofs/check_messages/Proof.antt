@@ -7,18 +7,18 @@ use lib.IntN.{ℤ}
 use mir.Syntax.{w8}
 use mir.Val.{toZ, ofZ}
 use Rattle.laws.specs.Signed.{plain}
-use Rattle.simd.specs.Column.{Upto, upto-start, upto-again, upto-end}
-use Rattle.simd.specs.Room.{var, room-to}
+use Rattle.lane_memory.specs.Column.{Upto, upto-start, upto-again, upto-end}
+use Rattle.lane_memory.specs.Room.{var, room-to}
 use Rattle.simd.specs.Pass.{messagesColumn}
 use Rattle.simd.specs.Words.{CheckMessages, check-messages}
 use Rattle.simd.proofs.check_messages.Statement.{statement}
 use Rattle.simd.proofs.check_messages.Tie as tie
 
 abbrev Inv-loop : tie.InvT-loop
-Inv-loop rows s d a₀ t₀ n lanes offset at₀ a t at = (at ≤ lanes) × ((length a ≡ length a₀) × ((length t ≡ length t₀) × Upto (messagesColumn (toZ w8 offset) (var rows) s d n (length rows)) lanes at a₀ a))
+Inv-loop rows s d a₀ t₀ n lanes place offset at₀ a t at = (at ≤ lanes) × ((length a ≡ length a₀) × ((length t ≡ length t₀) × Upto (messagesColumn (toZ w8 offset) (var rows) s d n (length rows) place) lanes at a₀ a))
 
 abbrev μ-loop : tie.MeasureT-loop
-μ-loop rows s d a₀ t₀ n lanes offset at₀ a t at = lanes - at
+μ-loop rows s d a₀ t₀ n lanes place offset at₀ a t at = lanes - at
 
 loop-holds : tie.Need-loop-holds Inv-loop μ-loop
 loop-holds c =
@@ -26,7 +26,7 @@ loop-holds c =
       search needs,
       (
         refl,
-        (refl, upto-start (messagesColumn (toZ w8 (ofZ w8 (a .offset))) (var (a .rows .now)) (a .s) (a .d) (a .n) (length (a .rows .now))) (a .lanes) (a .a .now)),
+        (refl, upto-start (messagesColumn (toZ w8 (ofZ w8 (a .offset))) (var (a .rows .now)) (a .s) (a .d) (a .n) (length (a .rows .now)) (a .place)) (a .lanes) (a .a .now)),
       ),
     )
 
@@ -42,7 +42,10 @@ messages-chunk-requires c κs =
     let h = c .before .before .before .before in
     let w = c .before .before .width in (
       room-to (h .loop .inv .1 .0) (s .pre .0),
-      (omega (arith, w .ensures .0, c .before .before .before .loop-test .taken), (w .ensures .1, omega (arith, h .loop .inv .1 .1 .0, s .pre .1))),
+      (
+        (omega (arith, w .ensures .0, c .before .before .before .loop-test .taken), (w .ensures .1, omega (arith, h .loop .inv .1 .1 .0, s .pre .1 .0))),
+        s .pre .1 .1,
+      ),
     )
 
 add-at : tie.Need-add-at Inv-loop μ-loop
@@ -73,8 +76,8 @@ returns : tie.Need-returns Inv-loop μ-loop
 returns c =
     let s = c .before .before .before in
     let h = c .before in
-    subst (λ (o : ℤ). CheckMessages (s .args .rows .now) (s .args .s) (s .args .d) (s .args .n) (s .args .lanes) o (s .args .a .now) (h .loop .a)) (plain (s .args .offset) (s .fits .offset))
-    (check-messages (s .pre .0) (upto-end (omega (arith, c .loop-test .left)) (h .loop .inv .1 .1 .1)))
+    subst (λ (o : ℤ). CheckMessages (s .args .rows .now) (s .args .s) (s .args .d) (s .args .n) (s .args .lanes) (s .args .place) o (s .args .a .now) (h .loop .a)) (plain (s .args .offset) (s .fits .offset))
+    (check-messages (s .pre .0) (s .pre .1 .1) (upto-end (omega (arith, c .loop-test .left)) (h .loop .inv .1 .1 .1)))
 
 pub check-messages-spec : {M : Type 1} → statement M
 check-messages-spec =

@@ -7,7 +7,7 @@ use lib.IntN.{pos}
 use borrow.Author.Needs.{sfits-of}
 use Rattle.laws.specs.Signed.{negative, times, plain}
 use Rattle.lane16.specs.Lanes.{z}
-use Rattle.simd.specs.Column.{column-at}
+use Rattle.lane_memory.specs.Column.{column-at}
 use Rattle.simd.specs.Pass.{Flipped, flipped-start, flipped-again, flipped-end}
 use Rattle.simd.proofs.flip_row.Statement.{statement}
 use Rattle.simd.proofs.flip_row.Tie as tie

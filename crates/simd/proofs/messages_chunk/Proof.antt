@@ -20,8 +20,8 @@ keep-requires c κs =
     let s = c .before .before .before .before .before .before .before .before .before .before .before .before in (
       s .pre .0,
       (
-        (s .pre .1 .0, (s .pre .1 .1 .0, omega (arith, c .before .before .before .before .before .before .before .before .scan .kept, s .pre .1 .1 .1))),
-        (reduced-none-negative (c .before .before .before .reduce .ensures), reduced-none-negative (c .before .before .reduce2 .ensures)),
+        (s .pre .1 .0 .0, (s .pre .1 .0 .1 .0, omega (arith, c .before .before .before .before .before .before .before .before .scan .kept, s .pre .1 .0 .1 .1))),
+        (s .pre .1 .1, (reduced-none-negative (c .before .before .before .reduce .ensures), reduced-none-negative (c .before .before .reduce2 .ensures))),
       ),
     )
 
@@ -35,7 +35,7 @@ returns : tie.Need-returns
 returns c =
     let s = c .before .before .before .before .before .before .before .before .before .before .before .before .before .before in
     let o = plain (s .args .offset) (s .fits .offset) in
-    messages-chunk-is (s .pre .1 .1 .0 .few) (c .before .before .before .before .before .before .before .before .before .before .scan .ensures) (reduced-to o (c .before .before .before .before .before .reduce .ensures)) (reduced-to o (c .before .before .before .before .reduce2 .ensures)) (c .before .keep .ensures)
+    messages-chunk-is (s .pre .1 .0 .1 .0 .few) (c .before .before .before .before .before .before .before .before .before .before .scan .ensures) (reduced-to o (c .before .before .before .before .before .reduce .ensures)) (reduced-to o (c .before .before .before .before .reduce2 .ensures)) (c .before .keep .ensures)
 
 pub messages-chunk-spec : {M : Type 1} → statement M
 messages-chunk-spec =

@@ -3,7 +3,7 @@ use native.Mathlib.Omega.{arith}
 use mathlib.Core.Path.{_≡_, refl}
 use Prim.Native.Nat.{ℕ, _+_, _-_, _≤_, _<_}
 use lib.ListN.{length}
-use Rattle.simd.specs.Room.{var, row-room, value-row, row-fits}
+use Rattle.lane_memory.specs.Room.{var, row-room, value-row, row-fits}
 use Rattle.simd.specs.Pass.{Replied, replied-start, replied-again, replied-end}
 use Rattle.simd.proofs.reply.Statement.{statement}
 use Rattle.simd.proofs.reply.Tie as tie

@@ -4,7 +4,7 @@ use mathlib.Core.Path.{_≡_, refl}
 use Prim.Native.Nat.{ℕ, _+_, _*_, _-_, _≤_, _<_}
 use lib.ListN.{length, getD-replicate}
 use lib.IntN.{pos}
-use Rattle.simd.specs.Room.{var}
+use Rattle.lane_memory.specs.Room.{var}
 use Rattle.simd.specs.Words.{Parities, parities-start, parities-again, parities-end}
 use Rattle.simd.proofs.sign_parity.Statement.{statement}
 use Rattle.simd.proofs.sign_parity.Tie as tie

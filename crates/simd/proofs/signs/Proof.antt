@@ -1,7 +1,7 @@
 use borrow.Author.Needs.{needs}
 use native.Mathlib.Omega.{arith}
 use Prim.Native.Nat.{ℕ, _+_, _-_, _≤_, _<_}
-use Rattle.simd.specs.Room.{var, load-room, value-row}
+use Rattle.lane_memory.specs.Room.{var, load-room, value-row}
 use Rattle.simd.specs.Pass.{Signs, signs-start, signs-again, signs-end}
 use Rattle.simd.proofs.signs.Statement.{statement}
 use Rattle.simd.proofs.signs.Tie as tie

@@ -6,7 +6,7 @@ use native.Mathlib.Omega.{arith}
 use native.Mathlib.Nat.{mul-le-mul-right}
 use lib.ListN.{getD, length}
 use lib.IntN.{ℤ}
-use Rattle.simd.specs.Column.{row-ends}
+use Rattle.lane_memory.specs.Column.{row-ends}
 
 -- the variable of edge e
 abbrev pub var : List ℕ → ℕ → ℕ

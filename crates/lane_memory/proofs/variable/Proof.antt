@@ -1,7 +1,7 @@
 use native.Mathlib.Omega.{arith}
 use borrow.Author.Needs.{needs}
-use Rattle.simd.proofs.variable.Statement.{statement}
-use Rattle.simd.proofs.variable.Tie as tie
+use Rattle.lane_memory.proofs.variable.Statement.{statement}
+use Rattle.lane_memory.proofs.variable.Tie as tie
 
 mul-result : tie.Need-mul-result
 mul-result c = search needs

@@ -1,9 +1,9 @@
 use native.Mathlib.Omega.{arith}
 use borrow.Author.Needs.{needs}
 use mathlib.Core.Path.{sym}
-use Rattle.simd.specs.Column.{stored-width}
-use Rattle.simd.proofs.store_lanes.Statement.{statement}
-use Rattle.simd.proofs.store_lanes.Tie as tie
+use Rattle.lane_memory.specs.Column.{stored-width}
+use Rattle.lane_memory.proofs.store_lanes.Statement.{statement}
+use Rattle.lane_memory.proofs.store_lanes.Tie as tie
 
 store-requires : tie.Need-store-requires
 store-requires c κs = search needs

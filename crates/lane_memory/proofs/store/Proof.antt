@@ -7,9 +7,9 @@ use lib.IntN.{pos}
 use borrow.Author.Needs.{sfits-of}
 use Rattle.laws.specs.Signed.{plain}
 use Rattle.lane16.specs.Lanes.{z}
-use Rattle.simd.specs.Column.{Storing, storing-start, storing-again, storing-end}
-use Rattle.simd.proofs.store.Statement.{statement}
-use Rattle.simd.proofs.store.Tie as tie
+use Rattle.lane_memory.specs.Column.{Storing, storing-start, storing-again, storing-end}
+use Rattle.lane_memory.proofs.store.Statement.{statement}
+use Rattle.lane_memory.proofs.store.Tie as tie
 
 abbrev Inv-loop : tie.InvT-loop
 Inv-loop a₀ u lanes at w x base i₀ a i = (i ≤ w) × Storing base x a₀ a i

@@ -8,9 +8,9 @@ use borrow.Author.Needs.{sfits-of}
 use Rattle.laws.specs.Signed.{plain}
 use Rattle.lane16.specs.Lanes.{z}
 use Rattle.lane16.specs.Grow.{grown}
-use Rattle.simd.specs.Column.{column, column-at}
-use Rattle.simd.proofs.load.Statement.{statement}
-use Rattle.simd.proofs.load.Tie as tie
+use Rattle.lane_memory.specs.Column.{column, column-at}
+use Rattle.lane_memory.proofs.load.Statement.{statement}
+use Rattle.lane_memory.proofs.load.Tie as tie
 
 abbrev Inv-loop : tie.InvT-loop
 Inv-loop a u lanes at base x₀ i₀ x i = (i ≤ 16) × ((length x ≡ 16) × ((k : ℕ) → k < i → z x k ≡ column lanes a (at + k) u))
