@@ -8,8 +8,8 @@ use lib.ListN.{getD, length}
 use lib.IntN.{ℤ}
 use Rattle.lane_math.specs.Check.{Word, check}
 use Rattle.lane_math.specs.Iteration.{Code, degree, sequential}
-use Rattle.simd.specs.Column.{column}
-use Rattle.simd.specs.Room.{var}
+use Rattle.lane_memory.specs.Column.{column}
+use Rattle.lane_memory.specs.Room.{var}
 use Rattle.simd.specs.Words.{word, CheckNode}
 use Rattle.fixed_code.specs.Lists.{rowsIn, edgesIn, codeIn, start-in, degree-in}
 

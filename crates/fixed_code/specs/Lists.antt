@@ -8,7 +8,7 @@ use lib.ListN.{getD, length, take, drop, length-drop}
 use lib.Seq.{getD-take, take-all}
 use lib.IntN.{ℤ}
 use Rattle.lane_math.specs.Iteration.{Code, degree}
-use Rattle.simd.specs.Room.{var, Room}
+use Rattle.lane_memory.specs.Room.{var, Room}
 
 abbrev pub rowsIn : ℕ → List ℕ → List ℕ
 rowsIn p index = drop (p + 1) index

@@ -8,7 +8,7 @@ use lib.IntN.{ℤ}
 use mir.Syntax.{w8}
 use mir.Val.{toZ, ofZ}
 use Rattle.laws.specs.Signed.{plain}
-use Rattle.simd.specs.Room.{Room}
+use Rattle.lane_memory.specs.Room.{Room}
 use Rattle.simd.specs.Words.{CheckNode}
 use Rattle.fixed_code.specs.Lists.{memory-to, room}
 use Rattle.fixed.specs.Sequential.{Upto, Iterated, upto-start, upto-again, upto-end}
