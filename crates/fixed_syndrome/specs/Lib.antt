@@ -1,0 +1,2 @@
+-- The verdict on each lane (Met) and the count of one (Unmet).
+pub mod Met
