@@ -1,4 +1,4 @@
--- Laws that the kit lacks, one home for each: xor on numbers, computed tests, polynomials over two elements, choices.
+-- Laws that the kit lacks, one home for each: xor on numbers, computed tests, polynomials over two elements, signed numbers, lists, remainders, choices, decimal numbers.
 pub mod Xor
 pub mod Tests
 pub mod Poly
@@ -6,8 +6,4 @@ pub mod Signed
 pub mod Lists
 pub mod Modulo
 pub mod Choice
--- Laws that the kit lacks, one home for each: xor on numbers, computed tests, polynomials over two elements, decimal numbers.
-pub mod Xor
-pub mod Tests
-pub mod Poly
 pub mod Decimal
