@@ -1,2 +1,0 @@
--- The verdict on each lane (Met) and the count of one (Unmet).
-pub mod Met
