@@ -1,34 +1,109 @@
--- The places where a word is not zero, listed; and the decoder's theorem over all places of a word.
-use mathlib.Core.Path.{_≡_, refl, sym, ap, ap₂, _∙_, subst, fun-ext}
-use mathlib.Core.Logic.{_≢_, _⊎_, inl, inr, _↔_, ite, if-pos, if-neg}
-use Prim.Native.Nat.{ℕ, zero, suc, _+_, _-_, _≤_, _<_}
-use native.Mathlib.Nat.{not-suc-le-zero, le-of-suc-le-suc, le-suc, le-refl}
+-- Errors of a word of n places: their weight, their places listed, and what a shortest register of their syndromes finds:
+-- as many roots as there are errors, and exactly at the wrong places. Any error values, any first power of the syndromes.
+use mathlib.Core.Path.{_≡_, refl, sym, ap, ap₂, _∙_}
+use mathlib.Core.Logic.{_≢_, ite, if-pos, if-neg}
+use Prim.Native.Nat.{ℕ, zero, suc, _+_, _≤_, _<_}
+use native.Mathlib.Nat.{not-suc-le-zero, le-refl, mul-comm}
 use native.Mathlib.Decide.{ℕ-discrete, decLe, decLt}
 use native.Mathlib.Omega.{arith}
-use Rattle.algebra.specs.Ring.{Ring, Field, ⊠-zero, zero-⊠, ⊠-lc}
-use Rattle.algebra.specs.Series.{sum, sum-ext, pow, eval, conv, conv-ext}
-use Rattle.algebra.specs.Roots.{Distinct, domain, vandermonde}
-use Rattle.algebra.specs.Massey.{Gen}
-use Rattle.algebra.specs.Locator.{syndrome, locator, locator-gen, all-roots, only-roots, length-is}
+use Rattle.algebra.specs.Ring.{Ring, Field, zero-⊠, dist-⊠, ⊞-cancel}
+use Rattle.algebra.specs.Series.{sum, sum-ext, sum-add, pow, pow-add, eval}
+use Rattle.algebra.specs.Power.{pow-mul}
+use Rattle.algebra.specs.Roots.{Distinct, domain, pow-nz, inv-inj, vandermonde}
+use Rattle.algebra.specs.Massey.{Gen, Shortest, gen-ext}
+use Rattle.algebra.specs.Locator.{syndrome, eval-sums, locator, locator-gen, all-roots, only-roots, length-is}
 
 module _ {F : Type 0} (K : Field F) where
-  open Ring (K .ring) using (𝟘, 𝟙, _⊞_, _⊠_, ⊞-zero, ⊠-assoc, ⊠-comm, ⊠-one)
+  open Ring (K .ring) using (𝟘, 𝟙, _⊞_, _⊠_, ⊞-zero, ⊞-self, ⊠-assoc)
 
   infixl 60 _⊞_
   infixl 70 _⊠_
   abbrev R₂ : Ring F
   R₂ = K .ring
 
-  -- how many of the first n are not zero
   one-more : {A : Type 0} → Dec A → ℕ → ℕ
   one-more (yes _) k = k
   one-more (no _) k = suc k
 
+  -- how many of the first n are not zero
   unfoldable pub weight : ℕ → (ℕ → F) → ℕ
   unfolding one-more
   weight zero ε = 0
   weight (suc n) ε = one-more (K .dec (ε n) 𝟘) (weight n ε)
 
+  pub weight-none : (ε : ℕ → F) → weight 0 ε ≡ 0
+  unfolding weight
+  weight-none ε = refl
+
+  pub weight-same : (n : ℕ) (ε : ℕ → F) → ε n ≡ 𝟘 → weight (suc n) ε ≡ weight n ε
+  unfolding weight one-more
+  weight-same n ε z = pick (K .dec (ε n) 𝟘)
+    where
+      pick : (d : Dec (ε n ≡ 𝟘)) → one-more d (weight n ε) ≡ weight n ε
+      pick (yes _) = refl
+      pick (no nz) = absurd (nz z)
+
+  pub weight-more : (n : ℕ) (ε : ℕ → F) → ε n ≢ 𝟘 → weight (suc n) ε ≡ suc (weight n ε)
+  unfolding weight one-more
+  weight-more n ε nz = pick (K .dec (ε n) 𝟘)
+    where
+      pick : (d : Dec (ε n ≡ 𝟘)) → one-more d (weight n ε) ≡ suc (weight n ε)
+      pick (yes z) = absurd (nz z)
+      pick (no _) = refl
+
+  -- fewer places, less weight
+  pub weight-mono : (n : ℕ) (ε η : ℕ → F) → ((p : ℕ) → p < n → ε p ≢ 𝟘 → η p ≢ 𝟘) → weight n ε ≤ weight n η
+  weight-mono zero ε η h = omega (arith, weight-none ε)
+  weight-mono (suc n) ε η h = pick (weight-mono n ε η (λ p g. h p (omega arith))) (K .dec (ε n) 𝟘) (K .dec (η n) 𝟘)
+    where
+      pick : weight n ε ≤ weight n η → Dec (ε n ≡ 𝟘) → Dec (η n ≡ 𝟘) → weight (suc n) ε ≤ weight (suc n) η
+      pick r (yes z) (yes z′) = omega (arith, r, weight-same n ε z, weight-same n η z′)
+      pick r (yes z) (no nz) = omega (arith, r, weight-same n ε z, weight-more n η nz)
+      pick r (no nz) (yes z) = absurd (h n (le-refl (suc n)) nz z)
+      pick r (no nz) (no nz′) = omega (arith, r, weight-more n ε nz, weight-more n η nz′)
+
+  pub weight-ext : (n : ℕ) (ε η : ℕ → F) → ((p : ℕ) → p < n → ε p ≡ η p) → weight n ε ≡ weight n η
+  weight-ext n ε η e =
+      let a = weight-mono n ε η (λ p h ne z. ne (e p h ∙ z)) in
+      let b = weight-mono n η ε (λ p h ne z. ne (sym (e p h) ∙ z)) in
+      omega arith
+
+  pub weight-strict : (n : ℕ) (ε η : ℕ → F) → ((p : ℕ) → p < n → ε p ≢ 𝟘 → η p ≢ 𝟘)
+      → (q : ℕ) → q < n → ε q ≡ 𝟘 → η q ≢ 𝟘 → weight n ε < weight n η
+  weight-strict zero ε η h q a z nz = absurd (not-suc-le-zero a)
+  weight-strict (suc n) ε η h q a z nz = pick (ℕ-discrete q n) (K .dec (ε n) 𝟘) (K .dec (η n) 𝟘) (weight-strict n ε η (λ p g. h p (omega arith)) q)
+    where
+      all : weight n ε ≤ weight n η
+      all = weight-mono n ε η (λ p g. h p (omega arith))
+
+      pick : Dec (q ≡ n) → Dec (ε n ≡ 𝟘) → Dec (η n ≡ 𝟘) → (q < n → ε q ≡ 𝟘 → η q ≢ 𝟘 → weight n ε < weight n η) → weight (suc n) ε < weight (suc n) η
+      pick (yes e) d d′ r = omega (arith, all, weight-same n ε (sym (ap ε e) ∙ z), weight-more n η (λ y. nz (ap η e ∙ y)))
+      pick (no ne) (yes y) (yes y′) r = omega (arith, r (omega arith) z nz, weight-same n ε y, weight-same n η y′)
+      pick (no ne) (yes y) (no y′) r = omega (arith, r (omega arith) z nz, weight-same n ε y, weight-more n η y′)
+      pick (no ne) (no y) (yes y′) r = absurd (h n (le-refl (suc n)) y y′)
+      pick (no ne) (no y) (no y′) r = omega (arith, r (omega arith) z nz, weight-more n ε y, weight-more n η y′)
+
+  pub weight-add : (n : ℕ) (ε η : ℕ → F) → weight n (λ p. ε p ⊞ η p) ≤ weight n ε + weight n η
+  weight-add zero ε η = omega (arith, weight-none (λ p. ε p ⊞ η p))
+  weight-add (suc n) ε η = pick (weight-add n ε η) (K .dec (ε n) 𝟘) (K .dec (η n) 𝟘)
+    where
+      both : ℕ → F
+      both p = ε p ⊞ η p
+
+      at-most : weight (suc n) both ≤ suc (weight n both)
+      at-most = pick (K .dec (both n) 𝟘)
+        where
+          pick : Dec (both n ≡ 𝟘) → weight (suc n) both ≤ suc (weight n both)
+          pick (yes z) = omega (arith, weight-same n both z)
+          pick (no nz) = omega (arith, weight-more n both nz)
+
+      pick : weight n both ≤ weight n ε + weight n η → Dec (ε n ≡ 𝟘) → Dec (η n ≡ 𝟘) → weight (suc n) both ≤ weight (suc n) ε + weight (suc n) η
+      pick r (yes z) (yes z′) = omega (arith, r, weight-same n both (ap₂ _⊞_ z z′ ∙ ⊞-zero 𝟘), weight-same n ε z, weight-same n η z′)
+      pick r (yes z) (no nz) = omega (arith, r, at-most, weight-same n ε z, weight-more n η nz)
+      pick r (no nz) (yes z) = omega (arith, r, at-most, weight-more n ε nz, weight-same n η z)
+      pick r (no nz) (no nz′) = omega (arith, r, at-most, weight-more n ε nz, weight-more n η nz′)
+
+  -- ---- the e places below n where ε is not zero, in order: a sum over the n is one over them
   pub record Listing (n : ℕ) (ε : ℕ → F) (e : ℕ) : Type 0 where
     pub place : ℕ → ℕ
     pub in-order : (i j : ℕ) → i < j → j < e → place i < place j
@@ -123,31 +198,53 @@ module _ {F : Type 0} (K : Field F) where
       pick (yes z) L = skip n ε (weight n ε) z L
       pick (no nz) L = keep n ε (weight n ε) nz L
 
-  -- ---- the decoder's theorem: n places with locators x, an error ε of weight at most t, 2 t syndromes from the first power
-  module _ (n : ℕ) (x : ℕ → F) (x-nz : (p : ℕ) → p < n → x p ≢ 𝟘) (x-d : Distinct n x) (ε : ℕ → F) (t : ℕ) (light : weight n ε ≤ t)
-      (s : ℕ → F) (s-is : (j : ℕ) → j < t + t → s j ≡ sum R₂ n (λ p. ε p ⊠ x p ⊠ pow R₂ (x p) j)) where
-    pub e : ℕ
+  -- ---- syndromes: s_j is the sum over the places p below n of ε_p X_p^(b + j), for j < k
+  abbrev pub Syndromes : ℕ → (ℕ → F) → ℕ → ℕ → (ℕ → F) → (ℕ → F) → Type 0
+  Syndromes n x b k ε s = (j : ℕ) → j < k → s j ≡ sum R₂ n (λ p. ε p ⊠ pow R₂ (x p) (b + j))
+
+  pub shift : (a u : F) (b j : ℕ) → a ⊠ pow R₂ u (b + j) ≡ a ⊠ pow R₂ u b ⊠ pow R₂ u j
+  shift a u b j = ap (λ w. a ⊠ w) (pow-add R₂ u b j) ∙ sym (⊠-assoc a _ _)
+
+  -- the values of the word ε at the powers b, b + 1, .. of α are its syndromes, X_p being α^p
+  pub word-syndromes : (n : ℕ) (α : F) (b k : ℕ) (ε : ℕ → F) → Syndromes n (pow R₂ α) b k ε (λ j. eval R₂ n ε (pow R₂ α (b + j)))
+  word-syndromes n α b k ε j h =
+      eval-sums R₂ n ε (pow R₂ α (b + j))
+      ∙ sum-ext R₂ n _ _ (λ p _. ap (λ w. ε p ⊠ w) (sym (pow-mul R₂ α (b + j) p) ∙ ap (pow R₂ α) (mul-comm (b + j) p) ∙ pow-mul R₂ α p (b + j)))
+
+  pub syndromes-add : (n : ℕ) (x : ℕ → F) (b k : ℕ) (ε η s u : ℕ → F) → Syndromes n x b k ε s → Syndromes n x b k η u
+      → Syndromes n x b k (λ p. ε p ⊞ η p) (λ j. s j ⊞ u j)
+  syndromes-add n x b k ε η s u s-is u-is j h =
+      ap₂ _⊞_ (s-is j h) (u-is j h)
+      ∙ sym (sum-add R₂ n (λ p. ε p ⊠ pow R₂ (x p) (b + j)) (λ p. η p ⊠ pow R₂ (x p) (b + j)))
+      ∙ sum-ext R₂ n _ _ (λ p _. sym (dist-⊠ R₂ (ε p) (η p) (pow R₂ (x p) (b + j))))
+
+  -- the register's polynomial at the inverse of X_p: what a Chien search looks for zeros of
+  abbrev pub chien : (ℕ → F) → ℕ → (ℕ → F) → ℕ → F
+  chien c l x p = eval R₂ (suc l) c (K .inv (x p))
+
+  -- ---- n places with locators x, and k syndromes of an error ε
+  module _ (n : ℕ) (x : ℕ → F) (x-nz : (p : ℕ) → p < n → x p ≢ 𝟘) (b k : ℕ) (ε s : ℕ → F) (s-is : Syndromes n x b k ε s) where
+    e : ℕ
     e = weight n ε
 
     L : Listing n ε (weight n ε)
     L = listing n ε
 
     y₀ : ℕ → F
-    y₀ i = ε (L .place i) ⊠ x (L .place i)
+    y₀ i = ε (L .place i) ⊠ pow R₂ (x (L .place i)) b
 
+    -- the locators of the wrong places
     pub x₀ : ℕ → F
     x₀ i = x (L .place i)
 
-    agree : (j : ℕ) → j < t + t → s j ≡ syndrome R₂ e y₀ x₀ j
+    agree : (j : ℕ) → j < k → s j ≡ syndrome R₂ e y₀ x₀ j
     unfolding syndrome e y₀ x₀ L
     agree j h =
-        s-is j h ∙ L .sums (λ p. ε p ⊠ x p ⊠ pow R₂ (x p) j) (λ p g z. ap (λ w. w ⊠ x p ⊠ pow R₂ (x p) j) z ∙ ap (λ w. w ⊠ pow R₂ (x p) j) (zero-⊠ R₂ (x p)) ∙ zero-⊠ R₂ _)
+        s-is j h ∙ L .sums (λ p. ε p ⊠ pow R₂ (x p) (b + j)) (λ p g z. ap (λ w. w ⊠ pow R₂ (x p) (b + j)) z ∙ zero-⊠ R₂ _)
+        ∙ sum-ext R₂ e _ _ (λ i _. shift (ε (L .place i)) (x (L .place i)) b j)
 
-    gen-there : (c : ℕ → F) (l : ℕ) → Gen R₂ s (t + t) c l → Gen R₂ (syndrome R₂ e y₀ x₀) (t + t) c l
-    gen-there c l g = record { head = g .head; supp = g .supp; zeros = λ n h h′. sym (conv-ext R₂ n c s _ (λ j k. agree j (omega arith))) ∙ g .zeros n h h′ }
-
-    gen-back : (c : ℕ → F) (l : ℕ) → Gen R₂ (syndrome R₂ e y₀ x₀) (t + t) c l → Gen R₂ s (t + t) c l
-    gen-back c l g = record { head = g .head; supp = g .supp; zeros = λ n h h′. conv-ext R₂ n c s _ (λ j k. agree j (omega arith)) ∙ g .zeros n h h′ }
+    gen-there : (c : ℕ → F) (l : ℕ) → Gen R₂ s k c l → Gen R₂ (syndrome R₂ e y₀ x₀) k c l
+    gen-there c l g = gen-ext R₂ s (syndrome R₂ e y₀ x₀) k c l agree g
 
     nz₀ : (p : ℕ) → p < e → x₀ p ≢ 𝟘
     unfolding e x₀ L
@@ -155,72 +252,85 @@ module _ {F : Type 0} (K : Field F) where
 
     ynz₀ : (p : ℕ) → p < e → y₀ p ≢ 𝟘
     unfolding e y₀ L
-    ynz₀ p h z = L .wrong p h (domain K (ε (L .place p)) (x (L .place p)) z (x-nz (L .place p) (L .inside p h)))
+    ynz₀ p h z = L .wrong p h (domain K _ (pow R₂ (x (L .place p)) b) z (pow-nz K _ b (x-nz (L .place p) (L .inside p h))))
 
-    d₀ : Distinct e x₀
-    unfolding e x₀ L
-    d₀ i j h h′ = x-d (L .place i) (L .place j) (L .in-order i j h h′) (L .inside j h′)
-
-    -- the locator is a register, whatever the decoder found
-    pub locator-serves : Gen R₂ s (t + t) (locator R₂ x₀ e) (weight n ε)
+    -- the locator polynomial, the product of 1 + X_p x over the wrong places, is a register of the error's weight
+    pub locator-serves : Gen R₂ s k (locator R₂ x₀ (weight n ε)) (weight n ε)
     unfolding e
-    locator-serves = gen-back _ _ (locator-gen K e y₀ x₀ nz₀ (t + t))
+    locator-serves = gen-ext R₂ (syndrome R₂ e y₀ x₀) s k _ _ (λ j h. sym (agree j h)) (locator-gen K e y₀ x₀ nz₀ k)
 
-    enough : e + e ≤ t + t
-    unfolding e
-    enough = omega (arith, light)
+    -- so a shortest register is no longer than the error's weight
+    pub no-longer : (c : ℕ → F) (l : ℕ) → Shortest R₂ s k c l → l ≤ weight n ε
+    no-longer c l S = S .short (locator R₂ x₀ (weight n ε)) (weight n ε) locator-serves
 
-    same-place : (p q : ℕ) → p < n → q < n → x p ≡ x q → p ≡ q
-    same-place p q hp hq z = pick (decLe p q) (decLe q p)
-      where
-        pick : Dec (p ≤ q) → Dec (q ≤ p) → p ≡ q
-        pick (yes a) (yes b) = omega arith
-        pick (no a) b = absurd (x-d q p (omega arith) hp (sym z))
-        pick (yes a) (no b) = absurd (x-d p q (omega arith) hq z)
+    -- ---- the locators differ, and there are twice as many syndromes as errors: what any shortest register finds
+    module _ (x-d : Distinct n x) (enough : weight n ε + weight n ε ≤ k) (c : ℕ → F) (l : ℕ) (S : Shortest R₂ s k c l) where
+      d₀ : Distinct e x₀
+      unfolding e x₀ L
+      d₀ i j h h′ = x-d (L .place i) (L .place j) (L .in-order i j h h′) (L .inside j h′)
 
-    inv-same : (p q : ℕ) → p < n → q < n → K .inv (x p) ≡ K .inv (x q) → x p ≡ x q
-    inv-same p q hp hq d =
-        sym (⊠-one (x p)) ∙ ap (λ w. x p ⊠ w) (sym (K .inv-law (x q) (x-nz q hq))) ∙ ap (λ w. x p ⊠ (x q ⊠ w)) (sym d)
-        ∙ ⊠-lc R₂ (x p) (x q) _ ∙ ap (λ w. x q ⊠ w) (K .inv-law (x p) (x-nz p hp)) ∙ ⊠-one (x q)
+      enough₀ : e + e ≤ k
+      unfolding e
+      enough₀ = omega (arith, enough)
 
-    module _ (c : ℕ → F) (l : ℕ) (gen : Gen R₂ s (t + t) c l) (short : (c′ : ℕ → F) (l′ : ℕ) → Gen R₂ s (t + t) c′ l′ → l ≤ l′) where
       fits : l ≤ e
       unfolding e
-      fits = short (locator R₂ x₀ e) (weight n ε) locator-serves
+      fits = no-longer c l S
 
+      same-place : (p q : ℕ) → p < n → q < n → x p ≡ x q → p ≡ q
+      same-place p q hp hq z = pick (decLe p q) (decLe q p)
+        where
+          pick : Dec (p ≤ q) → Dec (q ≤ p) → p ≡ q
+          pick (yes a) (yes b) = omega arith
+          pick (no a) b = absurd (x-d q p (omega arith) hp (sym z))
+          pick (yes a) (no b) = absurd (x-d p q (omega arith) hq z)
+
+      -- its length is the number of errors
       pub length-right : l ≡ weight n ε
       unfolding e
-      length-right = length-is K e y₀ x₀ nz₀ ynz₀ d₀ (t + t) enough c l (gen-there c l gen) fits
+      length-right = length-is K e y₀ x₀ nz₀ ynz₀ d₀ k enough₀ c l (gen-there c l (S .gen)) fits
 
-      pub found-wrong : (p : ℕ) → p < n → ε p ≢ 𝟘 → eval R₂ (suc l) c (K .inv (x p)) ≡ 𝟘
+      -- each wrong place is a root
+      pub found-wrong : (p : ℕ) → p < n → ε p ≢ 𝟘 → chien c l x p ≡ 𝟘
       unfolding e x₀ L
       found-wrong p h ne =
           let r = L .all p h ne in
-          ap (λ (z : ℕ). eval R₂ (suc l) c (K .inv (x z))) (sym (r .2)) ∙ all-roots K e y₀ x₀ nz₀ ynz₀ d₀ (t + t) enough c l (gen-there c l gen) fits (r .0) (r .1)
+          ap (chien c l x) (sym (r .2)) ∙ all-roots K e y₀ x₀ nz₀ ynz₀ d₀ k enough₀ c l (gen-there c l (S .gen)) fits (r .0) (r .1)
 
-      pub found-right : (p : ℕ) → p < n → eval R₂ (suc l) c (K .inv (x p)) ≡ 𝟘 → ε p ≢ 𝟘
+      -- and each root a wrong place
+      pub found-right : (p : ℕ) → p < n → chien c l x p ≡ 𝟘 → ε p ≢ 𝟘
       unfolding e x₀ L
       found-right p h r z =
-          only-roots K e y₀ x₀ nz₀ ynz₀ d₀ (t + t) enough c l (gen-there c l gen) fits (K .inv (x p)) r
-          (λ i g d. L .wrong i g (ap ε (sym (same-place p (L .place i) h (L .inside i g) (inv-same p (L .place i) h (L .inside i g) d))) ∙ z))
+          only-roots K e y₀ x₀ nz₀ ynz₀ d₀ k enough₀ c l (gen-there c l (S .gen)) fits (K .inv (x p)) r
+          (λ i g d. L .wrong i g
+          (ap ε (sym (same-place p (L .place i) h (L .inside i g) (inv-inj K (x p) (x (L .place i)) (x-nz p h) (x-nz (L .place i) (L .inside i g)) d))) ∙ z))
 
-  -- ---- minimum distance: an error of weight at most d with d zero syndromes is none
-  pub min-distance : (n : ℕ) (x : ℕ → F) → ((p : ℕ) → p < n → x p ≢ 𝟘) → Distinct n x → (ε : ℕ → F) (d : ℕ) → weight n ε ≤ d
-      → ((j : ℕ) → j < d → sum R₂ n (λ p. ε p ⊠ x p ⊠ pow R₂ (x p) j) ≡ 𝟘) → (p : ℕ) → p < n → ε p ≡ 𝟘
-  min-distance n x x-nz x-d ε d light z p h = pick (K .dec (ε p) 𝟘)
+  -- ---- minimum distance: an error of weight at most d with d zero syndromes, from any power b on, is none
+  pub min-distance : (n : ℕ) (x : ℕ → F) → ((p : ℕ) → p < n → x p ≢ 𝟘) → Distinct n x → (b d : ℕ) (ε : ℕ → F) → weight n ε ≤ d
+      → ((j : ℕ) → j < d → sum R₂ n (λ p. ε p ⊠ pow R₂ (x p) (b + j)) ≡ 𝟘) → (p : ℕ) → p < n → ε p ≡ 𝟘
+  min-distance n x x-nz x-d b d ε light z p h = pick (K .dec (ε p) 𝟘)
     where
       M : Listing n ε (weight n ε)
       M = listing n ε
 
       y : ℕ → F
-      y i = ε (M .place i) ⊠ x (M .place i)
+      y i = ε (M .place i) ⊠ pow R₂ (x (M .place i)) b
 
       none : (i : ℕ) → i < weight n ε → y i ≡ 𝟘
       none = vandermonde K (weight n ε) y (λ i. x (M .place i)) (λ i j a b. x-d (M .place i) (M .place j) (M .in-order i j a b) (M .inside j b))
-          (λ j a. sym (M .sums (λ p. ε p ⊠ x p ⊠ pow R₂ (x p) j) (λ p g w. ap (λ v. v ⊠ x p ⊠ pow R₂ (x p) j) w ∙ ap (λ v. v ⊠ pow R₂ (x p) j) (zero-⊠ R₂ (x p)) ∙ zero-⊠ R₂ _)) ∙ z j (omega arith))
+          (λ j a. sum-ext R₂ (weight n ε) _ _ (λ i _. sym (shift (ε (M .place i)) (x (M .place i)) b j))
+          ∙ sym (M .sums (λ p. ε p ⊠ pow R₂ (x p) (b + j)) (λ p g w. ap (λ v. v ⊠ pow R₂ (x p) (b + j)) w ∙ zero-⊠ R₂ _)) ∙ z j (omega arith))
 
       pick : Dec (ε p ≡ 𝟘) → ε p ≡ 𝟘
       pick (yes e) = e
       pick (no ne) =
           let r = M .all p h ne in
-          absurd (M .wrong (r .0) (r .1) (domain K _ (x (M .place (r .0))) (none (r .0) (r .1)) (x-nz (M .place (r .0)) (M .inside (r .0) (r .1)))))
+          absurd (M .wrong (r .0) (r .1) (domain K _ (pow R₂ (x (M .place (r .0))) b) (none (r .0) (r .1)) (pow-nz K _ b (x-nz (M .place (r .0)) (M .inside (r .0) (r .1))))))
+
+  -- so two errors with the same k syndromes, of weights at most k together, are the same
+  pub only-error : (n : ℕ) (x : ℕ → F) → ((p : ℕ) → p < n → x p ≢ 𝟘) → Distinct n x → (b k : ℕ) (ε η s : ℕ → F)
+      → Syndromes n x b k ε s → Syndromes n x b k η s → weight n ε + weight n η ≤ k → (p : ℕ) → p < n → ε p ≡ η p
+  only-error n x x-nz x-d b k ε η s se sη light p h =
+      ⊞-cancel R₂ (ε p) (η p)
+      (min-distance n x x-nz x-d b k (λ p. ε p ⊞ η p) (omega (arith, weight-add n ε η))
+      (λ j a. sym (syndromes-add n x b k ε η s s se sη j a) ∙ ⊞-self (s j)) p h)

@@ -1,13 +1,13 @@
 -- A shortest register for the syndromes of e errors, from twice as many syndromes, has the errors' inverse locators as its roots, and no others.
-use mathlib.Core.Path.{_≡_, refl, sym, ap, ap₂, _∙_, subst, fun-ext}
-use mathlib.Core.Logic.{_≢_, _⊎_, inl, inr, ite, if-pos, if-neg}
-use Prim.Native.Nat.{ℕ, zero, suc, _+_, _-_, _≤_, _<_}
-use native.Mathlib.Nat.{not-suc-le-zero, le-of-suc-le-suc, le-suc, le-refl}
+use mathlib.Core.Path.{_≡_, refl, sym, ap, ap₂, _∙_}
+use mathlib.Core.Logic.{_≢_, ite, if-pos, if-neg}
+use Prim.Native.Nat.{ℕ, zero, suc, _+_, _≤_, _<_}
+use native.Mathlib.Nat.{not-suc-le-zero, le-of-suc-le-suc, le-suc}
 use native.Mathlib.Decide.{ℕ-discrete, decLe, decLt}
 use native.Mathlib.Omega.{arith}
-use Rattle.algebra.specs.Ring.{Ring, Field, ⊞-lc, ⊠-lc, zero-⊞, one-⊠, dist-⊠, ⊠-zero, zero-⊠, ⊞-self-l, ⊞-swap, ⊠-swap, ⊞-cancel}
-use Rattle.algebra.specs.Series.{sum, sum-ext, sum-zero, sum-none, sum-mul, sum-front, pow, pow-add, eval, eval-zero, eval-more, conv, up, conv-vanish, conv-add-r, conv-mul-r, conv-pow}
-use Rattle.algebra.specs.Roots.{Distinct, domain, roots, vandermonde}
+use Rattle.algebra.specs.Ring.{Ring, Field, ⊠-lc, zero-⊞, one-⊠, ⊠-zero, ⊞-swap}
+use Rattle.algebra.specs.Series.{sum, sum-ext, sum-zero, sum-none, sum-mul, sum-front, pow, pow-add, eval, eval-more, conv, up, conv-vanish, conv-add-r, conv-mul-r, conv-pow}
+use Rattle.algebra.specs.Roots.{Distinct, domain, pow-nz, inv-inj, roots, vandermonde}
 use Rattle.algebra.specs.Massey.{Gen}
 
 module _ {F : Type 0} (R : Ring F) where
@@ -103,7 +103,7 @@ module _ {F : Type 0} (K : Field F) (e : ℕ) (y x : ℕ → F) where
   R₁ = K .ring
 
   module _ (x-nz : (p : ℕ) → p < e → x p ≢ 𝟘) where
-    at-roots : (c : ℕ → F) (n : ℕ) → conv R₁ c (syndrome R₁ e y x) n ≡ sum R₁ e (λ p. y p ⊠ (pow R₁ (x p) n ⊠ eval R₁ (suc n) c (K .inv (x p))))
+    pub at-roots : (c : ℕ → F) (n : ℕ) → conv R₁ c (syndrome R₁ e y x) n ≡ sum R₁ e (λ p. y p ⊠ (pow R₁ (x p) n ⊠ eval R₁ (suc n) c (K .inv (x p))))
     at-roots c n =
         conv-syndrome R₁ e y x c n
         ∙ sum-ext R₁ e _ _ (λ p h. ap (λ w. y p ⊠ w) (conv-pow R₁ n c (x p) (K .inv (x p)) (K .inv-law (x p) (x-nz p h))))
@@ -119,17 +119,12 @@ module _ {F : Type 0} (K : Field F) (e : ℕ) (y x : ℕ → F) where
               ∙ ap (λ w. y p ⊠ w) (⊠-zero R₁ _) ∙ ⊠-zero R₁ (y p));
         }
 
-    pow-nz : (a : F) (n : ℕ) → a ≢ 𝟘 → pow R₁ a n ≢ 𝟘
-    unfolding pow
-    pow-nz a zero nz q = K .one-nz q
-    pow-nz a (suc n) nz q = nz (domain K a (pow R₁ a n) q (pow-nz a n nz))
-
     module _ (y-nz : (p : ℕ) → p < e → y p ≢ 𝟘) (x-d : Distinct e x) (k : ℕ) (enough : e + e ≤ k) (c : ℕ → F) (l : ℕ)
         (gen : Gen R₁ (syndrome R₁ e y x) k c l) (fits : l ≤ e) where
       -- each error's inverse locator is a root
       pub all-roots : (p : ℕ) → p < e → eval R₁ (suc l) c (K .inv (x p)) ≡ 𝟘
       all-roots p h =
-          domain K _ (pow R₁ (x p) l) (⊠-comm _ _ ∙ domain K _ (y p) (⊠-comm _ (y p) ∙ vandermonde K e w x x-d eqs p h) (y-nz p h)) (pow-nz (x p) l (x-nz p h))
+          domain K _ (pow R₁ (x p) l) (⊠-comm _ _ ∙ domain K _ (y p) (⊠-comm _ (y p) ∙ vandermonde K e w x x-d eqs p h) (y-nz p h)) (pow-nz K (x p) l (x-nz p h))
         where
           v : ℕ → F
           v p = eval R₁ (suc l) c (K .inv (x p))
@@ -144,13 +139,8 @@ module _ {F : Type 0} (K : Field F) (e : ℕ) (y x : ℕ → F) where
               ∙ ap₂ _⊠_ (sym (pow-add R₁ (x p) l j)) (sym (eval-more R₁ (suc l) (suc (l + j)) c _ (omega arith) (λ i q. gen .supp i q)))))
               ∙ sym (at-roots c (l + j)) ∙ gen .zeros (l + j) (omega arith) (omega arith)
 
-      inv-inj : (p q : ℕ) → p < e → q < e → K .inv (x p) ≡ K .inv (x q) → x p ≡ x q
-      inv-inj p q hp hq d =
-          sym (⊠-one (x p)) ∙ ap (λ w. x p ⊠ w) (sym (K .inv-law (x q) (x-nz q hq))) ∙ ap (λ w. x p ⊠ (x q ⊠ w)) (sym d)
-          ∙ ⊠-lc R₁ (x p) (x q) _ ∙ ap (λ w. x q ⊠ w) (K .inv-law (x p) (x-nz p hp)) ∙ ⊠-one (x q)
-
       inv-distinct : Distinct e (λ p. K .inv (x p))
-      inv-distinct i j h h′ d = x-d i j h h′ (inv-inj i j (omega arith) h′ d)
+      inv-distinct i j h h′ d = x-d i j h h′ (inv-inj K (x i) (x j) (x-nz i (omega arith)) (x-nz j h′) d)
 
       too-many : (r : ℕ → F) → Distinct (suc l) r → ((p : ℕ) → p < suc l → eval R₁ (suc l) c (r p) ≡ 𝟘) → ⊥
       too-many r d z = K .one-nz (sym (gen .head) ∙ roots K (suc l) c r d z 0 (omega arith))

@@ -1,12 +1,12 @@
--- Registers that generate a sequence; Massey's bound; the three steps of Berlekamp-Massey keep their invariant.
-use mathlib.Core.Path.{_≡_, refl, sym, ap, ap₂, _∙_, subst, fun-ext, transport}
-use mathlib.Core.Logic.{_≢_, _⊎_, inl, inr}
+-- Shift registers that generate a sequence; Massey's bound; Berlekamp-Massey finds a shortest one.
+use mathlib.Core.Path.{_≡_, refl, sym, ap, ap₂, _∙_, transport}
+use mathlib.Core.Logic.{_≢_}
 use Prim.Native.Nat.{ℕ, zero, suc, _+_, _-_, _≤_, _<_}
 use native.Mathlib.Nat.{not-suc-le-zero, le-of-suc-le-suc, le-suc, le-refl}
 use native.Mathlib.Decide.{ℕ-discrete, decLe}
 use native.Mathlib.Omega.{arith}
-use Rattle.algebra.specs.Ring.{Ring, Field, ⊞-lc, ⊠-lc, zero-⊞, one-⊠, dist-⊠, ⊠-zero, zero-⊠, ⊞-self-l, ⊞-swap, ⊠-swap, ⊞-cancel}
-use Rattle.algebra.specs.Series.{conv, up, conv-vanish, conv-head, conv-add-l, conv-mul-l, conv-up-l, conv-lc, sum, conv-sum, sum-more}
+use Rattle.algebra.specs.Ring.{Ring, Field, one-⊠, ⊠-zero, zero-⊠}
+use Rattle.algebra.specs.Series.{conv, up, conv-ext, conv-vanish, conv-head, conv-add-l, conv-mul-l, conv-up-l, conv-lc, sum, conv-sum, sum-more}
 
 -- times x ^ m
 unfoldable pub ups : {F : Type 0} → Ring F → ℕ → (ℕ → F) → ℕ → F
@@ -14,11 +14,29 @@ ups R zero g = g
 ups R (suc m) g = up R (ups R m g)
 
 module _ {F : Type 0} (R : Ring F) where
-  -- the register c of length l generates the first k of s
+  -- the register c of length l generates the first k of s: c_0 = 1, c_j = 0 past l,
+  -- and the sum over j of c_j s_(n-j) is 0 for each n with l <= n < k, so that the first l of s give the others
   pub record Gen (s : ℕ → F) (k : ℕ) (c : ℕ → F) (l : ℕ) : Type 0 where
     pub head : c 0 ≡ R .𝟙
     pub supp : (i : ℕ) → l < i → c i ≡ R .𝟘
     pub zeros : (n : ℕ) → l ≤ n → n < k → conv R c s n ≡ R .𝟘
+
+  -- it does, and no shorter one does: a shortest register that generates the first k of s
+  pub record Shortest (s : ℕ → F) (k : ℕ) (c : ℕ → F) (l : ℕ) : Type 0 where
+    pub gen : Gen s k c l
+    pub short : (c′ : ℕ → F) (l′ : ℕ) → Gen s k c′ l′ → l ≤ l′
+
+  -- sequences that agree below k have the same registers
+  pub gen-ext : (s s′ : ℕ → F) (k : ℕ) (c : ℕ → F) (l : ℕ) → ((j : ℕ) → j < k → s j ≡ s′ j) → Gen s k c l → Gen s′ k c l
+  gen-ext s s′ k c l e g =
+      record { head = g .head; supp = g .supp; zeros = λ n h h′. sym (conv-ext R n c s s′ (λ j a. e j (omega arith))) ∙ g .zeros n h h′ }
+
+  pub shortest-ext : (s s′ : ℕ → F) (k : ℕ) (c : ℕ → F) (l : ℕ) → ((j : ℕ) → j < k → s j ≡ s′ j) → Shortest s k c l → Shortest s′ k c l
+  shortest-ext s s′ k c l e S =
+      record {
+        gen = gen-ext s s′ k c l e (S .gen);
+        short = λ c′ l′ g. S .short c′ l′ (gen-ext s′ s k c′ l′ (λ j h. sym (e j h)) g);
+      }
 
 module _ {F : Type 0} (K : Field F) where
   open Ring (K .ring) using (𝟘, 𝟙, _⊞_, _⊠_, ⊞-assoc, ⊞-comm, ⊞-zero, ⊞-self, ⊠-assoc, ⊠-comm, ⊠-one, ⊠-dist)
@@ -28,8 +46,17 @@ module _ {F : Type 0} (K : Field F) where
   abbrev R : Ring F
   R = K .ring
 
-  gen-fewer : (s : ℕ → F) (k : ℕ) (c : ℕ → F) (l : ℕ) → Gen R s (suc k) c l → Gen R s k c l
-  gen-fewer s k c l g = record { head = g .head; supp = g .supp; zeros = λ n h h′. g .zeros n h (omega arith) }
+  -- fewer places
+  pub gen-less : (s : ℕ → F) (j k : ℕ) (c : ℕ → F) (l : ℕ) → j ≤ k → Gen R s k c l → Gen R s j c l
+  gen-less s j k c l a g = record { head = g .head; supp = g .supp; zeros = λ n h h′. g .zeros n h (omega arith) }
+
+  -- one place more
+  pub gen-more : (s : ℕ → F) (k : ℕ) (c : ℕ → F) (l : ℕ) → Gen R s k c l → conv R c s k ≡ 𝟘 → Gen R s (suc k) c l
+  gen-more s k c l g e = record { head = g .head; supp = g .supp; zeros = λ n h h′. pick n h h′ (ℕ-discrete n k) }
+    where
+      pick : (n : ℕ) → l ≤ n → n < suc k → Dec (n ≡ k) → conv R c s n ≡ 𝟘
+      pick n h h′ (yes q) = ap (conv R c s) q ∙ e
+      pick n h h′ (no ne) = g .zeros n h (omega arith)
 
   -- a product is zero where the first is past its support or the second is zero
   part : (l : ℕ) (c g : ℕ → F) → ((i : ℕ) → l < i → c i ≡ 𝟘) → (i j : ℕ) → (i ≤ l → g j ≡ 𝟘) → c i ⊠ g j ≡ 𝟘
@@ -39,6 +66,7 @@ module _ {F : Type 0} (K : Field F) where
       pick (yes h) = ap (λ y. c i ⊠ y) (z h) ∙ ⊠-zero R (c i)
       pick (no h) = ap (λ y. y ⊠ g j) (supp i (omega arith)) ∙ zero-⊠ R (g j)
 
+  -- Massey's bound: if a register of length l fails first at k, one that serves there too has a length l′ with k < l + l′
   pub massey : (s : ℕ → F) (k : ℕ) (c : ℕ → F) (l : ℕ) (c′ : ℕ → F) (l′ : ℕ)
       → Gen R s k c l → conv R c s k ≢ 𝟘 → Gen R s (suc k) c′ l′ → k < l + l′
   massey s k c l c′ l′ g nz g′ = pick (decLe (suc k) (l + l′))
@@ -58,7 +86,7 @@ module _ {F : Type 0} (K : Field F) where
           absurd (nz (sym (other-side q) ∙ conv-lc R k c′ c s ∙ zero-side q))
 
   -- ---- shifted by m
-  conv-ups : (m n j : ℕ) (b s : ℕ → F) → j + m ≡ n → conv R (ups R m b) s n ≡ conv R b s j
+  pub conv-ups : (m n j : ℕ) (b s : ℕ → F) → j + m ≡ n → conv R (ups R m b) s n ≡ conv R b s j
   unfolding ups up
   conv-ups zero n j b s e = ap (conv R b s) (omega arith)
   conv-ups (suc m) zero j b s e = absurd (omega arith)
@@ -119,9 +147,6 @@ module _ {F : Type 0} (K : Field F) where
   unfolding fixed
   fixed-below c q m b i h = ap (λ y. c i ⊞ q ⊠ y) (ups-below m i b h) ∙ ap (λ y. c i ⊞ y) (⊠-zero R q) ∙ ⊞-zero (c i)
 
-  pub gen-less : (s : ℕ → F) (j k : ℕ) (c : ℕ → F) (l : ℕ) → j ≤ k → Gen R s k c l → Gen R s j c l
-  gen-less s j k c l a g = record { head = g .head; supp = g .supp; zeros = λ n h h′. g .zeros n h (omega arith) }
-
   -- 1, and then 0
   unfoldable pub unit : ℕ → F
   unit zero = 𝟙
@@ -146,18 +171,11 @@ module _ {F : Type 0} (K : Field F) where
       later (suc i) h = refl
 
   module _ (s : ℕ → F) (k l lb m : ℕ) (c b : ℕ → F) (δ : F) (I : Inv s k l lb m c b δ) where
-    extend : conv R c s k ≡ 𝟘 → Gen R s (suc k) c l
-    extend e = record { head = I .gen .head; supp = I .gen .supp; zeros = λ n h h′. pick n h h′ (ℕ-discrete n k) }
-      where
-        pick : (n : ℕ) → l ≤ n → n < suc k → Dec (n ≡ k) → conv R c s n ≡ 𝟘
-        pick n h h′ (yes q) = ap (conv R c s) q ∙ e
-        pick n h h′ (no ne) = I .gen .zeros n h (omega arith)
-
     pub step-zero : conv R c s k ≡ 𝟘 → Inv s (suc k) l lb (suc m) c b δ
     step-zero e =
         record {
-          gen = extend e;
-          short = λ c′ l′ g. I .short c′ l′ (gen-fewer s k c′ l′ g);
+          gen = gen-more s k c l (I .gen) e;
+          short = λ c′ l′ g. I .short c′ l′ (gen-less s k (suc k) c′ l′ (le-suc k) g);
           δ-nz = I .δ-nz;
           m-pos = omega arith;
           link = omega (arith, I .link);
@@ -193,7 +211,7 @@ module _ {F : Type 0} (K : Field F) where
     step-keep nz h =
         record {
           gen = mend l (le-refl l) h;
-          short = λ c′ l′ g. I .short c′ l′ (gen-fewer s k c′ l′ g);
+          short = λ c′ l′ g. I .short c′ l′ (gen-less s k (suc k) c′ l′ (le-suc k) g);
           δ-nz = I .δ-nz;
           m-pos = omega arith;
           link = omega (arith, I .link);
@@ -223,3 +241,34 @@ module _ {F : Type 0} (K : Field F) where
     pub discrepancy : sum R (suc l) (λ i. c i ⊠ s (k - i)) ≡ conv R c s k
     discrepancy =
         sym (conv-sum R k c s ∙ sum-more R (suc l) (suc k) _ (omega (arith, I .link, I .m-pos)) (λ i h h′. ap (λ y. y ⊠ s (k - i)) (I .gen .supp i h) ∙ zero-⊠ R _))
+
+    pub inv-shortest : Shortest R s k c l
+    inv-shortest = record { gen = I .gen; short = I .short }
+
+  -- ---- Berlekamp-Massey: there is a shortest register, for every sequence and every stretch of it
+  record State (s : ℕ → F) (k : ℕ) : Type 0 where
+    l : ℕ
+    lb : ℕ
+    m : ℕ
+    c : ℕ → F
+    b : ℕ → F
+    δ : F
+    inv : Inv s k l lb m c b δ
+
+  state-of : {s : ℕ → F} {k l lb m : ℕ} {c b : ℕ → F} {δ : F} → Inv s k l lb m c b δ → State s k
+  state-of {s} {k} {l} {lb} {m} {c} {b} {δ} I = record { l = l; lb = lb; m = m; c = c; b = b; δ = δ; inv = I }
+
+  next : (s : ℕ → F) (k : ℕ) → State s k → State s (suc k)
+  next s k S = pick (K .dec (conv R (S .c) s k) 𝟘) (decLe (suc k) (S .l + S .l))
+    where
+      pick : Dec (conv R (S .c) s k ≡ 𝟘) → Dec (k < S .l + S .l) → State s (suc k)
+      pick (yes e) d = state-of (step-zero s k _ _ _ _ _ _ (S .inv) e)
+      pick (no ne) (yes h) = state-of (step-keep s k _ _ _ _ _ _ (S .inv) ne h)
+      pick (no ne) (no h) = state-of (step-grow s k _ _ _ _ _ _ (S .inv) ne (omega arith))
+
+  state : (s : ℕ → F) (k : ℕ) → State s k
+  state s zero = state-of (inv-start s)
+  state s (suc k) = next s k (state s k)
+
+  pub shortest-exists : (s : ℕ → F) (k : ℕ) → (c : ℕ → F) × (l : ℕ) × Shortest R s k c l
+  shortest-exists s k = let S = state s k in (S .c, S .l, inv-shortest s k _ _ _ _ _ _ (S .inv))

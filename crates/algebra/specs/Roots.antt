@@ -1,12 +1,14 @@
--- Over a field: a polynomial of n coefficients with n roots is zero; and a combination of n power sequences that vanishes n times is zero.
-use mathlib.Core.Path.{_≡_, refl, sym, ap, ap₂, _∙_, subst, fun-ext}
+-- Over a field: a polynomial of n coefficients with n roots is zero; a combination of n power sequences that vanishes n times is zero
+-- (Vandermonde); powers of an element below its order differ.
+use mathlib.Core.Path.{_≡_, refl, sym, ap, ap₂, _∙_}
 use mathlib.Core.Logic.{_≢_, _⊎_, inl, inr}
-use Prim.Native.Nat.{ℕ, zero, suc, _+_, _≤_, _<_}
-use native.Mathlib.Nat.{not-suc-le-zero, le-of-suc-le-suc, le-suc, le-refl}
+use Prim.Native.Nat.{ℕ, zero, suc, _+_, _-_, _<_}
+use native.Mathlib.Nat.{not-suc-le-zero, le-of-suc-le-suc, le-refl}
 use native.Mathlib.Decide.{ℕ-discrete}
 use native.Mathlib.Omega.{arith}
-use Rattle.algebra.specs.Ring.{Ring, Field, ⊞-lc, ⊠-lc, zero-⊞, one-⊠, dist-⊠, ⊠-zero, zero-⊠, ⊞-self-l, ⊞-swap, ⊠-swap, ⊞-cancel}
-use Rattle.algebra.specs.Series.{sum, sum-ext, sum-add, sum-mul, sum-zero, pow, eval, eval-zero}
+use Rattle.algebra.specs.Ring.{Ring, Field, ⊠-lc, zero-⊞, one-⊠, dist-⊠, ⊠-zero, zero-⊠, ⊞-self-l, ⊞-swap, ⊞-cancel, square-add}
+use Rattle.algebra.specs.Power.{pow-one, pow-prod}
+use Rattle.algebra.specs.Series.{sum, sum-ext, sum-add, sum-mul, sum-zero, pow, pow-add, eval, eval-zero}
 
 -- the first n of a sequence differ
 abbrev pub Distinct {ℓ} : {F : Type ℓ} → ℕ → (ℕ → F) → Type ℓ
@@ -25,8 +27,47 @@ module _ {F : Type 0} (K : Field F) where
   domain a b e nz =
       sym (⊠-one a) ∙ ap (λ y. a ⊠ y) (sym (K .inv-law b nz)) ∙ sym (⊠-assoc a b (K .inv b)) ∙ ap (λ y. y ⊠ K .inv b) e ∙ zero-⊠ R (K .inv b)
 
-  apart : (a b : F) → a ≢ b → a ⊞ b ≢ 𝟘
+  pub apart : (a b : F) → a ≢ b → a ⊞ b ≢ 𝟘
   apart a b ne e = ne (⊞-cancel R a b e)
+
+  pub pow-nz : (a : F) (n : ℕ) → a ≢ 𝟘 → pow R a n ≢ 𝟘
+  unfolding pow
+  pow-nz a zero nz q = K .one-nz q
+  pow-nz a (suc n) nz q = nz (domain a (pow R a n) q (pow-nz a n nz))
+
+  -- inverses of different elements differ
+  pub inv-inj : (a b : F) → a ≢ 𝟘 → b ≢ 𝟘 → K .inv a ≡ K .inv b → a ≡ b
+  inv-inj a b na nb e =
+      sym (⊠-one a) ∙ ap (λ w. a ⊠ w) (sym (K .inv-law b nb)) ∙ ap (λ w. a ⊠ (b ⊠ w)) (sym e)
+      ∙ ⊠-lc R a b _ ∙ ap (λ w. b ⊠ w) (K .inv-law a na) ∙ ⊠-one b
+
+  -- what makes 1 with a is its inverse
+  pub inv-is : (a b : F) → a ⊠ b ≡ 𝟙 → K .inv a ≡ b
+  inv-is a b e =
+      sym (⊠-one _) ∙ ap (λ w. K .inv a ⊠ w) (sym e) ∙ ⊠-lc R _ a b ∙ sym (⊠-assoc a _ b) ∙ ap (λ w. w ⊠ b) (K .inv-law a nz) ∙ one-⊠ R b
+    where
+      nz : a ≢ 𝟘
+      nz z = K .one-nz (sym e ∙ ap (λ w. w ⊠ b) z ∙ zero-⊠ R b)
+
+  -- squares of different elements differ
+  pub square-inj : (a b : F) → a ⊠ a ≡ b ⊠ b → a ≡ b
+  square-inj a b e = pick (K .dec (a ⊞ b) 𝟘)
+    where
+      zero : (a ⊞ b) ⊠ (a ⊞ b) ≡ 𝟘
+      zero = square-add R a b ∙ ap (λ y. y ⊞ b ⊠ b) e ∙ ⊞-self (b ⊠ b)
+
+      pick : Dec (a ⊞ b ≡ 𝟘) → a ≡ b
+      pick (yes z) = ⊞-cancel R a b z
+      pick (no nz) = absurd (nz (domain (a ⊞ b) (a ⊞ b) zero nz))
+
+  -- only 0 and 1 are their own squares
+  pub idempotent : (a : F) → a ⊠ a ≡ a → (a ≡ 𝟘) ⊎ (a ≡ 𝟙)
+  idempotent a e = pick (K .dec a 𝟘)
+    where
+      pick : Dec (a ≡ 𝟘) → (a ≡ 𝟘) ⊎ (a ≡ 𝟙)
+      pick (yes z) = inl z
+      pick (no nz) =
+          inr (sym (⊠-one a) ∙ ap (λ y. a ⊠ y) (sym (K .inv-law a nz)) ∙ sym (⊠-assoc a a (K .inv a)) ∙ ap (λ y. y ⊠ K .inv a) e ∙ K .inv-law a nz)
 
   -- ---- division by x - a
   quot : F → ℕ → (ℕ → F) → ℕ → F
@@ -81,23 +122,23 @@ module _ {F : Type 0} (K : Field F) where
       (roots n (quot (x n) n (λ j. c (suc j))) x (λ i j l k. d i j l (omega arith)) (lower n c x d r))) i h
 
   -- ---- Vandermonde
+  pub weigh : (y x a q : F) → (y ⊠ (x ⊞ a)) ⊠ q ≡ y ⊠ (x ⊠ q) ⊞ a ⊠ (y ⊠ q)
+  weigh y x a q =
+      ap (λ z. z ⊠ q) (⊠-dist y x a) ∙ dist-⊠ R (y ⊠ x) (y ⊠ a) q
+      ∙ ap₂ _⊞_ (⊠-assoc y x q) (⊠-assoc y a q ∙ ⊠-lc R y a q)
+
   shave : (n : ℕ) (y x : ℕ → F) (j : ℕ)
       → sum R (suc n) (λ p. y p ⊠ pow R (x p) j) ≡ 𝟘 → sum R (suc n) (λ p. y p ⊠ pow R (x p) (suc j)) ≡ 𝟘
       → sum R n (λ p. (y p ⊠ (x p ⊞ x n)) ⊠ pow R (x p) j) ≡ 𝟘
   unfolding sum pow
   shave n y x j e e′ =
       sym (⊞-zero _) ∙ ap (λ z. sum R n (λ p. (y p ⊠ (x p ⊞ x n)) ⊠ pow R (x p) j) ⊞ z) (sym last)
-      ∙ sum-ext R (suc n) _ (λ p. y p ⊠ pow R (x p) (suc j) ⊞ x n ⊠ (y p ⊠ pow R (x p) j)) (λ p h. term (y p) (x p) (x n) (pow R (x p) j))
+      ∙ sum-ext R (suc n) _ (λ p. y p ⊠ pow R (x p) (suc j) ⊞ x n ⊠ (y p ⊠ pow R (x p) j)) (λ p h. weigh (y p) (x p) (x n) (pow R (x p) j))
       ∙ sum-add R (suc n) (λ p. y p ⊠ pow R (x p) (suc j)) (λ p. x n ⊠ (y p ⊠ pow R (x p) j))
       ∙ ap₂ _⊞_ e′ (sum-mul R (suc n) (x n) (λ p. y p ⊠ pow R (x p) j) ∙ ap (λ z. x n ⊠ z) e ∙ ⊠-zero R (x n)) ∙ ⊞-zero 𝟘
     where
       last : (y n ⊠ (x n ⊞ x n)) ⊠ pow R (x n) j ≡ 𝟘
       last = ap (λ z. (y n ⊠ z) ⊠ pow R (x n) j) (⊞-self (x n)) ∙ ap (λ z. z ⊠ pow R (x n) j) (⊠-zero R (y n)) ∙ zero-⊠ R _
-
-      term : (y x a q : F) → (y ⊠ (x ⊞ a)) ⊠ q ≡ y ⊠ (x ⊠ q) ⊞ a ⊠ (y ⊠ q)
-      term y x a q =
-          ap (λ z. z ⊠ q) (⊠-dist y x a) ∙ dist-⊠ R (y ⊠ x) (y ⊠ a) q
-          ∙ ap₂ _⊞_ (⊠-assoc y x q) (⊠-assoc y a q ∙ ⊠-lc R y a q)
 
   top : (n : ℕ) (y x : ℕ → F) → sum R (suc n) (λ p. y p ⊠ pow R (x p) 0) ≡ 𝟘 → ((p : ℕ) → p < n → y p ≡ 𝟘) → (p : ℕ) → p < suc n → y p ≡ 𝟘
   unfolding sum pow
@@ -120,3 +161,27 @@ module _ {F : Type 0} (K : Field F) where
       (vandermonde n (λ p. y p ⊠ (x p ⊞ x n)) x (λ i j l k. d i j l (omega arith))
       (λ j k. shave n y x j (e j (omega arith)) (e (suc j) (omega arith))) p k)
       (apart (x p) (x n) (d p n k (le-refl (suc n))))) p h
+
+  -- ---- an element of order n: its powers are not zero, and the first n of them differ
+  pub power-nz : (a : F) (n : ℕ) → 0 < n → pow R a n ≡ 𝟙 → (i : ℕ) → pow R a i ≢ 𝟘
+  unfolding pow
+  power-nz a zero h e i = absurd (not-suc-le-zero h)
+  power-nz a (suc n) h e i = pow-nz a i (λ z. K .one-nz (sym e ∙ ap (λ y. y ⊠ pow R a n) z ∙ zero-⊠ R _))
+
+  pub power-distinct : (a : F) (n : ℕ) → pow R a n ≡ 𝟙 → ((i : ℕ) → 0 < i → i < n → pow R a i ≢ 𝟙) → Distinct n (pow R a)
+  power-distinct a n full order i j h h′ e = order (j - i) (omega arith) (omega arith) one
+    where
+      split : j ≡ i + (j - i)
+      split = omega arith
+
+      product : (pow R a (j - i) ⊞ 𝟙) ⊠ pow R a i ≡ 𝟘
+      product =
+          ⊠-comm _ _ ∙ ⊠-dist (pow R a i) (pow R a (j - i)) 𝟙
+          ∙ ap₂ _⊞_ (sym (pow-add R a i (j - i)) ∙ ap (pow R a) (sym split) ∙ sym e) (⊠-one _) ∙ ⊞-self _
+
+      one : pow R a (j - i) ≡ 𝟙
+      one = ⊞-cancel R _ _ (domain _ (pow R a i) product (power-nz a n (omega arith) full i))
+
+  -- the inverse of a power is that power of the inverse
+  pub inv-pow : (a b : F) → a ⊠ b ≡ 𝟙 → (n : ℕ) → K .inv (pow R a n) ≡ pow R b n
+  inv-pow a b e n = inv-is (pow R a n) (pow R b n) (pow-prod R a b n ∙ ap (λ z. pow R z n) e ∙ pow-one R n)

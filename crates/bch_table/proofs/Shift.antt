@@ -1,13 +1,17 @@
 -- Three words as one number: shifted by eight places, xored, and its top byte. `omega` takes no number of more than 38 digits, so 2 ^ 64 is a variable B in what it shows.
 -- Assumes nothing.
-use mathlib.Core.Path.{_≡_, refl, sym, _∙_, ap, ap₂, subst}
-use Prim.Native.Nat.{ℕ, _+_, _*_, _/_, _%_, _^_, _<_, _≤_}
-use native.Mathlib.Nat.{mul-add-mod-self-right, mod-eq-of-lt, add-mul-div-right, div-eq-of-lt, div-div-eq-div-mul, mod-lt, add-comm, div-add-mod', mul-le-mul-right, mul-le-mul-left, le-trans, lt-of-lt-of-le}
+use mathlib.Core.Path.{_≡_, sym, _∙_, ap, ap₂, subst}
+use Prim.Native.Nat.{ℕ, _+_, _*_, _/_, _%_, _^_, _<_}
+use native.Mathlib.Nat.{mul-div-mul-right, mul-add-mod-self-right, mod-eq-of-lt, div-div-eq-div-mul, mod-lt, add-comm, lt-of-lt-of-le}
 use native.Mathlib.Omega.{arith}
-use lib.Dec.{lit<}
-use lib.Bits.{bitXor, xor-block, xor-shifted, xor-lt}
-use Rattle.bch_table.specs.Divide.{wordOf, regOf}
+use lib.Dec.{lit<, lit≤}
+use lib.Bits.{bitXor, xor-shifted}
+use Rattle.bch_table.specs.Table.{wordOf, timesPower}
+use Rattle.laws.specs.Xor.{_⊕_, ⊕-assoc, ⊕-comm, ⊕-split}
+use Rattle.laws.specs.Poly.{rem, rem-add, rem-small, ⊕-shift}
+use Rattle.bch_table.specs.Generator.{generator}
 use Rattle.bch_table.specs.Step.{joined, stepOf}
+use Rattle.bch_table.specs.Words.{below, xored, words, word-lt}
 
 -- ---- one word: its lower 56 bits moved up, with the next word's top byte
 pub word-up : (x y : ℕ) → y < 2 ^ 64 → bitXor (x * 256 % 2 ^ 64) (y / 2 ^ 56) ≡ x % 2 ^ 56 * 256 + y / 2 ^ 56
@@ -39,12 +43,6 @@ up-sum B h h₁ h₀ m m₁ m₀ l l₁ l₀ eh em el =
     let b : m * 256 * B ≡ (m₁ * B + m₀) * B = ap (λ (n : ℕ). n * B) em in
     omega arith
 
-below : (B x y z : ℕ) → x < B → y < B → z < B → (x * B + y) * B + z < B * B * B
-below B x y z hx hy hz =
-    let a : (x + 1) * (B * B) ≤ B * (B * B) = mul-le-mul-right (B * B) (omega arith) in
-    let b : (y + 1) * B ≤ B * B = mul-le-mul-right B (omega arith) in
-    omega arith
-
 pub shifted : (h m l : ℕ) → h < 2 ^ 64 → m < 2 ^ 64 → l < 2 ^ 64
     → joined h m l * 256 % 2 ^ 192 ≡ joined (h % 2 ^ 56 * 256 + m / 2 ^ 56) (m % 2 ^ 56 * 256 + l / 2 ^ 56) (l % 2 ^ 56 * 256)
 unfolding joined
@@ -68,34 +66,42 @@ top-byte h m l hm hl =
     off : (x y : ℕ) → y < 2 ^ 64 → (x * 2 ^ 64 + y) / 2 ^ 64 ≡ x
     off x y h = omega arith
 
--- three words xored
-pub xored : (a b c x y z : ℕ) → b < 2 ^ 64 → c < 2 ^ 64 → y < 2 ^ 64 → z < 2 ^ 64
-    → joined (bitXor a x) (bitXor b y) (bitXor c z) ≡ bitXor (joined a b c) (joined x y z)
-unfolding joined
-xored a b c x y z hb hc hy hz =
-    sym (xor-block 64 (a * 2 ^ 64 + b) (x * 2 ^ 64 + y) c z hc hz ∙ ap (λ (n : ℕ). n * 2 ^ 64 + bitXor c z) (xor-block 64 a x b y hb hy))
+-- one byte more: the top byte leaves, and the table has what it leaves behind
+step-is : (v b : ℕ) → stepOf v b ≡ bitXor (v * 256 % 2 ^ 192) (timesPower 192 (bitXor (v / 2 ^ 184) b))
+unfolding stepOf timesPower _⊕_
+step-is v b =
+    ap (rem 192 generator 200) (ap (λ (z : ℕ). z ⊕ (b * 2 ^ 192)) (⊕-split (v * 256) 192 ∙ ap (λ (z : ℕ). (z * 2 ^ 192) ⊕ low) top) ∙ around)
+    ∙ rem-add 192 generator 200 low ((t ⊕ b) * 2 ^ 192)
+    ∙ ap (λ (z : ℕ). z ⊕ rem 192 generator 200 ((t ⊕ b) * 2 ^ 192)) (rem-small 192 generator 200 low low-lt (lt-of-lt-of-le low-lt (lit≤ tt)))
+  where
+    t : ℕ
+    t = v / 2 ^ 184
 
--- a number is its three words
-pub words : (v : ℕ) → joined (wordOf 0 v) (wordOf 1 v) (wordOf 2 v) ≡ v
-unfolding joined wordOf
-words v = ap (λ (n : ℕ). (n * 2 ^ 64 + v / 2 ^ 64 % 2 ^ 64) * 2 ^ 64 + v % 2 ^ 64) (sym (div-div-eq-div-mul v (2 ^ 64) (2 ^ 64)))
-    ∙ (ap (λ (n : ℕ). n * 2 ^ 64 + v % 2 ^ 64) (div-add-mod' (v / 2 ^ 64) (2 ^ 64)) ∙ div-add-mod' v (2 ^ 64))
+    low : ℕ
+    low = v * 256 % 2 ^ 192
 
-pub word-lt : (v : ℕ) → (wordOf 1 v < 2 ^ 64) × (wordOf 2 v < 2 ^ 64)
-unfolding wordOf
-word-lt v = (mod-lt (v / 2 ^ 64) (lit< tt), mod-lt v (lit< tt))
+    low-lt : low < 2 ^ 192
+    low-lt = mod-lt (v * 256) (lit< tt)
+
+    top : v * 256 / 2 ^ 192 ≡ t
+    top = mul-div-mul-right v (2 ^ 184) (lit< tt)
+
+    around : ((t * 2 ^ 192) ⊕ low) ⊕ (b * 2 ^ 192) ≡ low ⊕ ((t ⊕ b) * 2 ^ 192)
+    around =
+        ap (λ (z : ℕ). z ⊕ (b * 2 ^ 192)) (⊕-comm (t * 2 ^ 192) low) ∙ ⊕-assoc low (t * 2 ^ 192) (b * 2 ^ 192)
+        ∙ ap (λ (z : ℕ). low ⊕ z) (sym (⊕-shift t b 192))
 
 -- the whole step
 pub stepped : (h m l b t₀ t₁ t₂ : ℕ) → h < 2 ^ 64 → m < 2 ^ 64 → l < 2 ^ 64
-    → t₀ ≡ wordOf 0 (regOf (bitXor (h / 2 ^ 56) b)) → t₁ ≡ wordOf 1 (regOf (bitXor (h / 2 ^ 56) b)) → t₂ ≡ wordOf 2 (regOf (bitXor (h / 2 ^ 56) b))
+    → t₀ ≡ wordOf 0 (timesPower 192 (bitXor (h / 2 ^ 56) b)) → t₁ ≡ wordOf 1 (timesPower 192 (bitXor (h / 2 ^ 56) b)) → t₂ ≡ wordOf 2 (timesPower 192 (bitXor (h / 2 ^ 56) b))
     → joined (bitXor (bitXor (h * 256 % 2 ^ 64) (m / 2 ^ 56)) t₀) (bitXor (bitXor (m * 256 % 2 ^ 64) (l / 2 ^ 56)) t₁) (bitXor (l * 256 % 2 ^ 64) t₂) ≡ stepOf (joined h m l) b
-unfolding stepOf
 stepped h m l b t₀ t₁ t₂ hh hm hl e₀ e₁ e₂ =
-    let r = regOf (bitXor (h / 2 ^ 56) b) in
+    let r = timesPower 192 (bitXor (h / 2 ^ 56) b) in
     let a = h % 2 ^ 56 * 256 + m / 2 ^ 56 in
     let c = m % 2 ^ 56 * 256 + l / 2 ^ 56 in
     let d = l % 2 ^ 56 * 256 in
     ap₂ (λ (x y : ℕ). joined x y (bitXor (l * 256 % 2 ^ 64) t₂)) (ap₂ bitXor (word-up h m hm) e₀) (ap₂ bitXor (word-up m l hl) e₁)
     ∙ (ap (λ (x : ℕ). joined (bitXor a (wordOf 0 r)) (bitXor c (wordOf 1 r)) x) (ap₂ bitXor (last-up l) e₂)
     ∙ (xored a c d (wordOf 0 r) (wordOf 1 r) (wordOf 2 r) (up-lt m l hl) (last-lt l) (word-lt r .0) (word-lt r .1)
-    ∙ ap₂ bitXor (sym (shifted h m l hh hm hl)) (words r ∙ ap (λ (n : ℕ). regOf (bitXor n b)) (sym (top-byte h m l hm hl)))))
+    ∙ (ap₂ bitXor (sym (shifted h m l hh hm hl)) (words r ∙ ap (λ (n : ℕ). timesPower 192 (bitXor n b)) (sym (top-byte h m l hm hl)))
+    ∙ sym (step-is (joined h m l) b))))

@@ -1,0 +1,11 @@
+mod Bytes
+mod Spell
+mod Smalls
+mod Orders
+mod Lists
+mod Pairs
+mod Words
+mod RowLists
+mod Stores
+mod Fill
+mod Whole

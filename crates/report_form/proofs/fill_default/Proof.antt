@@ -1,0 +1,69 @@
+-- `report_form::fill_default` meets its contract.
+-- Assumes nothing.
+use mathlib.Core.Path.{_≡_, sym, ap, _∙_, subst}
+use Prim.Native.Nat.{_+_, _-_}
+use borrow.Author.Needs.{needs}
+use native.Mathlib.Omega.{arith}
+use lib.IntN.{ℤ}
+use lib.ListN.{replicate}
+use lib.Seq.{sets}
+use mir.Syntax.{w8}
+use mir.Val.{toZ, ofZ}
+use mir.ValLaws.{toZ-ofZ}
+use Rattle.report_form.proofs.Fill.{FilledTo, filled-start, filled-again, filled-length, filled-end}
+use Rattle.report_form.proofs.fill_default.Statement.{statement}
+use Rattle.report_form.proofs.fill_default.Tie as tie
+
+abbrev Inv-loop : tie.InvT-loop
+Inv-loop words₀ base n value i₀ end words i = FilledTo words₀ base (toZ w8 value) n words i
+
+abbrev μ-loop : tie.MeasureT-loop
+μ-loop words₀ base n value i₀ end words i = end - i
+
+loop-holds : tie.Need-loop-holds Inv-loop μ-loop
+loop-holds c = filled-start (c .args .words .now) (c .args .base) (toZ w8 (ofZ w8 (c .args .value))) (c .args .n)
+
+add-value : tie.Need-add-value Inv-loop μ-loop
+add-value c = omega (arith, c .before .before .pre, c .before .before .good .0 .0, c .loop-test .taken)
+
+slice-set-from-value : tie.Need-slice-set-from-value Inv-loop μ-loop
+slice-set-from-value c =
+    let a = c .before .before .args in
+    omega (arith, filled-length (a .words .now) (a .base) (toZ w8 (ofZ w8 (a .value))) (a .n) (c .before .loop .words) (c .before .loop .i) (c .before .loop .inv), c .before .before .pre, c .loop-test .taken)
+
+add-i : tie.Need-add-i Inv-loop μ-loop
+add-i c = omega (arith, c .loop-test .taken, c .before .before .fits .n .fits)
+
+loop-less : tie.Need-loop-less Inv-loop μ-loop
+loop-less c = omega (arith, c .loop-test .taken)
+
+loop-again : tie.Need-loop-again Inv-loop μ-loop
+loop-again c =
+    let a = c .before .before .args in
+    filled-again (a .words .now) (a .base) (toZ w8 (ofZ w8 (a .value))) (a .n) (c .before .loop .words) (c .before .loop .i) (c .before .loop .inv) (c .loop-test .taken)
+
+same-length : tie.Need-same-length Inv-loop μ-loop
+same-length c =
+    let a = c .before .before .args in
+    filled-length (a .words .now) (a .base) (toZ w8 (ofZ w8 (a .value))) (a .n) (c .before .loop .words) (c .before .loop .i) (c .before .loop .inv)
+
+returns : tie.Need-returns Inv-loop μ-loop
+returns c =
+    let a = c .before .before .args in
+    filled-end (a .words .now) (a .base) (toZ w8 (ofZ w8 (a .value))) (a .n) (c .before .loop .words) (c .before .loop .i) (c .before .loop .inv) (c .loop-test .left)
+    ∙ ap (λ (z : ℤ). sets (a .words .now) (a .base) (replicate (a .n) z)) (toZ-ofZ w8 (a .value) (c .before .before .fits .value))
+
+pub fill-default-spec : {M : Type 1} → statement M
+fill-default-spec =
+    tie.close
+    (tie.spec
+    Inv-loop
+    μ-loop
+    loop-holds
+    add-value
+    slice-set-from-value
+    add-i
+    loop-less
+    loop-again
+    same-length
+    returns)

@@ -1,0 +1,50 @@
+-- `report_form::fill_word` meets its contract: the default everywhere, then the pairs.
+-- Assumes nothing.
+use mathlib.Core.Path.{sym}
+use borrow.Author.Needs.{needs}
+use native.Mathlib.Omega.{arith}
+use mir.Syntax.{w8}
+use mir.ValLaws.{toZ-ofZ}
+use Rattle.report_form.specs.Form.{reads-as}
+use Rattle.report_form.proofs.Bytes.{inside}
+use Rattle.report_form.proofs.Fill.{word-letter, word-pairs-here, word-filled}
+use Rattle.report_form.proofs.fill_word.Statement.{statement}
+use Rattle.report_form.proofs.fill_word.Tie as tie
+
+add-read-small-field : tie.Need-add-read-small-field
+add-read-small-field c =
+    let a = c .before .args in
+    let x = c .before .pre .1 in
+    omega (arith, inside (a .text .now) (a .at) (omega (arith, word-letter (a .n) (a .text .now) (a .at) (x .word) (x .rest) (x .at-place))))
+
+read-small-field-requires : tie.Need-read-small-field-requires
+read-small-field-requires c κs = search needs
+
+fill-default-requires : tie.Need-fill-default-requires
+fill-default-requires c κs = search needs
+
+fill-pairs-requires : tie.Need-fill-pairs-requires
+fill-pairs-requires c κs =
+    let a = c .before .before .before .before .before .before .before .args in
+    (omega (arith, c .before .before .before .before .before .before .before .pre .0, c .before .before .fill-default .kept .0), word-pairs-here (a .n) (a .text .now) (a .at) (c .before .before .before .before .before .before .before .pre .1) (c .before .before .before .before .before .read-small-field .ensures))
+
+same-length : tie.Need-same-length
+same-length c = search needs
+
+returns : tie.Need-returns
+returns c =
+    let a = c .before .before .before .before .before .before .before .before .before .args in
+    word-filled (a .n) (a .text .now) (a .at) (a .base) (a .words .now) (c .before .before .before .before .before .before .before .before .before .pre .0)
+    (reads-as (c .before .before .before .before .before .before .before .read-small-field .ensures) (sym (toZ-ofZ w8 (c .before .before .before .before .before .before .before .read-small-field .result .value) (record { sfits = c .before .before .before .before .before .struct-told .given .1 .0 .1 }))))
+    (c .before .before .before .before .fill-default .ensures) (c .before .fill-pairs .ensures)
+
+pub fill-word-spec : {M : Type 1} → statement M
+fill-word-spec =
+    tie.close
+    (tie.spec
+    add-read-small-field
+    read-small-field-requires
+    fill-default-requires
+    fill-pairs-requires
+    same-length
+    returns)

@@ -1,0 +1,91 @@
+-- `report_form::read_pairs` meets its contract. The loop's invariant: the pairs so far, the least position that may come, and their number.
+-- Assumes nothing.
+use mathlib.Core.Path.{_≡_, sym, ap, _∙_}
+use mathlib.Core.Logic.{_⊎_, inl, inr}
+use Prim.Native.Nat.{ℕ, _+_, _-_, _≤_, _<_}
+use borrow.Author.Needs.{needs}
+use borrow.Author.Tests.{not-true, not-false}
+use native.Mathlib.Omega.{arith}
+use lib.ListN.{length, drop, getD}
+use Rattle.report_form.specs.Form.{found-there, missing-there}
+use Rattle.report_form.proofs.Lists.{goes-mark, goes-room, goes-end}
+use Rattle.report_form.proofs.Pairs.{PairsSoFar, pairs-start, pairs-again, pairs-none, pairs-wrong, pairs-hopeless, pairs-read}
+use Rattle.report_form.proofs.read_pairs.Statement.{statement}
+use Rattle.report_form.proofs.read_pairs.Tie as tie
+
+abbrev Inv-loop : tie.InvT-loop
+Inv-loop text right at n i₀ least₀ count₀ i least count = PairsSoFar n least count (drop at text) (drop i text)
+
+abbrev μ-loop : tie.MeasureT-loop
+μ-loop text right at n i₀ least₀ count₀ i least count = 64 - count
+
+loop-holds : tie.Need-loop-holds Inv-loop μ-loop
+loop-holds c = pairs-start (c .before .args .n) (drop (c .before .args .at) (c .before .args .text .now)) (c .before .pre)
+
+goes-on-requires : tie.Need-goes-on-requires Inv-loop μ-loop
+goes-on-requires c κs = search needs
+
+read-pair-requires : tie.Need-read-pair-requires Inv-loop μ-loop
+read-pair-requires c κs = search needs
+
+returns : tie.Need-returns Inv-loop μ-loop
+returns c =
+    pairs-hopeless (c .before .before .before .before .before .before .before .args .n)
+    (pairs-none (c .before .before .before .before .before .before .before .args .n) (c .before .before .before .before .before .loop .least) (c .before .before .before .before .before .loop .count) _ _ (c .before .before .before .before .before .loop .inv) (goes-mark (c .before .before .before .before .before .before .before .args .text .now) (c .before .before .before .before .before .loop .count) 64 (c .before .before .before .before .before .loop .i) 9 (c .before .before .before .before .goes-on .ensures) (c .before .before .before .if1 .taken))
+    (missing-there (c .before .before .read-pair .ensures) (not-true (c .before .before .read-pair .result .right) (c .if2 .taken))))
+
+returns-2 : tie.Need-returns-2 Inv-loop μ-loop
+returns-2 c =
+    let p = c .before .before .before .read-pair .result in
+    pairs-hopeless (c .before .before .before .before .before .before .before .before .args .n)
+    (pairs-wrong (c .before .before .before .before .before .before .before .before .args .n) (c .before .before .before .before .before .before .loop .least) (c .before .before .before .before .before .before .loop .count) (p .position) (p .value) _ _ _ (c .before .before .before .before .before .before .loop .inv) (goes-mark (c .before .before .before .before .before .before .before .before .args .text .now) (c .before .before .before .before .before .before .loop .count) 64 (c .before .before .before .before .before .before .loop .i) 9 (c .before .before .before .before .before .goes-on .ensures) (c .before .before .before .before .if1 .taken))
+    (found-there (c .before .before .before .read-pair .ensures) (not-false (p .right) (c .before .if2 .left))) (inl (c .if3 .taken)))
+
+returns-3 : tie.Need-returns-3 Inv-loop μ-loop
+returns-3 c =
+    let p = c .before .before .before .before .read-pair .result in
+    pairs-hopeless (c .before .before .before .before .before .before .before .before .before .args .n)
+    (pairs-wrong (c .before .before .before .before .before .before .before .before .before .args .n) (c .before .before .before .before .before .before .before .loop .least) (c .before .before .before .before .before .before .before .loop .count) (p .position) (p .value) _ _ _ (c .before .before .before .before .before .before .before .loop .inv) (goes-mark (c .before .before .before .before .before .before .before .before .before .args .text .now) (c .before .before .before .before .before .before .before .loop .count) 64 (c .before .before .before .before .before .before .before .loop .i) 9 (c .before .before .before .before .before .before .goes-on .ensures) (c .before .before .before .before .before .if1 .taken))
+    (found-there (c .before .before .before .before .read-pair .ensures) (not-false (p .right) (c .before .before .if2 .left))) (inr (c .if4 .taken)))
+
+add-least : tie.Need-add-least Inv-loop μ-loop
+add-least c = omega (arith, c .if4 .left, c .before .before .before .before .before .before .before .before .before .pre)
+
+add-count : tie.Need-add-count Inv-loop μ-loop
+add-count c = omega (arith, goes-room (c .before .before .before .before .before .before .before .before .before .args .text .now) (c .before .before .before .before .before .before .before .loop .count) 64 (c .before .before .before .before .before .before .before .loop .i) 9 (c .before .before .before .before .before .before .goes-on .ensures) (c .before .before .before .before .before .if1 .taken))
+
+loop-less : tie.Need-loop-less Inv-loop μ-loop
+loop-less c = omega (arith, goes-room (c .before .before .before .before .before .before .before .before .before .args .text .now) (c .before .before .before .before .before .before .before .loop .count) 64 (c .before .before .before .before .before .before .before .loop .i) 9 (c .before .before .before .before .before .before .goes-on .ensures) (c .before .before .before .before .before .if1 .taken))
+
+loop-again : tie.Need-loop-again Inv-loop μ-loop
+loop-again c =
+    let p = c .before .before .before .before .read-pair .result in
+    pairs-again (c .before .before .before .before .before .before .before .before .before .args .n) (c .before .before .before .before .before .before .before .loop .least) (c .before .before .before .before .before .before .before .loop .count) (p .position) (p .value) _ _ _ (c .before .before .before .before .before .before .before .loop .inv)
+    (found-there (c .before .before .before .before .read-pair .ensures) (not-false (p .right) (c .before .before .if2 .left)))
+    (goes-room (c .before .before .before .before .before .before .before .before .before .args .text .now) (c .before .before .before .before .before .before .before .loop .count) 64 (c .before .before .before .before .before .before .before .loop .i) 9 (c .before .before .before .before .before .before .goes-on .ensures) (c .before .before .before .before .before .if1 .taken)) (c .before .if3 .left) (c .if4 .left)
+
+expect-requires : tie.Need-expect-requires Inv-loop μ-loop
+expect-requires c κs = search needs
+
+returns-4 : tie.Need-returns-4 Inv-loop μ-loop
+returns-4 c =
+    pairs-read (c .before .before .before .before .before .args .n) (c .before .before .before .loop .least) (c .before .before .before .loop .count) (c .before .before .before .loop .inv) (goes-end (c .before .before .before .before .before .args .text .now) (c .before .before .before .loop .count) 64 (c .before .before .before .loop .i) 9 (c .before .before .goes-on .ensures) (c .before .if1 .left)) (c .expect .ensures)
+
+pub read-pairs-spec : {M : Type 1} → statement M
+read-pairs-spec =
+    tie.close
+    (tie.spec
+    Inv-loop
+    μ-loop
+    loop-holds
+    goes-on-requires
+    read-pair-requires
+    returns
+    returns-2
+    returns-3
+    add-least
+    add-count
+    loop-less
+    loop-again
+    expect-requires
+    returns-4)

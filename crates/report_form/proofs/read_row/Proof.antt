@@ -1,0 +1,95 @@
+-- `report_form::read_row` meets its contract. The loop's invariant: the addresses so far, laid into the array.
+-- Assumes nothing.
+use Prim.Native.Nat.{_-_}
+use borrow.Author.Needs.{needs}
+use borrow.Author.Tests.{not-true, not-false}
+use native.Mathlib.Omega.{arith}
+use lib.ListN.{drop}
+use Rattle.report_form.specs.Form.{found-there, missing-there}
+use Rattle.report_form.proofs.Lists.{goes-mark, goes-room, goes-end}
+use Rattle.report_form.proofs.RowLists.{RowSoFar, row-start, row-again, row-none, row-read}
+use Rattle.report_form.proofs.read_row.Statement.{statement}
+use Rattle.report_form.proofs.read_row.Tie as tie
+
+abbrev Inv-loop : tie.InvT-loop
+Inv-loop text at from letter addresses₀ i₀ count₀ addresses i count = RowSoFar addresses₀ from count addresses (drop (letter .next) text) (drop i text)
+
+abbrev μ-loop : tie.MeasureT-loop
+μ-loop text at from letter addresses₀ i₀ count₀ addresses i count = 4 - count
+
+expect-requires : tie.Need-expect-requires Inv-loop μ-loop
+expect-requires c κs = search needs
+
+loop-holds : tie.Need-loop-holds Inv-loop μ-loop
+loop-holds c = row-start (c .before .before .args .into) (c .before .before .args .from) (drop (c .expect .result .next) (c .before .before .args .text .now))
+
+goes-on-requires : tie.Need-goes-on-requires Inv-loop μ-loop
+goes-on-requires c κs = search needs
+
+read-field-requires : tie.Need-read-field-requires Inv-loop μ-loop
+read-field-requires c κs = search needs
+
+returns : tie.Need-returns Inv-loop μ-loop
+returns c =
+    row-none (c .before .before .before .before .before .before .before .before .args .into) (c .before .before .before .before .before .before .before .before .args .from) (c .before .before .before .before .before .loop .count) (c .before .before .before .before .before .loop .addresses) (c .before .before .before .before .before .before .expect .ensures) (c .before .before .before .before .before .loop .inv)
+    (goes-mark (c .before .before .before .before .before .before .before .before .args .text .now) (c .before .before .before .before .before .loop .count) 4 (c .before .before .before .before .before .loop .i) 9 (c .before .before .before .before .goes-on .ensures) (c .before .before .before .if1 .taken))
+    (missing-there (c .before .before .read-field .ensures) (not-true (c .before .before .read-field .result .right) (c .if2 .taken)))
+
+add-place : tie.Need-add-place Inv-loop μ-loop
+add-place c = omega (arith, c .before .before .before .before .before .before .before .before .pre, goes-room (c .before .before .before .before .before .before .before .before .args .text .now) (c .before .before .before .before .before .loop .count) 4 (c .before .before .before .before .before .loop .i) 9 (c .before .before .before .before .goes-on .ensures) (c .before .before .before .if1 .taken))
+
+cast-place : tie.Need-cast-place Inv-loop μ-loop
+cast-place c = omega (arith, c .before .before .before .before .before .before .before .before .pre, goes-room (c .before .before .before .before .before .before .before .before .args .text .now) (c .before .before .before .before .before .loop .count) 4 (c .before .before .before .before .before .loop .i) 9 (c .before .before .before .before .goes-on .ensures) (c .before .before .before .if1 .taken))
+
+cast-addresses : tie.Need-cast-addresses Inv-loop μ-loop
+cast-addresses c =
+    let f = found-there (c .before .before .read-field .ensures) (not-false (c .before .before .read-field .result .right) (c .if2 .left)) in
+    omega (arith, f .within, f .says)
+
+mul-addresses : tie.Need-mul-addresses Inv-loop μ-loop
+mul-addresses c = omega (arith, c .before .before .before .before .before .before .before .before .pre, goes-room (c .before .before .before .before .before .before .before .before .args .text .now) (c .before .before .before .before .before .loop .count) 4 (c .before .before .before .before .before .loop .i) 9 (c .before .before .before .before .goes-on .ensures) (c .before .before .before .if1 .taken))
+
+array-write-addresses : tie.Need-array-write-addresses Inv-loop μ-loop
+array-write-addresses c = omega (arith, c .before .before .before .before .before .before .before .before .pre, goes-room (c .before .before .before .before .before .before .before .before .args .text .now) (c .before .before .before .before .before .loop .count) 4 (c .before .before .before .before .before .loop .i) 9 (c .before .before .before .before .goes-on .ensures) (c .before .before .before .if1 .taken))
+
+add-count : tie.Need-add-count Inv-loop μ-loop
+add-count c = omega (arith, goes-room (c .before .before .before .before .before .before .before .before .args .text .now) (c .before .before .before .before .before .loop .count) 4 (c .before .before .before .before .before .loop .i) 9 (c .before .before .before .before .goes-on .ensures) (c .before .before .before .if1 .taken))
+
+loop-less : tie.Need-loop-less Inv-loop μ-loop
+loop-less c = omega (arith, goes-room (c .before .before .before .before .before .before .before .before .args .text .now) (c .before .before .before .before .before .loop .count) 4 (c .before .before .before .before .before .loop .i) 9 (c .before .before .before .before .goes-on .ensures) (c .before .before .before .if1 .taken))
+
+loop-again : tie.Need-loop-again Inv-loop μ-loop
+loop-again c =
+    row-again (c .before .before .before .before .before .before .before .before .args .into) (c .before .before .before .before .before .before .before .before .args .from) (c .before .before .before .before .before .loop .count) (c .before .before .read-field .result .value) (c .before .before .before .before .before .loop .addresses) (c .before .before .before .before .before .loop .inv)
+    (found-there (c .before .before .read-field .ensures) (not-false (c .before .before .read-field .result .right) (c .if2 .left)))
+    (goes-room (c .before .before .before .before .before .before .before .before .args .text .now) (c .before .before .before .before .before .loop .count) 4 (c .before .before .before .before .before .loop .i) 9 (c .before .before .before .before .goes-on .ensures) (c .before .before .before .if1 .taken))
+
+expect-requires-2 : tie.Need-expect-requires-2 Inv-loop μ-loop
+expect-requires-2 c κs = search needs
+
+returns-2 : tie.Need-returns-2 Inv-loop μ-loop
+returns-2 c =
+    row-read (c .before .before .before .before .before .before .args .into) (c .before .before .before .before .before .before .args .from) (c .before .before .before .loop .count) (c .before .before .before .loop .addresses) (c .before .before .before .before .expect .ensures) (c .before .before .before .loop .inv)
+    (goes-end (c .before .before .before .before .before .before .args .text .now) (c .before .before .before .loop .count) 4 (c .before .before .before .loop .i) 9 (c .before .before .goes-on .ensures) (c .before .if1 .left)) (c .expect2 .ensures)
+
+pub read-row-spec : {M : Type 1} → statement M
+read-row-spec =
+    tie.close
+    (tie.spec
+    Inv-loop
+    μ-loop
+    expect-requires
+    loop-holds
+    goes-on-requires
+    read-field-requires
+    returns
+    add-place
+    cast-place
+    cast-addresses
+    mul-addresses
+    array-write-addresses
+    add-count
+    loop-less
+    loop-again
+    expect-requires-2
+    returns-2)

@@ -1,0 +1,70 @@
+-- `report_form::read_words` meets its contract. The loop's invariant: the words so far and their number.
+-- Assumes nothing.
+use Prim.Native.Nat.{_-_}
+use borrow.Author.Needs.{needs}
+use borrow.Author.Tests.{not-true, not-false}
+use native.Mathlib.Omega.{arith}
+use lib.ListN.{drop}
+use Rattle.report_form.specs.Form.{found-there, missing-there, reads-off}
+use Rattle.report_form.proofs.Lists.{goes-mark, goes-room, goes-end}
+use Rattle.report_form.proofs.Words.{WordsSoFar, words-start, words-again, words-none, words-read, at-end, not-end}
+use Rattle.report_form.proofs.read_words.Statement.{statement}
+use Rattle.report_form.proofs.read_words.Tie as tie
+
+abbrev Inv-loop : tie.InvT-loop
+Inv-loop text right at n i₀ count₀ i count = WordsSoFar n count (drop at text) (drop i text)
+
+abbrev μ-loop : tie.MeasureT-loop
+μ-loop text right at n i₀ count₀ i count = 16 - count
+
+loop-holds : tie.Need-loop-holds Inv-loop μ-loop
+loop-holds c = words-start (c .before .args .n) (drop (c .before .args .at) (c .before .args .text .now)) (c .before .pre)
+
+goes-on-requires : tie.Need-goes-on-requires Inv-loop μ-loop
+goes-on-requires c κs = search needs
+
+read-word-requires : tie.Need-read-word-requires Inv-loop μ-loop
+read-word-requires c κs = search needs
+
+returns : tie.Need-returns Inv-loop μ-loop
+returns c =
+    words-none (c .before .before .before .before .before .before .before .args .n) (c .before .before .before .before .before .loop .count) (c .before .before .before .before .before .loop .inv) (goes-mark (c .before .before .before .before .before .before .before .args .text .now) (c .before .before .before .before .before .loop .count) 16 (c .before .before .before .before .before .loop .i) 87 (c .before .before .before .before .goes-on .ensures) (c .before .before .before .if1 .taken))
+    (missing-there (c .before .before .read-word .ensures) (not-true (c .before .before .read-word .result .right) (c .if2 .taken)))
+
+add-count : tie.Need-add-count Inv-loop μ-loop
+add-count c = omega (arith, goes-room (c .before .before .before .before .before .before .before .args .text .now) (c .before .before .before .before .before .loop .count) 16 (c .before .before .before .before .before .loop .i) 87 (c .before .before .before .before .goes-on .ensures) (c .before .before .before .if1 .taken))
+
+loop-less : tie.Need-loop-less Inv-loop μ-loop
+loop-less c = omega (arith, goes-room (c .before .before .before .before .before .before .before .args .text .now) (c .before .before .before .before .before .loop .count) 16 (c .before .before .before .before .before .loop .i) 87 (c .before .before .before .before .goes-on .ensures) (c .before .before .before .if1 .taken))
+
+loop-again : tie.Need-loop-again Inv-loop μ-loop
+loop-again c =
+    words-again (c .before .before .before .before .before .before .before .args .n) (c .before .before .before .before .before .loop .count) (c .before .before .before .before .before .loop .inv) (found-there (c .before .before .read-word .ensures) (not-false (c .before .before .read-word .result .right) (c .if2 .left)))
+    (goes-room (c .before .before .before .before .before .before .before .args .text .now) (c .before .before .before .before .before .loop .count) 16 (c .before .before .before .before .before .loop .i) 87 (c .before .before .before .before .goes-on .ensures) (c .before .before .before .if1 .taken))
+
+returns-2 : tie.Need-returns-2 Inv-loop μ-loop
+returns-2 c =
+    reads-off
+    (words-read (c .before .before .before .before .before .args .n) (c .before .before .before .loop .count) (c .before .before .before .loop .inv) (goes-end (c .before .before .before .before .before .args .text .now) (c .before .before .before .loop .count) 16 (c .before .before .before .loop .i) 87 (c .before .before .goes-on .ensures) (c .before .if1 .left))
+    (not-end {u = c .before .before .before .before .before .args .text .now} (c .before .before .before .before .before .args .text .now) (c .before .before .before .loop .i) (c .if3 .taken)))
+
+returns-3 : tie.Need-returns-3 Inv-loop μ-loop
+returns-3 c =
+    words-read (c .before .before .before .before .before .args .n) (c .before .before .before .loop .count) (c .before .before .before .loop .inv) (goes-end (c .before .before .before .before .before .args .text .now) (c .before .before .before .loop .count) 16 (c .before .before .before .loop .i) 87 (c .before .before .goes-on .ensures) (c .before .if1 .left))
+    (at-end (c .before .before .before .before .before .args .text .now) (c .before .before .before .loop .i) (c .if3 .left))
+
+pub read-words-spec : {M : Type 1} → statement M
+read-words-spec =
+    tie.close
+    (tie.spec
+    Inv-loop
+    μ-loop
+    loop-holds
+    goes-on-requires
+    read-word-requires
+    returns
+    add-count
+    loop-less
+    loop-again
+    returns-2
+    returns-3)

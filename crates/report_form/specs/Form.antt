@@ -1,0 +1,485 @@
+-- A form: how values are written, which of them are within the limits, what may follow, and that a text begins with at most one of them.
+-- Reading one at a place of a text, several one after another, and a list of them.
+use mathlib.Core.Path.{_≡_, refl, sym, ap, ap₂, _∙_, subst}
+use mathlib.Core.Bool.{Bool, true, false}
+use mathlib.Core.Logic.{_⊎_, inl, inr, ⊎-elim}
+use mathlib.Core.List.{List, [], _∷_, _++_, append-assoc, append-nil}
+use Prim.Native.Nat.{ℕ, zero, suc, _+_, _≤_, _<_}
+use native.Mathlib.Omega.{arith}
+use lib.Dec.{T}
+use lib.ListN.{length, getD, length-append}
+use Rattle.report_form.specs.Description.{All, each}
+
+pub record Form (A : Type 0) : Type 1 where
+  pub write : A → List ℕ
+  pub Within : A → Type 0
+  pub Follow : List ℕ → Type 0
+  pub unique : (a b : A) (r s : List ℕ) → Within a → Within b → Follow r → Follow s → write a ++ r ≡ write b ++ s → (a ≡ b) × (r ≡ s)
+
+-- a text that begins with one, and goes on with rest
+pub record Found {A : Type 0} (F : Form A) (Says : A → Type 0) (t rest : List ℕ) : Type 0 where
+  pub it : A
+  pub says : Says it
+  pub within : F .Within it
+  pub here : t ≡ F .write it ++ rest
+  pub after : F .Follow rest
+
+-- a text that begins with none
+pub record Missing {A : Type 0} (F : Form A) (t : List ℕ) : Type 0 where
+  pub none : (a : A) (rest : List ℕ) → F .Within a → F .Follow rest → t ≡ F .write a ++ rest → ⊥
+
+-- what a reader answers at t. Where the text was wrong before, it stays wrong; otherwise it is right exactly if t begins with one of the form
+abbrev pub Answer : {A : Type 0} → Form A → (A → Type 0) → Bool → Bool → List ℕ → List ℕ → Type 0
+Answer F Says false right t rest = right ≡ false
+Answer F Says true true t rest = Found F Says t rest
+Answer F Says true false t rest = Missing F t
+
+pub record Reads {A : Type 0} (F : Form A) (Says : A → Type 0) (l l′ : Bool) (t rest : List ℕ) : Type 0 where
+  pub answer : Answer F Says l l′ t rest
+
+pub right-wrong : true ≡ false → ⊥
+right-wrong e = subst T e tt
+
+before : {A : Type 0} (F : Form A) (S : A → Type 0) (l l′ : Bool) (t u : List ℕ) → Answer F S l l′ t u → l′ ≡ true → l ≡ true
+before F S false l′ t u h e = absurd (right-wrong (sym e ∙ h))
+before F S true l′ t u h e = refl
+
+not-there : {A : Type 0} (F : Form A) (S : A → Type 0) (l′ : Bool) (t u : List ℕ) → Answer F S true l′ t u → l′ ≡ false → Missing F t
+not-there F S true t u h e = absurd (right-wrong e)
+not-there F S false t u h e = h
+
+none-here : {A : Type 0} (F : Form A) (S : A → Type 0) (l : Bool) (t u : List ℕ) → Missing F t → Answer F S l false t u
+none-here F S false t u m = refl
+none-here F S true t u m = m
+
+module _ {A : Type 0} {F : Form A} {S : A → Type 0} where
+  pub reads-right : {l l′ : Bool} {t u : List ℕ} → l ≡ true → Answer F S true l′ t u → Reads F S l l′ t u
+  reads-right {l} {l′} {t} {u} e h = record { answer = subst (λ (b : Bool). Answer F S b l′ t u) (sym e) h }
+
+  pub reads-wrong : {l : Bool} {t u : List ℕ} → l ≡ false → Reads F S l false t u
+  reads-wrong {l} {t} {u} e = record { answer = subst (λ (b : Bool). Answer F S b false t u) (sym e) refl }
+
+  pub reads-none : {l : Bool} {t u : List ℕ} → Missing F t → Reads F S l false t u
+  reads-none {l} {t} {u} m = record { answer = none-here F S l t u m }
+
+  one-here : (l : Bool) (t u : List ℕ) → Found F S t u → Answer F S l l t u
+  one-here false t u f = refl
+  one-here true t u f = f
+
+  pub reads-one : {l : Bool} {t u : List ℕ} → Found F S t u → Reads F S l l t u
+  reads-one {l} {t} {u} f = record { answer = one-here l t u f }
+
+  there : (l l′ : Bool) (t u : List ℕ) → Answer F S l l′ t u → l′ ≡ true → Found F S t u
+  there false l′ t u h e = absurd (right-wrong (sym e ∙ h))
+  there true true t u h e = h
+  there true false t u h e = absurd (right-wrong (sym e))
+
+  pub found-there : {l l′ : Bool} {t u : List ℕ} → Reads F S l l′ t u → l′ ≡ true → Found F S t u
+  found-there {l} {l′} {t} {u} h e = there l l′ t u (h .answer) e
+
+  -- where the text is right now, it was right before
+  pub right-before : {l l′ : Bool} {t u : List ℕ} → Reads F S l l′ t u → l′ ≡ true → l ≡ true
+  right-before {l} {l′} {t} {u} h e = before F S l l′ t u (h .answer) e
+
+  pub missing-there : {l′ : Bool} {t u : List ℕ} → Reads F S true l′ t u → l′ ≡ false → Missing F t
+  missing-there {l′} {t} {u} h e = not-there F S l′ t u (h .answer) e
+
+-- what one reader found, or did not find, says what another does
+module _ {A B : Type 0} (F : Form A) (S : A → Type 0) (G : Form B) (S′ : B → Type 0) where
+  by-found : (l l′ : Bool) (t u v w : List ℕ) → Answer F S l l′ t u → l′ ≡ true → (Found F S t u → Found G S′ v w) → Answer G S′ l true v w
+  by-found false l′ t u v w h e f = absurd (right-wrong (sym e ∙ h))
+  by-found true true t u v w h e f = f h
+  by-found true false t u v w h e f = absurd (right-wrong (sym e))
+
+  by-missing : (l l′ : Bool) (t u v w : List ℕ) → Answer F S l l′ t u → l′ ≡ false → (Missing F t → Missing G v) → Answer G S′ l false v w
+  by-missing false l′ t u v w h e f = refl
+  by-missing true true t u v w h e f = absurd (right-wrong e)
+  by-missing true false t u v w h e f = f h
+
+  by-spoiled : (l l′ : Bool) (t u v w : List ℕ) → Answer F S l l′ t u → l′ ≡ true → (Found F S t u → Missing G v) → Answer G S′ l false v w
+  by-spoiled false l′ t u v w h e f = refl
+  by-spoiled true true t u v w h e f = f h
+  by-spoiled true false t u v w h e f = absurd (right-wrong (sym e))
+
+  by-both : (l l′ : Bool) (t u v w : List ℕ) → Answer F S l l′ t u → (Found F S t u → Found G S′ v w) → (Missing F t → Missing G v) → Answer G S′ l l′ v w
+  by-both false l′ t u v w h f m = h
+  by-both true true t u v w h f m = f h
+  by-both true false t u v w h f m = m h
+
+module _ {A B : Type 0} {F : Form A} {S : A → Type 0} {G : Form B} {S′ : B → Type 0} {l l′ : Bool} {t u v w : List ℕ} (h : Reads F S l l′ t u) where
+  pub reads-found : l′ ≡ true → (Found F S t u → Found G S′ v w) → Reads G S′ l true v w
+  reads-found e f = record { answer = by-found F S G S′ l l′ t u v w (h .answer) e f }
+
+  pub reads-missing : l′ ≡ false → (Missing F t → Missing G v) → Reads G S′ l false v w
+  reads-missing e f = record { answer = by-missing F S G S′ l l′ t u v w (h .answer) e f }
+
+  -- what was found, where another form has none
+  pub reads-spoiled : l′ ≡ true → (Found F S t u → Missing G v) → Reads G S′ l false v w
+  reads-spoiled e f = record { answer = by-spoiled F S G S′ l l′ t u v w (h .answer) e f }
+
+  pub reads-both : (Found F S t u → Found G S′ v w) → (Missing F t → Missing G v) → Reads G S′ l l′ v w
+  reads-both f m = record { answer = by-both F S G S′ l l′ t u v w (h .answer) f m }
+
+pub reads-as : {A : Type 0} {F : Form A} {a b : A} {l l′ : Bool} {t u : List ℕ} → Reads F (λ x. x ≡ a) l l′ t u → a ≡ b → Reads F (λ x. x ≡ b) l l′ t u
+reads-as h e = reads-both h (λ f. record { it = f .it; says = f .says ∙ e; within = f .within; here = f .here; after = f .after }) (λ m. m)
+
+-- where none was found, nothing is said
+pub reads-off : {A : Type 0} {F : Form A} {S S′ : A → Type 0} {l : Bool} {t u v : List ℕ} → Reads F S l false t u → Reads F S′ l false t v
+reads-off h = reads-missing h refl (λ m. m)
+
+-- what was found, with nothing said of it
+pub reads-any : {A : Type 0} {F : Form A} {S : A → Type 0} {l l′ : Bool} {t u : List ℕ} → Reads F S l l′ t u → Reads F (λ _. Unit) l l′ t u
+reads-any h = reads-both h (λ f. record { it = f .it; says = tt; within = f .within; here = f .here; after = f .after }) (λ m. m)
+
+-- where a text begins with one, a reader finds that one
+find : {A : Type 0} (F : Form A) (S : A → Type 0) (l : Bool) (t u : List ℕ) (a : A) (r : List ℕ) → Answer F S true l t u → F .Within a → F .Follow r → t ≡ F .write a ++ r → S a × (u ≡ r)
+find F S true t u a r h w f e =
+    let (p, q) = F .unique (h .it) a u r (h .within) w (h .after) f (sym (h .here) ∙ e) in
+    (subst S p (h .says), q)
+find F S false t u a r h w f e = absurd (h .none a r w f e)
+
+pub must-find : {A : Type 0} {F : Form A} {S : A → Type 0} {l : Bool} {t u : List ℕ} → Reads F S true l t u → (a : A) (r : List ℕ) → F .Within a → F .Follow r → t ≡ F .write a ++ r → S a × (u ≡ r)
+must-find {F = F} {S} {l} {t} {u} h a r w f e = find F S l t u a r (h .answer) w f e
+
+-- one byte
+pub one-byte : (b : ℕ) (r s : List ℕ) → b ∷ r ≡ b ∷ s → r ≡ s
+one-byte b r s e = cc
+
+abbrev pub byte : ℕ → Form Unit
+byte b =
+    record {
+      write = λ _. b ∷ [];
+      Within = λ _. Unit;
+      Follow = λ _. Unit;
+      unique = λ a a′ r s _ _ _ _ e. (refl, one-byte b r s e);
+    }
+
+-- the text's end
+abbrev pub end : Form Unit
+end =
+    record {
+      write = λ _. [];
+      Within = λ _. Unit;
+      Follow = λ r. r ≡ [];
+      unique = λ a a′ r s _ _ _ _ e. (refl, e);
+    }
+
+module _ {A B : Type 0} (F : Form A) (G : Form B) (joins : (b : B) (r : List ℕ) → G .Within b → G .Follow r → F .Follow (G .write b ++ r)) where
+  -- one and then the other
+  pub seq-unique : (a b : A × B) (r s : List ℕ) → F .Within (a .0) × G .Within (a .1) → F .Within (b .0) × G .Within (b .1) → G .Follow r → G .Follow s → (F .write (a .0) ++ G .write (a .1)) ++ r ≡ (F .write (b .0) ++ G .write (b .1)) ++ s → (a ≡ b) × (r ≡ s)
+  seq-unique a b r s ha hb hr hs e =
+      let e′ : F .write (a .0) ++ (G .write (a .1) ++ r) ≡ F .write (b .0) ++ (G .write (b .1) ++ s) =
+      sym (append-assoc (F .write (a .0)) (G .write (a .1)) r) ∙ e ∙ append-assoc (F .write (b .0)) (G .write (b .1)) s in
+      let (p, q) = F .unique (a .0) (b .0) _ _ (ha .0) (hb .0) (joins (a .1) r (ha .1) hr) (joins (b .1) s (hb .1) hs) e′ in
+      let (p′, q′) = G .unique (a .1) (b .1) r s (ha .1) (hb .1) hr hs q in
+      (ap₂ (λ (x : A) (y : B). (x, y)) p p′, q′)
+
+  abbrev pub seq : Form (A × B)
+  seq =
+      record {
+        write = λ x. F .write (x .0) ++ G .write (x .1);
+        Within = λ x. F .Within (x .0) × G .Within (x .1);
+        Follow = G .Follow;
+        unique = seq-unique;
+      }
+
+  seq-answer : (S : A → Type 0) (S′ : B → Type 0) (l l′ l″ : Bool) (t u v : List ℕ) → Answer F S l l′ t u → Answer G S′ l′ l″ u v → Answer seq (λ x. S (x .0) × S′ (x .1)) l l″ t v
+  seq-answer S S′ false false l″ t u v h g = g
+  seq-answer S S′ false true l″ t u v h g = absurd (right-wrong h)
+  seq-answer S S′ true true true t u v h g =
+      record {
+        it = (h .it, g .it);
+        says = (h .says, g .says);
+        within = (h .within, g .within);
+        here = h .here ∙ ap (λ (x : List ℕ). F .write (h .it) ++ x) (g .here) ∙ sym (append-assoc (F .write (h .it)) (G .write (g .it)) v);
+        after = g .after;
+      }
+  seq-answer S S′ true true false t u v h g =
+      record {
+        none = λ x r w f e.
+            let e′ : F .write (h .it) ++ u ≡ F .write (x .0) ++ (G .write (x .1) ++ r) = sym (h .here) ∙ e ∙ append-assoc (F .write (x .0)) (G .write (x .1)) r in
+            let q = F .unique (h .it) (x .0) u _ (h .within) (w .0) (h .after) (joins (x .1) r (w .1) f) e′ in
+            g .none (x .1) r (w .1) f (q .1);
+      }
+  seq-answer S S′ true false true t u v h g = absurd (right-wrong g)
+  seq-answer S S′ true false false t u v h g =
+      record {
+        none = λ x r w f e. h .none (x .0) (G .write (x .1) ++ r) (w .0) (joins (x .1) r (w .1) f) (e ∙ append-assoc (F .write (x .0)) (G .write (x .1)) r);
+      }
+
+  pub seq-reads : {S : A → Type 0} {S′ : B → Type 0} {l l′ l″ : Bool} {t u v : List ℕ} → Reads F S l l′ t u → Reads G S′ l′ l″ u v → Reads seq (λ x. S (x .0) × S′ (x .1)) l l″ t v
+  seq-reads {S} {S′} {l} {l′} {l″} {t} {u} {v} h g = record { answer = seq-answer S S′ l l′ l″ t u v (h .answer) (g .answer) }
+
+module _ {A B : Type 0} (F : Form A) (to : B → A) (from : A → B) (from-to : (b : B) → from (to b) ≡ b) (to-from : (a : A) → to (from a) ≡ a) (W : B → Type 0) (to-within : (b : B) → W b → F .Within (to b)) (from-within : (a : A) → F .Within a → W (from a)) where
+  -- the same texts, of other values and with the limits said otherwise
+  pub via-unique : (a b : B) (r s : List ℕ) → W a → W b → F .Follow r → F .Follow s → F .write (to a) ++ r ≡ F .write (to b) ++ s → (a ≡ b) × (r ≡ s)
+  via-unique a b r s ha hb hr hs e =
+      let (p, q) = F .unique (to a) (to b) r s (to-within a ha) (to-within b hb) hr hs e in
+      (sym (from-to a) ∙ ap from p ∙ from-to b, q)
+
+  abbrev pub via : Form B
+  via = record { write = λ b. F .write (to b); Within = W; Follow = F .Follow; unique = via-unique }
+
+  pub via-reads : {S : A → Type 0} {S′ : B → Type 0} {l l′ : Bool} {t u : List ℕ} → ((a : A) → S a → S′ (from a)) → Reads F S l l′ t u → Reads via S′ l l′ t u
+  via-reads {S} {S′} {l} {l′} {t} {u} s h =
+      reads-both h
+      (λ f. record { it = from (f .it); says = s (f .it) (f .says); within = from-within (f .it) (f .within); here = f .here ∙ ap (λ (x : A). F .write x ++ u) (sym (to-from (f .it))); after = f .after })
+      (λ m. record { none = λ b r w f e. m .none (to b) r (to-within b w) f e })
+
+-- a byte before one
+module _ {A : Type 0} (b : ℕ) (F : Form A) where
+  pub lead-unique : (a a′ : A) (r s : List ℕ) → F .Within a → F .Within a′ → F .Follow r → F .Follow s → b ∷ (F .write a ++ r) ≡ b ∷ (F .write a′ ++ s) → (a ≡ a′) × (r ≡ s)
+  lead-unique a a′ r s ha hb hr hs e = F .unique a a′ r s ha hb hr hs (one-byte b (F .write a ++ r) (F .write a′ ++ s) e)
+
+  abbrev pub lead : Form A
+  lead = record { write = λ a. b ∷ F .write a; Within = F .Within; Follow = F .Follow; unique = lead-unique }
+
+  pub lead-reads : {S : A → Type 0} {l l′ l″ : Bool} {t u v : List ℕ} → Reads (byte b) (λ _. Unit) l l′ t u → Reads F S l′ l″ u v → Reads lead S l l″ t v
+  lead-reads h g =
+      reads-both (seq-reads (byte b) F (λ _ _ _ _. tt) h g)
+      (λ f. record { it = f .it .1; says = f .says .1; within = f .within .1; here = f .here; after = f .after })
+      (λ m. record { none = λ a r w f e. m .none (tt, a) r (tt, w) f e })
+
+-- items that begin with a byte of their own, and may follow one another
+pub record Items (A : Type 0) : Type 1 where
+  pub form : Form A
+  pub mark : ℕ
+  pub body : A → List ℕ
+  pub begins : (a : A) → form .write a ≡ mark ∷ body a
+  pub goes : (u : List ℕ) → form .Follow (mark ∷ u)
+
+module _ {A : Type 0} (I : Items A) (Fine : List A → Type 0) (fine : (xs : List A) → Fine xs → All (I .form .Within) xs) where
+  -- a text that goes on with no item
+  pub record Apart (u : List ℕ) : Type 0 where
+    pub other : getD u 0 0 ≡ I .mark → ⊥
+    pub follow : I .form .Follow u
+
+  -- what may follow the items read so far
+  abbrev pub Behind : List A → List ℕ → Type 0
+  Behind [] u = Unit
+  Behind (a ∷ xs) u = I .form .Follow u
+
+  follow-each : (xs : List A) (u : List ℕ) → I .form .Follow u → I .form .Follow (each (I .form .write) xs ++ u)
+  follow-each [] u f = f
+  follow-each (a ∷ xs) u f =
+      subst (I .form .Follow) (sym (ap (λ (x : List ℕ). (x ++ each (I .form .write) xs) ++ u) (I .begins a))) (I .goes _)
+
+  item-here : (a : A) (xs : List A) (u : List ℕ) → getD (each (I .form .write) (a ∷ xs) ++ u) 0 0 ≡ I .mark
+  item-here a xs u = ap (λ (x : List ℕ). getD ((x ++ each (I .form .write) xs) ++ u) 0 0) (I .begins a)
+
+  -- items read so far are the first of all
+  pub items-prefix : (done xs : List A) (now u : List ℕ) → All (I .form .Within) done → All (I .form .Within) xs → Behind done now → Apart u → each (I .form .write) done ++ now ≡ each (I .form .write) xs ++ u → (more : List A) × (xs ≡ done ++ more) × (now ≡ each (I .form .write) more ++ u)
+  items-prefix [] xs now u hd ha b p e = (xs, refl, e)
+  items-prefix (d ∷ done) [] now u hd ha b p e = absurd (p .other (ap (λ (x : List ℕ). getD x 0 0) (sym e) ∙ item-here d done now))
+  items-prefix (d ∷ done) (a ∷ xs) now u hd ha b p e =
+      let F = I .form in
+      let e′ : F .write d ++ (each (F .write) done ++ now) ≡ F .write a ++ (each (F .write) xs ++ u) =
+      sym (append-assoc (F .write d) (each (F .write) done) now) ∙ e ∙ append-assoc (F .write a) (each (F .write) xs) u in
+      let (p₁, q₁) = F .unique d a _ _ (hd .0) (ha .0) (follow-each done now b) (follow-each xs u (p .follow)) e′ in
+      let (more, x, y) = items-prefix done xs now u (hd .1) (ha .1) (behind done b) p q₁ in
+      (more, ap₂ (λ (a′ : A) (l : List A). a′ ∷ l) (sym p₁) x, y)
+    where
+      behind : (done : List A) → I .form .Follow now → Behind done now
+      behind [] f = tt
+      behind (x ∷ ys) f = f
+
+  -- the items read so far, and what is left of the text
+  pub record Ongoing (Says : List A → Type 0) (t now : List ℕ) : Type 0 where
+    pub done : List A
+    pub says : Says done
+    pub ok : Fine done
+    pub here : t ≡ each (I .form .write) done ++ now
+    pub behind : Behind done now
+
+  -- a text that begins with no such list
+  pub record Hopeless (t : List ℕ) : Type 0 where
+    pub none : (xs : List A) (u : List ℕ) → Fine xs → Apart u → t ≡ each (I .form .write) xs ++ u → ⊥
+
+  abbrev pub Going : (List A → Type 0) → Bool → List ℕ → List ℕ → Type 0
+  Going Says true t now = Ongoing Says t now
+  Going Says false t now = Hopeless t
+
+  pub going-start : (Says : List A → Type 0) (t : List ℕ) → Fine [] → Says [] → Going Says true t t
+  going-start Says t f s = record { done = []; says = s; ok = f; here = refl; behind = tt }
+
+  behind-snoc : (xs : List A) (x : A) (u : List ℕ) → I .form .Follow u → Behind (xs ++ x ∷ []) u
+  behind-snoc [] x u f = f
+  behind-snoc (y ∷ ys) x u f = f
+
+  each-snoc : (xs : List A) (x : A) (u : List ℕ) → each (I .form .write) xs ++ (I .form .write x ++ u) ≡ each (I .form .write) (xs ++ x ∷ []) ++ u
+  each-snoc [] x u = ap (λ (l : List ℕ). l ++ u) (sym (append-nil (I .form .write x)))
+  each-snoc (y ∷ ys) x u =
+      append-assoc (I .form .write y) (each (I .form .write) ys) (I .form .write x ++ u)
+      ∙ ap (λ (l : List ℕ). I .form .write y ++ l) (each-snoc ys x u)
+      ∙ sym (append-assoc (I .form .write y) (each (I .form .write) (ys ++ x ∷ [])) u)
+
+  -- one item more
+  pub going-more : (Says Says′ : List A → Type 0) (S : A → Type 0) (t now next : List ℕ) (o : Ongoing Says t now) (f : Found (I .form) S now next) → Fine (o .done ++ f .it ∷ []) → Says′ (o .done ++ f .it ∷ []) → Ongoing Says′ t next
+  going-more Says Says′ S t now next o f ok s =
+      record {
+        done = o .done ++ f .it ∷ [];
+        says = s;
+        ok = ok;
+        here = o .here ∙ ap (λ (l : List ℕ). each (I .form .write) (o .done) ++ l) (f .here) ∙ each-snoc (o .done) (f .it) next;
+        behind = behind-snoc (o .done) (f .it) next (f .after);
+      }
+
+  all-behind : (xs ys : List A) → All (I .form .Within) (xs ++ ys) → All (I .form .Within) ys
+  all-behind [] ys h = h
+  all-behind (x ∷ xs) ys h = all-behind xs ys (h .1)
+
+  -- what a whole list has behind the items read so far
+  record Rest (done : List A) (now u : List ℕ) : Type 0 where
+    more : List A
+    ok : Fine (done ++ more)
+    within : All (I .form .Within) more
+    here : now ≡ each (I .form .write) more ++ u
+
+  rest-of : {Says : List A → Type 0} {t now : List ℕ} (o : Ongoing Says t now) (xs : List A) (u : List ℕ) → Fine xs → Apart u → t ≡ each (I .form .write) xs ++ u → Rest (o .done) now u
+  rest-of {now = now} o xs u ok p e =
+      let w = fine xs ok in
+      let (more, x, y) = items-prefix (o .done) xs now u (fine (o .done) (o .ok)) w (o .behind) p (sym (o .here) ∙ e) in
+      record { more = more; ok = subst Fine x ok; within = all-behind (o .done) more (subst (All (I .form .Within)) x w); here = y }
+
+  -- the next item of a list whose mark is there
+  next-item : (done : List A) (now u : List ℕ) → Rest done now u → Apart u → getD now 0 0 ≡ I .mark → (x : A) × (xs : List A) × Fine (done ++ x ∷ xs) × I .form .Within x × (now ≡ I .form .write x ++ (each (I .form .write) xs ++ u)) × I .form .Follow (each (I .form .write) xs ++ u)
+  next-item done now u r p h = go (r .more) (r .ok) (r .within) (r .here)
+    where
+      go : (more : List A) → Fine (done ++ more) → All (I .form .Within) more → now ≡ each (I .form .write) more ++ u → (x : A) × (xs : List A) × Fine (done ++ x ∷ xs) × I .form .Within x × (now ≡ I .form .write x ++ (each (I .form .write) xs ++ u)) × I .form .Follow (each (I .form .write) xs ++ u)
+      go [] ok w y = absurd (p .other (ap (λ (l : List ℕ). getD l 0 0) (sym y) ∙ h))
+      go (x ∷ xs) ok w y =
+          (x, xs, ok, w .0, y ∙ append-assoc (I .form .write x) (each (I .form .write) xs) u, follow-each xs u (p .follow))
+
+  -- no item, though its mark is there
+  pub going-missing : (Says : List A → Type 0) (t now : List ℕ) → Ongoing Says t now → getD now 0 0 ≡ I .mark → Missing (I .form) now → Hopeless t
+  going-missing Says t now o h m =
+      record {
+        none = λ xs u ok p e.
+            let (a, more, f, w, y, v) = next-item (o .done) now u (rest-of o xs u ok p e) p h in
+            m .none a (each (I .form .write) more ++ u) w v y;
+      }
+
+  -- an item with which no list goes on
+  pub going-wrong : (Says : List A → Type 0) (S : A → Type 0) (t now next : List ℕ) (o : Ongoing Says t now) → getD now 0 0 ≡ I .mark → (f : Found (I .form) S now next) → ((more : List A) → Fine (o .done ++ f .it ∷ more) → ⊥) → Hopeless t
+  going-wrong Says S t now next o h i bad =
+      record {
+        none = λ xs u ok p e.
+            let (a, more, f, w, y, v) = next-item (o .done) now u (rest-of o xs u ok p e) p h in
+            let q = I .form .unique a (i .it) _ next w (i .within) v (i .after) (sym y ∙ i .here) in
+            bad more (subst (λ (x : A). Fine (o .done ++ x ∷ more)) (q .0) f);
+      }
+
+  -- the list's end: the text goes on with no item, or the list is full
+  abbrev pub Ends : (List A → Type 0) → List ℕ → Type 0
+  Ends Says now = (xs : List A) → Says xs → (getD now 0 0 ≡ I .mark → ⊥) ⊎ ((x : A) (more : List A) → Fine (xs ++ x ∷ more) → ⊥)
+
+  -- what a reader of a list answers at t: the list ends at now, or there is none
+  abbrev pub Lists : (List A → Type 0) → Bool → Bool → List ℕ → List ℕ → Type 0
+  Lists Says false right t now = right ≡ false
+  Lists Says true true t now = Ongoing Says t now × Ends Says now
+  Lists Says true false t now = Hopeless t
+
+  pub record Listed (Says : List A → Type 0) (l l′ : Bool) (t now : List ℕ) : Type 0 where
+    pub answer : Lists Says l l′ t now
+
+  any-list : (Says : List A → Type 0) (l : Bool) (t now : List ℕ) → Ongoing Says t now → Ends Says now → Lists Says l l t now
+  any-list Says false t now o e = refl
+  any-list Says true t now o e = (o, e)
+
+  pub listed : {Says : List A → Type 0} {l : Bool} {t now : List ℕ} → Ongoing Says t now → Ends Says now → Listed Says l l t now
+  listed {Says} {l} {t} {now} o e = record { answer = any-list Says l t now o e }
+
+  no-list : (Says : List A → Type 0) (l : Bool) (t now : List ℕ) → Hopeless t → Lists Says l false t now
+  no-list Says false t now h = refl
+  no-list Says true t now h = h
+
+  pub not-listed : {Says : List A → Type 0} {l : Bool} {t now : List ℕ} → Hopeless t → Listed Says l false t now
+  not-listed {Says} {l} {t} {now} h = record { answer = no-list Says l t now h }
+
+  list-there : (Says : List A → Type 0) (l l′ : Bool) (t now : List ℕ) → Lists Says l l′ t now → l′ ≡ true → Ongoing Says t now
+  list-there Says false l′ t now h e = absurd (right-wrong (sym e ∙ h))
+  list-there Says true true t now h e = h .0
+  list-there Says true false t now h e = absurd (right-wrong (sym e))
+
+  pub listed-there : {Says : List A → Type 0} {l l′ : Bool} {t now : List ℕ} → Listed Says l l′ t now → l′ ≡ true → Ongoing Says t now
+  listed-there {Says} {l} {l′} {t} {now} h e = list-there Says l l′ t now (h .answer) e
+
+  -- a list, and then another form
+  module _ {B : Type 0} (G : Form B) (apart : (b : B) (r : List ℕ) → G .Within b → G .Follow r → Apart (G .write b ++ r)) where
+    behind-all : (xs : List A) (u : List ℕ) → I .form .Follow u → Behind xs u
+    behind-all [] u f = tt
+    behind-all (x ∷ xs) u f = f
+
+    abbrev chained : List A × B → List ℕ
+    chained x = each (I .form .write) (x .0) ++ G .write (x .1)
+
+    pub chain-unique : (a b : List A × B) (r s : List ℕ) → Fine (a .0) × G .Within (a .1) → Fine (b .0) × G .Within (b .1) → G .Follow r → G .Follow s → chained a ++ r ≡ chained b ++ s → (a ≡ b) × (r ≡ s)
+    chain-unique a b r s ha hb hr hs e =
+        let w = each (I .form .write) in
+        let e′ : w (a .0) ++ (G .write (a .1) ++ r) ≡ w (b .0) ++ (G .write (b .1) ++ s) =
+        sym (append-assoc (w (a .0)) (G .write (a .1)) r) ∙ e ∙ append-assoc (w (b .0)) (G .write (b .1)) s in
+        let p = apart (a .1) r (ha .1) hr in
+        let (more, x, y) = items-prefix (a .0) (b .0) (G .write (a .1) ++ r) (G .write (b .1) ++ s) (fine (a .0) (ha .0)) (fine (b .0) (hb .0)) (behind-all (a .0) (G .write (a .1) ++ r) (p .follow)) (apart (b .1) s (hb .1) hs) e′ in
+        go p more x y
+      where
+        go : Apart (G .write (a .1) ++ r) → (more : List A) → b .0 ≡ a .0 ++ more → G .write (a .1) ++ r ≡ each (I .form .write) more ++ (G .write (b .1) ++ s) → (a ≡ b) × (r ≡ s)
+        go p [] x y =
+            let (q, q′) = G .unique (a .1) (b .1) r s (ha .1) (hb .1) hr hs y in
+            (ap₂ (λ (l : List A) (c : B). (l, c)) (sym (x ∙ append-nil (a .0))) q, q′)
+        go p (z ∷ more) x y = absurd (p .other (ap (λ (l : List ℕ). getD l 0 0) y ∙ item-here z more (G .write (b .1) ++ s)))
+
+    abbrev pub chain : Form (List A × B)
+    chain =
+        record {
+          write = chained;
+          Within = λ x. Fine (x .0) × G .Within (x .1);
+          Follow = G .Follow;
+          unique = chain-unique;
+        }
+
+    chain-answer : (Says : List A → Type 0) (S : B → Type 0) (l l′ : Bool) (t now next : List ℕ) → Going Says l t now → (l ≡ true → Ends Says now) → Answer G S l l′ now next → Answer chain (λ x. Says (x .0) × S (x .1)) true l′ t next
+    chain-answer Says S false true t now next g ends h = absurd (right-wrong h)
+    chain-answer Says S false false t now next g ends h =
+        record {
+          none = λ x r w f e. g .none (x .0) (G .write (x .1) ++ r) (w .0) (apart (x .1) r (w .1) f) (e ∙ append-assoc (each (I .form .write) (x .0)) (G .write (x .1)) r);
+        }
+    chain-answer Says S true true t now next g ends h =
+        record {
+          it = (g .done, h .it);
+          says = (g .says, h .says);
+          within = (g .ok, h .within);
+          here = g .here ∙ ap (λ (l : List ℕ). each (I .form .write) (g .done) ++ l) (h .here) ∙ sym (append-assoc (each (I .form .write) (g .done)) (G .write (h .it)) next);
+          after = h .after;
+        }
+    chain-answer Says S true false t now next g ends h =
+        record {
+          none = λ x r w f e.
+              let p = apart (x .1) r (w .1) f in
+              let o = rest-of g (x .0) (G .write (x .1) ++ r) (w .0) p (e ∙ append-assoc (each (I .form .write) (x .0)) (G .write (x .1)) r) in
+              go (x .1) r (w .1) f (o .more) (o .ok) (o .here) (ends refl (g .done) (g .says));
+        }
+      where
+        go : (b : B) (r : List ℕ) → G .Within b → G .Follow r → (more : List A) → Fine (g .done ++ more) → now ≡ each (I .form .write) more ++ (G .write b ++ r) → (getD now 0 0 ≡ I .mark → ⊥) ⊎ ((x : A) (more : List A) → Fine (g .done ++ x ∷ more) → ⊥) → ⊥
+        go b r w f [] ok y z = h .none b r w f y
+        go b r w f (a ∷ more) ok y (inl z) = z (ap (λ (l : List ℕ). getD l 0 0) y ∙ item-here a more (G .write b ++ r))
+        go b r w f (a ∷ more) ok y (inr z) = z a more ok
+
+    chain-any : (Says : List A → Type 0) (S : B → Type 0) (l l′ : Bool) (t now next : List ℕ) → Ongoing Says t now → Ends Says now → Answer G S l l′ now next → Answer chain (λ x. Says (x .0) × S (x .1)) l l′ t next
+    chain-any Says S false l′ t now next o e h = h
+    chain-any Says S true l′ t now next o e h = chain-answer Says S true l′ t now next o (λ _. e) h
+
+    -- after the items read so far, the list ends
+    pub chain-reads : {Says : List A → Type 0} {S : B → Type 0} {l l′ : Bool} {t now next : List ℕ} → Ongoing Says t now → Ends Says now → Reads G S l l′ now next → Reads chain (λ x. Says (x .0) × S (x .1)) l l′ t next
+    chain-reads {Says} {S} {l} {l′} {t} {now} {next} o e h = record { answer = chain-any Says S l l′ t now next o e (h .answer) }
+
+    pub chain-missing : {S : List A × B → Type 0} {l : Bool} {t u : List ℕ} → Hopeless t → Reads chain S l false t u
+    chain-missing {S} {l} {t} {u} h = reads-none (chain-answer (λ _. Unit) (λ _. Unit) false false t t u h (λ e. absurd (right-wrong (sym e))) refl)
+
+    listed-answer : (Says : List A → Type 0) (S : B → Type 0) (l l′ l″ : Bool) (t now next : List ℕ) → Lists Says l l′ t now → Answer G S l′ l″ now next → Answer chain (λ x. Says (x .0) × S (x .1)) l l″ t next
+    listed-answer Says S false false l″ t now next h g = g
+    listed-answer Says S false true l″ t now next h g = absurd (right-wrong h)
+    listed-answer Says S true true l″ t now next h g = chain-answer Says S true l″ t now next (h .0) (λ _. h .1) g
+    listed-answer Says S true false l″ t now next h g = chain-answer Says S false l″ t now next h (λ e. absurd (right-wrong (sym e))) g
+
+    pub listed-reads : {Says : List A → Type 0} {S : B → Type 0} {l l′ l″ : Bool} {t now next : List ℕ} → Listed Says l l′ t now → Reads G S l′ l″ now next → Reads chain (λ x. Says (x .0) × S (x .1)) l l″ t next
+    listed-reads {Says} {S} {l} {l′} {l″} {t} {now} {next} h g = record { answer = listed-answer Says S l l′ l″ t now next (h .answer) (g .answer) }

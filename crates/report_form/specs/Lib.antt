@@ -1,0 +1,7 @@
+pub mod Description
+pub mod Form
+pub mod Forms
+pub mod Unique
+pub mod Longest
+pub mod Reading
+pub mod Places

@@ -1,0 +1,93 @@
+-- What reading a text answers: the description that the text is the rendering of, or refusal 1, and the words' soft values.
+use mathlib.Core.Path.{_≡_}
+use mathlib.Core.Bool.{Bool, true, false}
+use mathlib.Core.Logic.{_⊎_}
+use mathlib.Core.List.{List, [], _∷_, _++_, map}
+use Prim.Native.Nat.{ℕ, _+_, _-_, _≤_}
+use lib.IntN.{ℤ, pos}
+use lib.ListN.{length, drop, set, replicate}
+use Rattle.report_form.specs.Description.{Pair, Word, Description, Within, render}
+use Rattle.report_form.specs.Forms.{flat, isLayered, stepOf}
+use Rattle.report_form.specs.declared.Reading.{Reading}
+
+-- a list with zeros behind it, k long
+abbrev pub padded : ℕ → List ℕ → List ℕ
+padded k xs = xs ++ replicate (k - length xs) 0
+
+-- a description's numbers: the rows' lengths and addresses are padded with zeros
+abbrev pub readingOf : Description → Reading
+readingOf d =
+    record {
+      refusal = 0;
+      n = d .n;
+      rows = length (d .rows);
+      lengths = padded 3 (map length (d .rows));
+      total = length (flat (d .rows));
+      addresses = padded 12 (flat (d .rows));
+      lanes = d .settings .lanes;
+      iterations = d .settings .iterations;
+      offset = d .settings .offset;
+      layered = isLayered (d .settings .schedule);
+      step = stepOf (d .settings .schedule);
+      rounds = d .settings .rounds;
+      first = d .settings .first;
+      bits = d .settings .bits;
+      words = length (d .words);
+    }
+
+-- refusal 1, with every other field zero
+abbrev pub refusedReading : Reading
+refusedReading =
+    record {
+      refusal = 1;
+      n = 0;
+      rows = 0;
+      lengths = replicate 3 0;
+      total = 0;
+      addresses = replicate 12 0;
+      lanes = 0;
+      iterations = 0;
+      offset = pos 0;
+      layered = false;
+      step = 0;
+      rounds = 0;
+      first = 0;
+      bits = 0;
+      words = 0;
+    }
+
+-- pairs stored in a list from a place on
+abbrev pub stored : ℕ → List Pair → List ℤ → List ℤ
+stored base [] xs = xs
+stored base (p ∷ ps) xs = stored base ps (set xs (base + p .position) (p .value))
+
+-- a word's soft values: the default everywhere but at the positions of its pairs
+abbrev pub softWord : ℕ → Word → List ℤ
+softWord n w = stored 0 (w .pairs) (replicate n (w .default))
+
+-- the soft values of all words, one after another
+abbrev pub softWords : ℕ → List Word → List ℤ
+softWords n [] = []
+softWords n (w ∷ ws) = softWord n w ++ softWords n ws
+
+-- the beginning of a list written over
+abbrev pub overlaid : List ℤ → List ℤ → List ℤ
+overlaid xs ys = xs ++ drop (length xs) ys
+
+-- refused (1) if no description within the limits has this text, and then nothing is written
+pub record NoDescription (text : List ℕ) (words : List ℤ) (r : Reading) (words′ : List ℤ) : Type 0 where
+  pub none : (d : Description) → Within d → render d ≡ text → ⊥
+  pub answer : r ≡ refusedReading
+  pub kept : words′ ≡ words
+
+-- otherwise the one description that has this text, its numbers, and its words' soft values at the start of the slice
+pub record OneDescription (text : List ℕ) (words : List ℤ) (r : Reading) (words′ : List ℤ) : Type 0 where
+  pub description : Description
+  pub within : Within description
+  pub writes : render description ≡ text
+  pub only : (d : Description) → Within d → render d ≡ text → d ≡ description
+  pub answer : r ≡ readingOf description
+  pub values : words′ ≡ overlaid (softWords (description .n) (description .words)) words
+
+abbrev pub RightReading : List ℕ → List ℤ → Reading → List ℤ → Type 0
+RightReading text words r words′ = NoDescription text words r words′ ⊎ OneDescription text words r words′

@@ -1,0 +1,48 @@
+-- `report_lines::put_ending` meets its contract.
+-- Assumes nothing.
+use mathlib.Core.Path.{sym, subst}
+use mathlib.Core.Bool.{Bool}
+use mathlib.Core.List.{List, [], _∷_, _++_}
+use denote.Ref.{now}
+use Rattle.report_lines.specs.Lines.{endingText}
+use Rattle.report_lines.specs.Wrote.{Wrote}
+use borrow.Author.Needs.{needs}
+use Rattle.report_lines.proofs.put_ending.Statement.{statement}
+use Rattle.report_lines.proofs.put_ending.Tie as tie
+
+slice-aggregate-put-text : tie.Need-slice-aggregate-put-text
+slice-aggregate-put-text c = search needs
+
+put-text-requires : tie.Need-put-text-requires
+put-text-requires c κs = search needs
+
+slice-aggregate-put-text-2 : tie.Need-slice-aggregate-put-text-2
+slice-aggregate-put-text-2 c = search needs
+
+put-text-requires-2 : tie.Need-put-text-requires-2
+put-text-requires-2 c κs = search needs
+
+same-length : tie.Need-same-length
+same-length c = search needs
+
+returns : tie.Need-returns
+returns c = subst (λ (b : Bool). Wrote (endingText b ++ 9 ∷ []) (c .before .before .before .before .before .before .before .args .at) (now (c .before .before .before .before .before .before .before .args .out)) (c .before .before .put-text .result) (c .before .before .put-text .last .0)) (sym (c .before .before .before .before .before .if1 .taken)) (c .before .before .put-text .ensures)
+
+same-length-2 : tie.Need-same-length-2
+same-length-2 c = search needs
+
+returns-2 : tie.Need-returns-2
+returns-2 c = subst (λ (b : Bool). Wrote (endingText b ++ 9 ∷ []) (c .before .before .before .before .before .before .before .args .at) (now (c .before .before .before .before .before .before .before .args .out)) (c .before .before .put-text2 .result) (c .before .before .put-text2 .last .0)) (sym (c .before .before .before .before .before .if1 .left)) (c .before .before .put-text2 .ensures)
+
+pub put-ending-spec : {M : Type 1} → statement M
+put-ending-spec =
+    tie.close
+    (tie.spec
+    slice-aggregate-put-text
+    put-text-requires
+    slice-aggregate-put-text-2
+    put-text-requires-2
+    same-length
+    returns
+    same-length-2
+    returns-2)

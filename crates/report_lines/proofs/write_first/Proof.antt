@@ -1,0 +1,24 @@
+-- `report_lines::write_first` meets its contract.
+-- Assumes nothing.
+use Rattle.report_lines.specs.Lines.{endingText}
+use Rattle.report_lines.specs.Wrote.{wrote-line}
+use Rattle.report_lines.proofs.Sizes.{ending-length}
+use native.Mathlib.Omega.{arith}
+use borrow.Author.Needs.{needs}
+use Rattle.report_lines.proofs.write_first.Statement.{statement}
+use Rattle.report_lines.proofs.write_first.Tie as tie
+
+put-ending-requires : tie.Need-put-ending-requires
+put-ending-requires c κs = search needs
+
+put-field-requires : tie.Need-put-field-requires
+put-field-requires c κs = omega (arith, c .before .before .before .before .before .before .pre, c .before .before .before .put-ending .ensures .next, c .before .before .before .put-ending .kept .0, ending-length (c .before .before .before .before .before .before .args .stopped))
+
+same-length : tie.Need-same-length
+same-length c = search needs
+
+returns : tie.Need-returns
+returns c = wrote-line (endingText (c .before .before .before .before .before .before .before .before .before .args .stopped)) (c .before .before .before .before .before .before .put-ending .ensures) (c .before .before .put-field .ensures)
+
+pub write-first-spec : {M : Type 1} → statement M
+write-first-spec = tie.close (tie.spec put-ending-requires put-field-requires same-length returns)

@@ -1,0 +1,59 @@
+-- What the report writes: 01's "Report text", behind the input.
+use mathlib.Core.Bool.{Bool, true, false}
+use mathlib.Core.List.{List, [], _∷_, _++_}
+use Prim.Native.Nat.{ℕ, zero, suc}
+use Rattle.laws.specs.Decimal.{decimal}
+
+-- "Fields are parted by tabs, every line ends in a newline"; 9 is a tab and 10 a newline
+abbrev pub line : List ℕ → List (List ℕ) → List ℕ
+line field [] = field ++ 10 ∷ []
+line field (next ∷ fields) = field ++ 9 ∷ line next fields
+
+-- "ending (`finished` or `stopped`)"
+abbrev pub endingText : Bool → List ℕ
+endingText true = 115 ∷ 116 ∷ 111 ∷ 112 ∷ 112 ∷ 101 ∷ 100 ∷ []
+endingText false = 102 ∷ 105 ∷ 110 ∷ 105 ∷ 115 ∷ 104 ∷ 101 ∷ 100 ∷ []
+
+-- "state (`waiting`, `held`, `met`, `unmet`)", by the record's numbers 0, 1, 2, 3
+abbrev pub stateText : ℕ → List ℕ
+stateText zero = 119 ∷ 97 ∷ 105 ∷ 116 ∷ 105 ∷ 110 ∷ 103 ∷ []
+stateText (suc zero) = 104 ∷ 101 ∷ 108 ∷ 100 ∷ []
+stateText (suc (suc zero)) = 109 ∷ 101 ∷ 116 ∷ []
+stateText (suc (suc (suc n))) = 117 ∷ 110 ∷ 109 ∷ 101 ∷ 116 ∷ []
+
+-- "BCH (`-` if lost)", else the corrected count
+abbrev pub bchText : Bool → ℕ → List ℕ
+bchText true corrected = 45 ∷ []
+bchText false corrected = decimal corrected
+
+-- what a line says of a word
+pub record Result : Type 0 where
+  pub state : ℕ
+  pub iterations : ℕ
+  pub unsatisfied : ℕ
+  pub lost : Bool
+  pub corrected : ℕ
+
+abbrev pub resultOf : ℕ → ℕ → ℕ → Bool → ℕ → Result
+resultOf state iterations unsatisfied lost corrected =
+    record { state = state; iterations = iterations; unsatisfied = unsatisfied; lost = lost; corrected = corrected }
+
+-- "First line: ending, rounds"
+abbrev pub firstLine : Bool → ℕ → List ℕ
+firstLine stopped rounds = line (endingText stopped) (decimal rounds ∷ [])
+
+-- "Then word, state, iterations, unsatisfied, BCH"
+abbrev pub wordLine : ℕ → Result → List ℕ
+wordLine word r = line (decimal word) (stateText (r .state) ∷ decimal (r .iterations) ∷ decimal (r .unsatisfied) ∷ bchText (r .lost) (r .corrected) ∷ [])
+
+abbrev pub wordLines : ℕ → List Result → List ℕ
+wordLines word [] = []
+wordLines word (r ∷ rs) = wordLine word r ++ wordLines (suc word) rs
+
+-- the whole output of an accepted run, its words numbered from 0
+abbrev pub renderResult : Bool → ℕ → List Result → List ℕ
+renderResult stopped rounds rs = firstLine stopped rounds ++ wordLines 0 rs
+
+-- "A refusal prints `refused`, tab, number"
+abbrev pub refusedLine : ℕ → List ℕ
+refusedLine number = line (114 ∷ 101 ∷ 102 ∷ 117 ∷ 115 ∷ 101 ∷ 100 ∷ []) (decimal number ∷ [])
