@@ -13,7 +13,7 @@ use Rattle.laws.specs.Signed.{negative, times, times-assoc}
 use Rattle.lane_math.specs.Value.{satZ, magnitude, reduced, replied}
 use Rattle.lane_math.specs.Check.{min1, min2, message, put, tOf}
 use Rattle.lane_math.specs.Laws.{min1-small, min2-small, min2-step, parity, reply-is, put-same, put-other, last-or}
-use Rattle.lane16.specs.Lanes.{z, n, Scanned, Reduced, Answered}
+use Rattle.lane16.specs.Lanes.{z, n, Scanned, Reduced, Answered, Added}
 use Rattle.lane_memory.specs.Column.{column, Off, Stored, Part}
 
 -- t of a check's edges in a column whose messages start at row base
@@ -204,6 +204,49 @@ messages-chunk-is {w} {v} {s} {d} {base} {E} {p} {lanes} {at} {a} {a′} {t} {g}
           ∙ messaged-same base E s p _ _ _ _ (column lanes a (at + k)) d (λ e h. c .t-is k (omega arith) e h) (λ e h. answer-is c h1 h2 k (omega arith) e h);
       outside = b .outside;
     }
+
+-- ---- its values: a column after d edges' t, of the run's from place p on, and messages were added, in order
+unfoldable pub applied : ℕ → ℕ → (ℕ → ℕ) → ℕ → ℕ → ℕ → (ℕ → ℤ) → ℕ → ℤ
+applied base E v s p zero f = f
+applied base E v s p (suc d) f = put (applied base E v s p d f) (v (s + d)) (satZ (f (base + E + (p + d)) +ℤ f (base + (s + d))))
+
+pub applied-rest : (base E : ℕ) (v : ℕ → ℕ) (s p d : ℕ) (f : ℕ → ℤ) → ((k : ℕ) → k < d → v (s + k) < base) → (u : ℕ) → base ≤ u → applied base E v s p d f u ≡ f u
+unfolding applied
+applied-rest base E v s p zero f h u q = refl
+applied-rest base E v s p (suc d) f h u q =
+    put-other (applied base E v s p d f) (v (s + d)) (satZ (f (base + E + (p + d)) +ℤ f (base + (s + d)))) u (λ e. omega (arith, h d (omega arith)))
+    ∙ applied-rest base E v s p d f (λ k r. h k (omega arith)) u q
+
+pub record Applying (w : ℕ) (v : ℕ → ℕ) (s base E p lanes at : ℕ) (a : List ℤ) (d : ℕ) (a′ : List ℤ) : Type 0 where
+  pub inside : (k : ℕ) → k < w → column lanes a′ (at + k) ≡ applied base E v s p d (column lanes a (at + k))
+  pub outside : (i : ℕ) → i < lanes → Off at w i → column lanes a′ i ≡ column lanes a i
+
+pub applying-start : (w : ℕ) (v : ℕ → ℕ) (s base E p lanes at : ℕ) (a : List ℤ) → Applying w v s base E p lanes at a 0 a
+unfolding applied
+applying-start w v s base E p lanes at a = record { inside = λ k q. refl; outside = λ i q f. refl }
+
+module _ {w : ℕ} {v : ℕ → ℕ} {s base E p lanes at : ℕ} {a : List ℤ} {d : ℕ} {a′ a″ x m y : List ℤ} {u : ℕ} where
+  pub applying-again : w ≤ 16 → ((k : ℕ) → k < d → v (s + k) < base) → Applying w v s base E p lanes at a d a′ → u ≡ v (s + d)
+      → ((k : ℕ) → k < 16 → z x k ≡ column lanes a′ (at + k) (base + E + (p + d))) → ((k : ℕ) → k < 16 → z m k ≡ column lanes a′ (at + k) (base + (s + d)))
+      → Added x m y → Stored w lanes u at y a′ a″ → Applying w v s base E p lanes at a (d + 1) a″
+  unfolding applied
+  applying-again narrow low c edge hx hm e st =
+      subst (λ (j : ℕ). Applying w v s base E p lanes at a j a″) (sym (add-one d))
+      (record {
+        inside =
+            λ k q. st .inside k q
+            ∙ (λ i. put (c .inside k q i) (edge i) ((e .is k (omega arith) ∙ (λ j. satZ ((hx k (omega arith) ∙ at-row k q (base + E + (p + d)) (omega arith)) j +ℤ (hm k (omega arith) ∙ at-row k q (base + (s + d)) (omega arith)) j))) i));
+        outside = λ i q f. st .outside i q f ∙ c .outside i q f;
+      })
+    where
+      at-row : (k : ℕ) → k < w → (r : ℕ) → base ≤ r → column lanes a′ (at + k) r ≡ column lanes a (at + k) r
+      at-row k q r h = ap (λ (f : ℕ → ℤ). f r) (c .inside k q) ∙ applied-rest base E v s p d (column lanes a (at + k)) low r h
+
+pub applying-end : {w : ℕ} {v : ℕ → ℕ} {s base E p lanes at : ℕ} {a : List ℤ} {i d : ℕ} {a′ : List ℤ} → i ≡ d → Applying w v s base E p lanes at a i a′ → Part (applied base E v s p d) w lanes at a a′
+applying-end {w} {v} {s} {base} {E} {p} {lanes} {at} {a} {i} {d} {a′} e c = part (subst (λ (j : ℕ). Applying w v s base E p lanes at a j a′) e c)
+  where
+    part : Applying w v s base E p lanes at a d a′ → Part (applied base E v s p d) w lanes at a a′
+    part c = record { inside = c .inside; outside = c .outside }
 
 -- ---- signs alone: a row's signs multiplied into the first i of the sixteen lanes from at
 pub record Flipped (u lanes at : ℕ) (a g : List ℤ) (i : ℕ) (g′ : List ℤ) : Type 0 where

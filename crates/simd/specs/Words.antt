@@ -17,7 +17,7 @@ use Rattle.lane_math.specs.Laws.{message-same, wrote-same, put-other, parity, u
 use Rattle.lane16.specs.Lanes.{z, Decided}
 use Rattle.lane_memory.specs.Column.{column, Mapped}
 use Rattle.lane_memory.specs.Room.{var, Room}
-use Rattle.simd.specs.Pass.{tAt, written, checkColumn, messaged, messagesColumn, Signs}
+use Rattle.simd.specs.Pass.{tAt, written, checkColumn, messaged, messagesColumn, applied, applied-rest, Signs}
 
 -- the first m of f, and 0 behind them
 unfoldable pub within : ℕ → (ℕ → ℤ) → ℕ → ℤ
@@ -42,6 +42,11 @@ pub record CheckMessages (rows : List ℕ) (s d n lanes place : ℕ) (o : ℤ) (
   pub t-rows : (i : ℕ) → i < lanes → (e : ℕ) → e < length rows → column lanes a′ i (n + length rows + e) ≡ wrote (λ k. place + k) (tOf (var rows) s (word n (length rows) lanes a i .L) (word n (length rows) lanes a i .r)) (λ e. column lanes a i (n + length rows + e)) d e
   pub old-rows : (i : ℕ) → i < lanes → (e : ℕ) → e < length rows → column lanes a′ i (n + 2 * length rows + e) ≡ wrote (λ k. place + k) (λ k. word n (length rows) lanes a i .r (s + k)) (λ e. column lanes a i (n + 2 * length rows + e)) d e
   pub rest : (i : ℕ) → i < lanes → (u : ℕ) → n + 3 * length rows ≤ u → column lanes a′ i u ≡ column lanes a i u
+
+-- The values of a check's variables after its messages: L = sat(t + message), edges in order; the rows behind the values are as they were.
+pub record ApplyMessages (rows : List ℕ) (s d n lanes place : ℕ) (a a′ : List ℤ) : Type 0 where
+  pub values : (i : ℕ) → i < lanes → word n (length rows) lanes a′ i .L ≡ wrote (λ k. var rows (s + k)) (λ k. satZ (column lanes a i (n + length rows + (place + k)) +ℤ word n (length rows) lanes a i .r (s + k))) (word n (length rows) lanes a i .L) d
+  pub rest : (i : ℕ) → i < lanes → (u : ℕ) → n ≤ u → column lanes a′ i u ≡ column lanes a i u
 
 -- Which of 64 lanes have the check unsatisfied; none past the last lane.
 pub record SignParity (rows : List ℕ) (s d n lanes : ℕ) (a : List ℤ) (b : List ℕ) : Type 0 where
@@ -210,6 +215,13 @@ module _ (n E s p : ℕ) where
       ∙ put-other (messaged n E s p t m f d) (n + E + (p + d)) (t d) u (λ k. omega arith)
       ∙ messaged-rest t m f d (omega (arith, h .0), omega (arith, h .1)) u q
 
+word-applied : (n E : ℕ) (v : ℕ → ℕ) (s p d : ℕ) (f : ℕ → ℤ) → ((k : ℕ) → k < d → v (s + k) < n) → s + d ≤ E → wordOf n E (applied n E v s p d f) .L ≡ wrote (λ k. v (s + k)) (λ k. satZ (f (n + E + (p + k)) +ℤ wordOf n E f .r (s + k))) (wordOf n E f .L) d
+unfolding applied wrote wordOf
+word-applied n E v s p zero f h r = refl
+word-applied n E v s p (suc d) f h r =
+    ap (λ (w : Word). w .L) (value-put n E (applied n E v s p d f) (v (s + d)) (satZ (f (n + E + (p + d)) +ℤ f (n + (s + d)))) (h d (omega arith)))
+    ∙ (λ i. put (word-applied n E v s p d f (λ k q. h k (omega arith)) (omega arith) i) (v (s + d)) (satZ (f (n + E + (p + d)) +ℤ sym (within-at E (λ e. f (n + e)) (s + d) (omega arith)) i)))
+
 -- ---- the laws of the code's columns
 module _ {rows : List ℕ} {s d n lanes : ℕ} {a : List ℤ} (r : Room rows s d n lanes a) where
   inside : ((k : ℕ) → k < d → var rows (s + k) < n) × (s + d ≤ length rows)
@@ -256,6 +268,13 @@ module _ {rows : List ℕ} {s d n lanes : ℕ} {a : List ℤ} (r : Room rows s d
 
       old-same : (i k : ℕ) → k < d → column lanes a i (n + (s + k)) ≡ word n (length rows) lanes a i .r (s + k)
       old-same i k b = sym (within-at (length rows) (λ e. column lanes a i (n + e)) (s + k) (omega (arith, r .edges)))
+
+  pub apply-messages : {place : ℕ} {a′ : List ℤ} → Mapped (applied n (length rows) (var rows) s place d) lanes a a′ → ApplyMessages rows s d n lanes place a a′
+  apply-messages {place} {a′} h =
+      record {
+        values = λ i q. ap (λ (f : ℕ → ℤ). wordOf n (length rows) f .L) (h i q) ∙ word-applied n (length rows) (var rows) s place d (column lanes a i) (inside .0) (inside .1);
+        rest = λ i q u b. ap (λ (f : ℕ → ℤ). f u) (h i q) ∙ applied-rest n (length rows) (var rows) s place d (column lanes a i) (inside .0) u b;
+      }
 
   -- a lane's sign is its word's
   pub sign-parity : (i : ℕ) → unsatisfied (var rows) s d (column lanes a i) ≡ unsatisfied (var rows) s d (word n (length rows) lanes a i .L)

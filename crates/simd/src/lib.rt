@@ -8,8 +8,8 @@ ghost use lib.ListN.{length};
 ghost use Rattle.lane16.specs.Lanes.{NoneNegative};
 ghost use Rattle.lane_memory.specs.Column.{Part};
 ghost use Rattle.lane_memory.specs.Room.{var, Room, Width};
-ghost use Rattle.simd.specs.Pass.{Scan, Replied, Kept, Flipped, Signs, checkColumn, messagesColumn};
-ghost use Rattle.simd.specs.Words.{CheckNode, CheckMessages, SignParity};
+ghost use Rattle.simd.specs.Pass.{Scan, Replied, Kept, Flipped, Signs, checkColumn, messagesColumn, applied};
+ghost use Rattle.simd.specs.Words.{CheckNode, CheckMessages, ApplyMessages, SignParity};
 
 // The first pass over a check's edges; edge k's t goes to row k of t, which has sixteen lanes.
 fn scan(
@@ -223,6 +223,60 @@ pub fn check_messages(
     while at < lanes {
         let w = lane_memory::width(lanes - at);
         messages_chunk(rows, s, d, a, t, n, lanes, at, w, place, offset);
+        at += w;
+    }
+}
+
+// A check's values after its messages, of the w lanes from `at`.
+fn apply_chunk(
+    rows: &[u32],
+    s: usize,
+    d: usize,
+    a: &mut [i8],
+    n: usize,
+    lanes: usize,
+    at: usize,
+    w: usize,
+    place: usize,
+)
+    requires { ⌜ Room (now rows) s d n lanes (now a) ⌝ }
+    requires { ⌜ (at + w ≤ lanes) × (Width w × (place + d ≤ length (now rows))) ⌝ }
+    ensures { λ _. ⌜ Part (applied n (length (now (rows .entry))) (var (now (rows .entry))) s place d) w lanes at (now (a .entry)) (now (a .exit)) ⌝ }
+{
+    let edges = rows.len();
+    let mut k: usize = 0;
+    while k < d {
+        let e = s + k;
+        let v = lane_memory::variable(rows, e);
+        let f = place + k;
+        let tu = n + edges + f;
+        let x = lane_memory::load(a, tu, lanes, at);
+        let u = n + e;
+        let m = lane_memory::load(a, u, lanes, at);
+        let y = lane16::add(x, m);
+        lane_memory::store_lanes(a, v, lanes, at, y, w);
+        k += 1;
+    }
+}
+
+// The values of one check's variables, of every lane's word, after the messages of its run: L = sat(t + message), edges in order.
+pub fn apply_messages(
+    rows: &[u32],
+    s: usize,
+    d: usize,
+    a: &mut [i8],
+    n: usize,
+    lanes: usize,
+    place: usize,
+)
+    requires { ⌜ Room (now rows) s d n lanes (now a) ⌝ }
+    requires { ⌜ place + d ≤ length (now rows) ⌝ }
+    ensures { λ _. ⌜ ApplyMessages (now (rows .entry)) s d n lanes place (now (a .entry)) (now (a .exit)) ⌝ }
+{
+    let mut at: usize = 0;
+    while at < lanes {
+        let w = lane_memory::width(lanes - at);
+        apply_chunk(rows, s, d, a, n, lanes, at, w, place);
         at += w;
     }
 }
