@@ -5,10 +5,10 @@ use Prim.Native.Nat.{ℕ, _+_, _-_, _≤_, _<_}
 use lib.ListN.{length}
 use Rattle.lane_memory.specs.Column.{Upto, upto-start, upto-again, upto-end}
 use Rattle.lane_memory.specs.Room.{var, room-to}
-use Rattle.simd.specs.Pass.{applied}
-use Rattle.simd.specs.Words.{apply-messages}
-use Rattle.simd.proofs.apply_messages.Statement.{statement}
-use Rattle.simd.proofs.apply_messages.Tie as tie
+use Rattle.simd_layered.specs.Pass.{applied}
+use Rattle.simd_layered.specs.Words.{apply-messages}
+use Rattle.simd_layered.proofs.apply_messages.Statement.{statement}
+use Rattle.simd_layered.proofs.apply_messages.Tie as tie
 
 abbrev Inv-loop : tie.InvT-loop
 Inv-loop rows s d a₀ n lanes place at₀ a at = (at ≤ lanes) × ((length a ≡ length a₀) × Upto (applied n (length rows) (var rows) s place d) lanes at a₀ a)

@@ -4,9 +4,9 @@ use mathlib.Core.Path.{_≡_, refl}
 use Prim.Native.Nat.{ℕ, _+_, _*_, _-_, _≤_, _<_}
 use lib.ListN.{length}
 use Rattle.lane_memory.specs.Room.{var, row-room, load-room, row-fits, value-row}
-use Rattle.simd.specs.Pass.{Applying, applying-start, applying-again, applying-end}
-use Rattle.simd.proofs.apply_chunk.Statement.{statement}
-use Rattle.simd.proofs.apply_chunk.Tie as tie
+use Rattle.simd_layered.specs.Pass.{Applying, applying-start, applying-again, applying-end}
+use Rattle.simd_layered.proofs.apply_chunk.Statement.{statement}
+use Rattle.simd_layered.proofs.apply_chunk.Tie as tie
 
 abbrev Inv-loop : tie.InvT-loop
 Inv-loop rows s d a₀ n lanes at w place edges k₀ a k = (k ≤ d) × ((length a ≡ length a₀) × Applying w (var rows) s n (length rows) place lanes at a₀ k a)
