@@ -43,6 +43,10 @@ pub record Answered (t s : List ℤ) (a : List ℕ) (m1 m2 : List ℤ) (m L : Li
   pub message-is : (k : ℕ) → k < 16 → z m k ≡ replied (z t k) (z s k) (n a k) (z m1 k) (z m2 k)
   pub value-is : (k : ℕ) → k < 16 → z L k ≡ satZ (z t k +ℤ replied (z t k) (z s k) (n a k) (z m1 k) (z m2 k))
 
+-- t and message added
+pub record Added (t m y : List ℤ) : Type 0 where
+  pub is : (k : ℕ) → k < 16 → z y k ≡ satZ (z t k +ℤ z m k)
+
 -- hard decisions of the first `lanes` of 64 lanes, 0 past them
 pub record Decided (lanes : ℕ) (a : List ℤ) (b : List ℕ) : Type 0 where
   pub is : (k : ℕ) → k < lanes → n b k ≡ hard (z a k)

@@ -1,6 +1,6 @@
 // Sixteen lanes by value: one fused loop for the scan of an edge and one for its answer.
 ghost use Prim.Native.Nat.{_≤_};
-ghost use Rattle.lane16.specs.Lanes.{Scanned, Reduced, NoneNegative, Answered, Decided};
+ghost use Rattle.lane16.specs.Lanes.{Scanned, Reduced, NoneNegative, Answered, Added, Decided};
 
 // Where a pass over a check's edges stands: the two smallest magnitudes, the sign of the product, and the last edge's t.
 pub struct Pass {
@@ -71,6 +71,19 @@ pub fn reply(t: [i8; 16], sign: [i8; 16], min1: [u8; 16], m1: [i8; 16], m2: [i8;
         i += 1;
     }
     Answer { m: m, y: y }
+}
+
+// t and message added.
+pub fn add(t: [i8; 16], m: [i8; 16]) -> [i8; 16]
+    ensures { λ r. ⌜ Added t m r ⌝ }
+{
+    let mut y: [i8; 16] = [0; 16];
+    let mut i: usize = 0;
+    while i < 16 {
+        y[i] = lane_math::sat_add(t[i], m[i]);
+        i += 1;
+    }
+    y
 }
 
 // 1 where the lane is negative, of `lanes` lanes; 0 past the last of them.

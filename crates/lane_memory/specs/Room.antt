@@ -12,14 +12,14 @@ use Rattle.lane_memory.specs.Column.{row-ends}
 abbrev pub var : List ℕ → ℕ → ℕ
 var rows e = getD rows e 0
 
--- A check of d edges from edge s, at most 128. A code has 747 edges or more; from 8 on, the rows of t and of the old messages are
--- the 15 bytes and more that a load of 16 reaches behind the last message.
+-- A check of d edges from edge s, at most 128. A code has 747 edges or more; from 16 on, the rows of the old messages alone are more
+-- than the 15 bytes that a load of 16 reaches behind a row of values, messages or t.
 pub record Room (rows : List ℕ) (s d n lanes : ℕ) (a : List ℤ) : Type 0 where
   pub edges : s + d ≤ length rows
   pub degree : d ≤ 128
   pub variables : (e : ℕ) → e < length rows → var rows e < n
   pub long : (n + 3 * length rows) * lanes ≤ length a
-  pub many : 8 ≤ length rows
+  pub many : 16 ≤ length rows
   pub some-lanes : 0 < lanes
   pub few-lanes : lanes ≤ 64
 
@@ -37,11 +37,11 @@ room-to e r =
     }
 
 module _ {rows : List ℕ} {s d n lanes : ℕ} {a : List ℤ} (r : Room rows s d n lanes a) where
-  -- sixteen bytes from a lane of any row of values or messages are inside
-  pub load-room : (u at : ℕ) → u < n + length rows → at < lanes → u * lanes + at + 16 ≤ length a
+  -- sixteen bytes from a lane of any row of values, messages or t are inside
+  pub load-room : (u at : ℕ) → u < n + 2 * length rows → at < lanes → u * lanes + at + 16 ≤ length a
   load-room u at h q =
-      let e : 8 * lanes ≤ length rows * lanes = mul-le-mul-right lanes (r .many) in
-      omega (arith, row-ends u (n + length rows) lanes h, r .long, r .some-lanes)
+      let e : 16 * lanes ≤ length rows * lanes = mul-le-mul-right lanes (r .many) in
+      omega (arith, row-ends u (n + 2 * length rows) lanes h, r .long, r .some-lanes)
 
   -- and so is every row
   pub row-room : (u : ℕ) → u < n + 3 * length rows → u * lanes + lanes ≤ length a

@@ -17,7 +17,7 @@ use Rattle.lane_math.specs.Laws.{message-same, wrote-same, put-other, parity, u
 use Rattle.lane16.specs.Lanes.{z, Decided}
 use Rattle.lane_memory.specs.Column.{column, Mapped}
 use Rattle.lane_memory.specs.Room.{var, Room}
-use Rattle.simd.specs.Pass.{tAt, written, checkColumn, messaged, messagesColumn, Signs}
+use Rattle.simd.specs.Pass.{tAt, written, checkColumn, Signs}
 
 -- the first m of f, and 0 behind them
 unfoldable pub within : ℕ → (ℕ → ℤ) → ℕ → ℤ
@@ -33,15 +33,6 @@ word n E lanes a i = wordOf n E (column lanes a i)
 pub record CheckNode (rows : List ℕ) (s d n lanes : ℕ) (o : ℤ) (a a′ : List ℤ) : Type 0 where
   pub words : (i : ℕ) → i < lanes → word n (length rows) lanes a′ i ≡ check o (var rows) s d (word n (length rows) lanes a i)
   pub rest : (i : ℕ) → i < lanes → (u : ℕ) → n + length rows ≤ u → column lanes a′ i u ≡ column lanes a i u
-
--- A check's messages for the layered schedule: the values are only read; its edges' t and old messages stand among the run's from
--- `place` on, where the others are as they were; so is all behind them.
-pub record CheckMessages (rows : List ℕ) (s d n lanes place : ℕ) (o : ℤ) (a a′ : List ℤ) : Type 0 where
-  pub values : (i : ℕ) → i < lanes → word n (length rows) lanes a′ i .L ≡ word n (length rows) lanes a i .L
-  pub messages : (i : ℕ) → i < lanes → word n (length rows) lanes a′ i .r ≡ newR o (var rows) s d (word n (length rows) lanes a i .L) (word n (length rows) lanes a i .r)
-  pub t-rows : (i : ℕ) → i < lanes → (e : ℕ) → e < length rows → column lanes a′ i (n + length rows + e) ≡ wrote (λ k. place + k) (tOf (var rows) s (word n (length rows) lanes a i .L) (word n (length rows) lanes a i .r)) (λ e. column lanes a i (n + length rows + e)) d e
-  pub old-rows : (i : ℕ) → i < lanes → (e : ℕ) → e < length rows → column lanes a′ i (n + 2 * length rows + e) ≡ wrote (λ k. place + k) (λ k. word n (length rows) lanes a i .r (s + k)) (λ e. column lanes a i (n + 2 * length rows + e)) d e
-  pub rest : (i : ℕ) → i < lanes → (u : ℕ) → n + 3 * length rows ≤ u → column lanes a′ i u ≡ column lanes a i u
 
 -- Which of 64 lanes have the check unsatisfied; none past the last lane.
 pub record SignParity (rows : List ℕ) (s d n lanes : ℕ) (a : List ℤ) (b : List ℕ) : Type 0 where
@@ -84,7 +75,7 @@ within-other m f g h = λ i w. go w (ltb w m) refl i
     go w false e = refl
 
 -- base + e in place of e
-shifted-put : (base : ℕ) (f : ℕ → ℤ) (u : ℕ) (x : ℤ) → _≡_ {A = ℕ → ℤ} (λ e. put f (base + u) x (base + e)) (put (λ e. f (base + e)) u x)
+pub shifted-put : (base : ℕ) (f : ℕ → ℤ) (u : ℕ) (x : ℤ) → _≡_ {A = ℕ → ℤ} (λ e. put f (base + u) x (base + e)) (put (λ e. f (base + e)) u x)
 unfolding put
 shifted-put base f u x = λ i e. cond (same e (eqb e u) refl i) x (f (base + e))
   where
@@ -119,7 +110,7 @@ module _ (n E : ℕ) (f : ℕ → ℤ) where
 
 -- ---- a check on a column is the check of its word
 module _ (n E : ℕ) (v : ℕ → ℕ) (s : ℕ) where
-  abbrev Inside : ℕ → Type 0
+  abbrev pub Inside : ℕ → Type 0
   Inside d = ((k : ℕ) → k < d → v (s + k) < n) × (s + d ≤ E)
 
   fewer : (d : ℕ) → Inside (suc d) → Inside d
@@ -143,12 +134,12 @@ module _ (n E : ℕ) (v : ℕ → ℕ) (s : ℕ) where
       ∙ written-rest m y f d (fewer d h) u q
 
   -- t of the word is t of the column
-  t-same : (f : ℕ → ℤ) (d : ℕ) → Inside d → (k : ℕ) → k < d → tAt v s n f k ≡ tOf v s (wordOf n E f .L) (wordOf n E f .r) k
+  pub t-same : (f : ℕ → ℤ) (d : ℕ) → Inside d → (k : ℕ) → k < d → tAt v s n f k ≡ tOf v s (wordOf n E f .L) (wordOf n E f .r) k
   unfolding tOf wordOf
   t-same f d h k q =
       λ i. satZ (sym (within-at n f (v (s + k)) (h .0 k q)) i -ℤ sym (within-at E (λ e. f (n + e)) (s + k) (omega (arith, h .1))) i)
 
-  message-is : (o : ℤ) (f : ℕ → ℤ) (d : ℕ) → Inside d → (e : ℕ) → message o (tAt v s n f) d e ≡ message o (tOf v s (wordOf n E f .L) (wordOf n E f .r)) d e
+  pub message-is : (o : ℤ) (f : ℕ → ℤ) (d : ℕ) → Inside d → (e : ℕ) → message o (tAt v s n f) d e ≡ message o (tOf v s (wordOf n E f .L) (wordOf n E f .r)) d e
   message-is o f d h e = message-same (tAt v s n f) (tOf v s (wordOf n E f .L) (wordOf n E f .r)) o d e (t-same f d h)
 
   check-is : (o : ℤ) (f : ℕ → ℤ) (d : ℕ) → Inside d → wordOf n E (checkColumn o v s d n f) ≡ check o v s d (wordOf n E f)
@@ -164,55 +155,14 @@ module _ (n E : ℕ) (v : ℕ → ℕ) (s : ℕ) where
   unfolding checkColumn
   check-rest o f d h u q = written-rest (message o (tAt v s n f) d) (λ e. satZ (tAt v s n f e +ℤ message o (tAt v s n f) d e)) f d h u q
 
--- ---- the messages alone
-put-both : (f : ℕ → ℤ) (base u : ℕ) (x : ℤ) (e : ℕ) (g : ℕ → ℤ) → f (base + e) ≡ g e → put f (base + u) x (base + e) ≡ put g u x e
-unfolding put
-put-both f base u x e g h = ap (λ (k : ℕ → ℤ). k e) (shifted-put base f u x) ∙ ap (λ (y : ℤ). cond (eqb e u) x y) h
-
 negatives-same : (v : ℕ → ℕ) (s d : ℕ) (f g : ℕ → ℤ) → ((k : ℕ) → k < d → f (v (s + k)) ≡ g (v (s + k))) → negatives v s d f ≡ negatives v s d g
 unfolding negatives
 negatives-same v s zero f g h = refl
 negatives-same v s (suc d) f g h = λ i. negatives-same v s d f g (λ k q. h k (omega arith)) i + hard (h d (omega arith) i)
 
-module _ (n E s p : ℕ) where
-  word-messaged : (t m f : ℕ → ℤ) (d : ℕ) → (s + d ≤ E) × (p + d ≤ E) → wordOf n E (messaged n E s p t m f d) ≡ record { L = wordOf n E f .L; r = wrote (λ k. s + k) m (wordOf n E f .r) d }
-  unfolding messaged wrote
-  word-messaged t m f zero h = refl
-  word-messaged t m f (suc d) h =
-      message-put n E (put (put (messaged n E s p t m f d) (n + E + (p + d)) (t d)) (n + 2 * E + (p + d)) (f (n + (s + d)))) (s + d) (m d) (omega arith)
-      ∙ ap (λ (w : Word). record { L = w .L; r = put (w .r) (s + d) (m d) })
-      (behind-put n E (put (messaged n E s p t m f d) (n + E + (p + d)) (t d)) (n + 2 * E + (p + d)) (f (n + (s + d))) (omega arith)
-      ∙ behind-put n E (messaged n E s p t m f d) (n + E + (p + d)) (t d) (omega arith)
-      ∙ word-messaged t m f d (omega (arith, h .0), omega (arith, h .1)))
-
-  t-messaged : (t m f : ℕ → ℤ) (d : ℕ) → (s + d ≤ E) × (p + d ≤ E) → (e : ℕ) → e < E → messaged n E s p t m f d (n + E + e) ≡ wrote (λ k. p + k) t (λ e. f (n + E + e)) d e
-  unfolding messaged wrote
-  t-messaged t m f zero h e q = refl
-  t-messaged t m f (suc d) h e q =
-      put-other (put (put (messaged n E s p t m f d) (n + E + (p + d)) (t d)) (n + 2 * E + (p + d)) (f (n + (s + d)))) (n + (s + d)) (m d) (n + E + e) (λ k. omega arith)
-      ∙ put-other (put (messaged n E s p t m f d) (n + E + (p + d)) (t d)) (n + 2 * E + (p + d)) (f (n + (s + d))) (n + E + e) (λ k. omega arith)
-      ∙ put-both (messaged n E s p t m f d) (n + E) (p + d) (t d) e (wrote (λ k. p + k) t (λ e. f (n + E + e)) d) (t-messaged t m f d (omega (arith, h .0), omega (arith, h .1)) e q)
-
-  old-messaged : (t m f : ℕ → ℤ) (d : ℕ) → (s + d ≤ E) × (p + d ≤ E) → (e : ℕ) → e < E → messaged n E s p t m f d (n + 2 * E + e) ≡ wrote (λ k. p + k) (λ k. f (n + (s + k))) (λ e. f (n + 2 * E + e)) d e
-  unfolding messaged wrote
-  old-messaged t m f zero h e q = refl
-  old-messaged t m f (suc d) h e q =
-      put-other (put (put (messaged n E s p t m f d) (n + E + (p + d)) (t d)) (n + 2 * E + (p + d)) (f (n + (s + d)))) (n + (s + d)) (m d) (n + 2 * E + e) (λ k. omega arith)
-      ∙ put-both (put (messaged n E s p t m f d) (n + E + (p + d)) (t d)) (n + 2 * E) (p + d) (f (n + (s + d))) e (wrote (λ k. p + k) (λ k. f (n + (s + k))) (λ e. f (n + 2 * E + e)) d)
-      (put-other (messaged n E s p t m f d) (n + E + (p + d)) (t d) (n + 2 * E + e) (λ k. omega arith) ∙ old-messaged t m f d (omega (arith, h .0), omega (arith, h .1)) e q)
-
-  messaged-rest : (t m f : ℕ → ℤ) (d : ℕ) → (s + d ≤ E) × (p + d ≤ E) → (u : ℕ) → n + 3 * E ≤ u → messaged n E s p t m f d u ≡ f u
-  unfolding messaged
-  messaged-rest t m f zero h u q = refl
-  messaged-rest t m f (suc d) h u q =
-      put-other (put (put (messaged n E s p t m f d) (n + E + (p + d)) (t d)) (n + 2 * E + (p + d)) (f (n + (s + d)))) (n + (s + d)) (m d) u (λ k. omega arith)
-      ∙ put-other (put (messaged n E s p t m f d) (n + E + (p + d)) (t d)) (n + 2 * E + (p + d)) (f (n + (s + d))) u (λ k. omega arith)
-      ∙ put-other (messaged n E s p t m f d) (n + E + (p + d)) (t d) u (λ k. omega arith)
-      ∙ messaged-rest t m f d (omega (arith, h .0), omega (arith, h .1)) u q
-
 -- ---- the laws of the code's columns
 module _ {rows : List ℕ} {s d n lanes : ℕ} {a : List ℤ} (r : Room rows s d n lanes a) where
-  inside : ((k : ℕ) → k < d → var rows (s + k) < n) × (s + d ≤ length rows)
+  pub inside : ((k : ℕ) → k < d → var rows (s + k) < n) × (s + d ≤ length rows)
   inside = (λ k q. r .variables (s + k) (omega (arith, r .edges)), r .edges)
 
   pub check-node : {o : ℤ} {a′ : List ℤ} → Mapped (checkColumn o (var rows) s d n) lanes a a′ → CheckNode rows s d n lanes o a a′
@@ -221,41 +171,6 @@ module _ {rows : List ℕ} {s d n lanes : ℕ} {a : List ℤ} (r : Room rows s d
         words = λ i q. ap (wordOf n (length rows)) (h i q) ∙ check-is n (length rows) (var rows) s o (column lanes a i) d inside;
         rest = λ i q u p. ap (λ (f : ℕ → ℤ). f u) (h i q) ∙ check-rest n (length rows) (var rows) s o (column lanes a i) d inside u p;
       }
-
-  pub check-messages : {place : ℕ} {o : ℤ} {a′ : List ℤ} → place + d ≤ length rows → Mapped (messagesColumn o (var rows) s d n (length rows) place) lanes a a′ → CheckMessages rows s d n lanes place o a a′
-  unfolding messagesColumn newR wordOf
-  check-messages {place} {o} {a′} room h =
-      record {
-        values = λ i q. ap (λ (w : Word). w .L) (word-is i q);
-        messages = λ i q. ap (λ (w : Word). w .r) (word-is i q);
-        t-rows =
-            λ i q e p. ap (λ (f : ℕ → ℤ). f (n + length rows + e)) (h i q)
-            ∙ t-messaged n (length rows) s place (t i) (message o (t i) d) (column lanes a i) d (r .edges, room) e p
-            ∙ ap (λ (f : ℕ → ℤ). f e) (wrote-same (λ k. place + k) (t i) (t′ i) (λ e. column lanes a i (n + length rows + e)) d (λ k b. t-same n (length rows) (var rows) s (column lanes a i) d inside k b));
-        old-rows =
-            λ i q e p. ap (λ (f : ℕ → ℤ). f (n + 2 * length rows + e)) (h i q)
-            ∙ old-messaged n (length rows) s place (t i) (message o (t i) d) (column lanes a i) d (r .edges, room) e p
-            ∙ ap (λ (f : ℕ → ℤ). f e) (wrote-same (λ k. place + k) _ _ (λ e. column lanes a i (n + 2 * length rows + e)) d (λ k b. old-same i k b));
-        rest = λ i q u p. ap (λ (f : ℕ → ℤ). f u) (h i q) ∙ messaged-rest n (length rows) s place (t i) (message o (t i) d) (column lanes a i) d (r .edges, room) u p;
-      }
-    where
-      t : ℕ → ℕ → ℤ
-      t i = tAt (var rows) s n (column lanes a i)
-
-      t′ : ℕ → ℕ → ℤ
-      t′ i = tOf (var rows) s (word n (length rows) lanes a i .L) (word n (length rows) lanes a i .r)
-
-      word-is : (i : ℕ) → i < lanes → word n (length rows) lanes a′ i ≡ record { L = word n (length rows) lanes a i .L; r = wrote (λ k. s + k) (message o (t′ i) d) (word n (length rows) lanes a i .r) d }
-      word-is i q =
-          ap (wordOf n (length rows)) (h i q)
-          ∙ word-messaged n (length rows) s place (t i) (message o (t i) d) (column lanes a i) d (r .edges, room)
-          ∙ (λ j. record {
-            L = word n (length rows) lanes a i .L;
-            r = wrote-same (λ k. s + k) _ _ (word n (length rows) lanes a i .r) d (λ k b. message-is n (length rows) (var rows) s o (column lanes a i) d inside k) j;
-          })
-
-      old-same : (i k : ℕ) → k < d → column lanes a i (n + (s + k)) ≡ word n (length rows) lanes a i .r (s + k)
-      old-same i k b = sym (within-at (length rows) (λ e. column lanes a i (n + e)) (s + k) (omega (arith, r .edges)))
 
   -- a lane's sign is its word's
   pub sign-parity : (i : ℕ) → unsatisfied (var rows) s d (column lanes a i) ≡ unsatisfied (var rows) s d (word n (length rows) lanes a i .L)

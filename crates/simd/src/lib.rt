@@ -8,11 +8,11 @@ ghost use lib.ListN.{length};
 ghost use Rattle.lane16.specs.Lanes.{NoneNegative};
 ghost use Rattle.lane_memory.specs.Column.{Part};
 ghost use Rattle.lane_memory.specs.Room.{var, Room, Width};
-ghost use Rattle.simd.specs.Pass.{Scan, Replied, Kept, Flipped, Signs, checkColumn, messagesColumn};
-ghost use Rattle.simd.specs.Words.{CheckNode, CheckMessages, SignParity};
+ghost use Rattle.simd.specs.Pass.{Scan, Replied, Flipped, Signs, checkColumn};
+ghost use Rattle.simd.specs.Words.{CheckNode, SignParity};
 
 // The first pass over a check's edges; edge k's t goes to row k of t, which has sixteen lanes.
-fn scan(
+pub fn scan(
     rows: &[u32],
     s: usize,
     d: usize,
@@ -128,101 +128,6 @@ pub fn check_node(
     while at < lanes {
         let w = lane_memory::width(lanes - at);
         chunk(rows, s, d, a, t, n, lanes, at, w, offset);
-        at += w;
-    }
-}
-
-// The second pass of the layered schedule: each edge's t and old message go to the rows of the run's edges, from `place` on, then its new
-// message to its own; L is left.
-fn keep(
-    rows: &[u32],
-    s: usize,
-    d: usize,
-    a: &mut [i8],
-    t: &[i8],
-    n: usize,
-    lanes: usize,
-    at: usize,
-    w: usize,
-    place: usize,
-    sign: [i8; 16],
-    min1: [u8; 16],
-    m1: [i8; 16],
-    m2: [i8; 16],
-)
-    requires { ⌜ Room (now rows) s d n lanes (now a) ⌝ }
-    requires { ⌜ (at + w ≤ lanes) × (Width w × (2048 ≤ length (now t))) ⌝ }
-    requires { ⌜ place + d ≤ length (now rows) ⌝ }
-    requires { ⌜ NoneNegative m1 × NoneNegative m2 ⌝ }
-    ensures { λ _. ⌜ Kept w s n (length (now (rows .entry))) place lanes at (now (t .entry)) sign min1 m1 m2 (now (a .entry)) d (now (a .exit)) ⌝ }
-{
-    let edges = rows.len();
-    let mut k: usize = 0;
-    while k < d {
-        let e = s + k;
-        let u = n + e;
-        let x = lane_memory::load(t, k, 16, 0);
-        let old = lane_memory::load(a, u, lanes, at);
-        let p = lane16::reply(x, sign, min1, m1, m2);
-        let m = p.m;
-        let f = place + k;
-        let tu = n + edges + f;
-        lane_memory::store_lanes(a, tu, lanes, at, x, w);
-        let ou = n + 2 * edges + f;
-        lane_memory::store_lanes(a, ou, lanes, at, old, w);
-        lane_memory::store_lanes(a, u, lanes, at, m, w);
-        k += 1;
-    }
-}
-
-fn messages_chunk(
-    rows: &[u32],
-    s: usize,
-    d: usize,
-    a: &mut [i8],
-    t: &mut [i8],
-    n: usize,
-    lanes: usize,
-    at: usize,
-    w: usize,
-    place: usize,
-    offset: i8,
-)
-    requires { ⌜ Room (now rows) s d n lanes (now a) ⌝ }
-    requires { ⌜ (at + w ≤ lanes) × (Width w × (2048 ≤ length (now t))) ⌝ }
-    requires { ⌜ place + d ≤ length (now rows) ⌝ }
-    ensures { λ _. ⌜ Part (messagesColumn offset (var (now (rows .entry))) s d n (length (now (rows .entry))) place) w lanes at (now (a .entry)) (now (a .exit)) ⌝ }
-{
-    let pass = scan(rows, s, d, a, t, n, lanes, at);
-    let min1 = pass.min1;
-    let min2 = pass.min2;
-    let sign = pass.sign;
-    let m1 = lane16::reduce(min1, offset);
-    let m2 = lane16::reduce(min2, offset);
-    keep(rows, s, d, a, t, n, lanes, at, w, place, sign, min1, m1, m2);
-}
-
-// The messages of one check of every lane's word, for a run of the layered schedule. Its edge k's t and old message go to the rows
-// n + E + place + k and n + 2E + place + k.
-pub fn check_messages(
-    rows: &[u32],
-    s: usize,
-    d: usize,
-    a: &mut [i8],
-    t: &mut [i8],
-    n: usize,
-    lanes: usize,
-    place: usize,
-    offset: i8,
-)
-    requires { ⌜ Room (now rows) s d n lanes (now a) ⌝ }
-    requires { ⌜ (2048 ≤ length (now t)) × (place + d ≤ length (now rows)) ⌝ }
-    ensures { λ _. ⌜ CheckMessages (now (rows .entry)) s d n lanes place offset (now (a .entry)) (now (a .exit)) ⌝ }
-{
-    let mut at: usize = 0;
-    while at < lanes {
-        let w = lane_memory::width(lanes - at);
-        messages_chunk(rows, s, d, a, t, n, lanes, at, w, place, offset);
         at += w;
     }
 }

@@ -9,10 +9,10 @@ use mir.Val.{toZ, ofZ}
 use Rattle.laws.specs.Signed.{plain}
 use Rattle.lane_memory.specs.Column.{Upto, upto-start, upto-again, upto-end}
 use Rattle.lane_memory.specs.Room.{var, room-to}
-use Rattle.simd.specs.Pass.{messagesColumn}
-use Rattle.simd.specs.Words.{CheckMessages, check-messages}
-use Rattle.simd.proofs.check_messages.Statement.{statement}
-use Rattle.simd.proofs.check_messages.Tie as tie
+use Rattle.simd_layered.specs.Pass.{messagesColumn}
+use Rattle.simd_layered.specs.Words.{CheckMessages, check-messages}
+use Rattle.simd_layered.proofs.check_messages.Statement.{statement}
+use Rattle.simd_layered.proofs.check_messages.Tie as tie
 
 abbrev Inv-loop : tie.InvT-loop
 Inv-loop rows s d a₀ t₀ n lanes place offset at₀ a t at = (at ≤ lanes) × ((length a ≡ length a₀) × ((length t ≡ length t₀) × Upto (messagesColumn (toZ w8 offset) (var rows) s d n (length rows) place) lanes at a₀ a))

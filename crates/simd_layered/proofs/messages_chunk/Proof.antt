@@ -2,9 +2,9 @@ use native.Mathlib.Omega.{arith}
 use borrow.Author.Needs.{needs}
 use Rattle.laws.specs.Signed.{plain}
 use Rattle.lane16.specs.Lanes.{reduced-to, reduced-none-negative}
-use Rattle.simd.specs.Pass.{messages-chunk-is}
-use Rattle.simd.proofs.messages_chunk.Statement.{statement}
-use Rattle.simd.proofs.messages_chunk.Tie as tie
+use Rattle.simd_layered.specs.Pass.{messages-chunk-is}
+use Rattle.simd_layered.proofs.messages_chunk.Statement.{statement}
+use Rattle.simd_layered.proofs.messages_chunk.Tie as tie
 
 scan-requires : tie.Need-scan-requires
 scan-requires c κs = search needs

@@ -4,9 +4,9 @@ use mathlib.Core.Path.{_≡_, refl}
 use Prim.Native.Nat.{ℕ, _+_, _*_, _-_, _≤_, _<_}
 use lib.ListN.{length}
 use Rattle.lane_memory.specs.Room.{row-room, load-room, row-fits}
-use Rattle.simd.specs.Pass.{Kept, kept-start, kept-again, kept-end}
-use Rattle.simd.proofs.keep.Statement.{statement}
-use Rattle.simd.proofs.keep.Tie as tie
+use Rattle.simd_layered.specs.Pass.{Kept, kept-start, kept-again, kept-end}
+use Rattle.simd_layered.proofs.keep.Statement.{statement}
+use Rattle.simd_layered.proofs.keep.Tie as tie
 
 abbrev Inv-loop : tie.InvT-loop
 Inv-loop rows s d a₀ t n lanes at w place sign min1 m1 m2 edges k₀ a k = (k ≤ d) × ((length a ≡ length a₀) × Kept w s n (length rows) place lanes at t sign min1 m1 m2 a₀ k a)

@@ -1,0 +1,3 @@
+-- The layered schedule's kernels by columns, and their column laws.
+pub mod Pass
+pub mod Words

@@ -1,0 +1,158 @@
+// A check's messages, and its values after them, for a run of the layered schedule. The memory is that of simd: the E rows from n + E are
+// the t of a run's edges, those from n + 2E their old messages, and `place` is where the check's begin among them.
+ghost use Prim.Native.Nat.{_≤_, _+_, _*_};
+ghost use lib.ListN.{length};
+ghost use Rattle.lane16.specs.Lanes.{NoneNegative};
+ghost use Rattle.lane_memory.specs.Column.{Part};
+ghost use Rattle.lane_memory.specs.Room.{var, Room, Width};
+ghost use Rattle.simd_layered.specs.Pass.{Kept, messagesColumn, applied};
+ghost use Rattle.simd_layered.specs.Words.{CheckMessages, ApplyMessages};
+
+// The second pass of the layered schedule: each edge's t and old message go to the rows of the run's edges, from `place` on, then its new
+// message to its own; L is left.
+fn keep(
+    rows: &[u32],
+    s: usize,
+    d: usize,
+    a: &mut [i8],
+    t: &[i8],
+    n: usize,
+    lanes: usize,
+    at: usize,
+    w: usize,
+    place: usize,
+    sign: [i8; 16],
+    min1: [u8; 16],
+    m1: [i8; 16],
+    m2: [i8; 16],
+)
+    requires { ⌜ Room (now rows) s d n lanes (now a) ⌝ }
+    requires { ⌜ (at + w ≤ lanes) × (Width w × (2048 ≤ length (now t))) ⌝ }
+    requires { ⌜ place + d ≤ length (now rows) ⌝ }
+    requires { ⌜ NoneNegative m1 × NoneNegative m2 ⌝ }
+    ensures { λ _. ⌜ Kept w s n (length (now (rows .entry))) place lanes at (now (t .entry)) sign min1 m1 m2 (now (a .entry)) d (now (a .exit)) ⌝ }
+{
+    let edges = rows.len();
+    let mut k: usize = 0;
+    while k < d {
+        let e = s + k;
+        let u = n + e;
+        let x = lane_memory::load(t, k, 16, 0);
+        let old = lane_memory::load(a, u, lanes, at);
+        let p = lane16::reply(x, sign, min1, m1, m2);
+        let m = p.m;
+        let f = place + k;
+        let tu = n + edges + f;
+        lane_memory::store_lanes(a, tu, lanes, at, x, w);
+        let ou = n + 2 * edges + f;
+        lane_memory::store_lanes(a, ou, lanes, at, old, w);
+        lane_memory::store_lanes(a, u, lanes, at, m, w);
+        k += 1;
+    }
+}
+
+fn messages_chunk(
+    rows: &[u32],
+    s: usize,
+    d: usize,
+    a: &mut [i8],
+    t: &mut [i8],
+    n: usize,
+    lanes: usize,
+    at: usize,
+    w: usize,
+    place: usize,
+    offset: i8,
+)
+    requires { ⌜ Room (now rows) s d n lanes (now a) ⌝ }
+    requires { ⌜ (at + w ≤ lanes) × (Width w × (2048 ≤ length (now t))) ⌝ }
+    requires { ⌜ place + d ≤ length (now rows) ⌝ }
+    ensures { λ _. ⌜ Part (messagesColumn offset (var (now (rows .entry))) s d n (length (now (rows .entry))) place) w lanes at (now (a .entry)) (now (a .exit)) ⌝ }
+{
+    let pass = simd::scan(rows, s, d, a, t, n, lanes, at);
+    let min1 = pass.min1;
+    let min2 = pass.min2;
+    let sign = pass.sign;
+    let m1 = lane16::reduce(min1, offset);
+    let m2 = lane16::reduce(min2, offset);
+    keep(rows, s, d, a, t, n, lanes, at, w, place, sign, min1, m1, m2);
+}
+
+// The messages of one check of every lane's word, for a run of the layered schedule. Its edge k's t and old message go to the rows
+// n + E + place + k and n + 2E + place + k.
+pub fn check_messages(
+    rows: &[u32],
+    s: usize,
+    d: usize,
+    a: &mut [i8],
+    t: &mut [i8],
+    n: usize,
+    lanes: usize,
+    place: usize,
+    offset: i8,
+)
+    requires { ⌜ Room (now rows) s d n lanes (now a) ⌝ }
+    requires { ⌜ (2048 ≤ length (now t)) × (place + d ≤ length (now rows)) ⌝ }
+    ensures { λ _. ⌜ CheckMessages (now (rows .entry)) s d n lanes place offset (now (a .entry)) (now (a .exit)) ⌝ }
+{
+    let mut at: usize = 0;
+    while at < lanes {
+        let w = lane_memory::width(lanes - at);
+        messages_chunk(rows, s, d, a, t, n, lanes, at, w, place, offset);
+        at += w;
+    }
+}
+
+// A check's values after its messages, of the w lanes from `at`.
+fn apply_chunk(
+    rows: &[u32],
+    s: usize,
+    d: usize,
+    a: &mut [i8],
+    n: usize,
+    lanes: usize,
+    at: usize,
+    w: usize,
+    place: usize,
+)
+    requires { ⌜ Room (now rows) s d n lanes (now a) ⌝ }
+    requires { ⌜ (at + w ≤ lanes) × (Width w × (place + d ≤ length (now rows))) ⌝ }
+    ensures { λ _. ⌜ Part (applied n (length (now (rows .entry))) (var (now (rows .entry))) s place d) w lanes at (now (a .entry)) (now (a .exit)) ⌝ }
+{
+    let edges = rows.len();
+    let mut k: usize = 0;
+    while k < d {
+        let e = s + k;
+        let v = lane_memory::variable(rows, e);
+        let f = place + k;
+        let tu = n + edges + f;
+        let x = lane_memory::load(a, tu, lanes, at);
+        let u = n + e;
+        let m = lane_memory::load(a, u, lanes, at);
+        let y = lane16::add(x, m);
+        lane_memory::store_lanes(a, v, lanes, at, y, w);
+        k += 1;
+    }
+}
+
+// The values of one check's variables, of every lane's word, after the messages of its run: L = sat(t + message), edges in order.
+pub fn apply_messages(
+    rows: &[u32],
+    s: usize,
+    d: usize,
+    a: &mut [i8],
+    n: usize,
+    lanes: usize,
+    place: usize,
+)
+    requires { ⌜ Room (now rows) s d n lanes (now a) ⌝ }
+    requires { ⌜ place + d ≤ length (now rows) ⌝ }
+    ensures { λ _. ⌜ ApplyMessages (now (rows .entry)) s d n lanes place (now (a .entry)) (now (a .exit)) ⌝ }
+{
+    let mut at: usize = 0;
+    while at < lanes {
+        let w = lane_memory::width(lanes - at);
+        apply_chunk(rows, s, d, a, n, lanes, at, w, place);
+        at += w;
+    }
+}
