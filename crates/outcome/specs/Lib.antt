@@ -1,0 +1,3 @@
+-- One word: the code as an iteration sees it, the word's values, its bits and its outcome.
+pub mod Code
+pub mod Outcome

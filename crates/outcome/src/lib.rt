@@ -1,0 +1,1 @@
+// One word of a run: its outcome from its values.
