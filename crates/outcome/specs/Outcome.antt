@@ -1,18 +1,23 @@
 -- A word's outcome, from its values: "its hard decisions at the end, with the BCH part as BCH leaves it; met if every check was met before
 -- BCH, else unmet; its iterations; how many checks were unsatisfied before BCH; the BCH result".
-use mathlib.Core.Bool.{Bool, cond}
+use mathlib.Core.Bool.{Bool, cond, _||_}
 use mathlib.Core.List.{List, [], _∷_, _++_}
-use Prim.Native.Nat.{ℕ, zero, suc, _+_}
+use mathlib.Core.Path.{_≡_}
+use Prim.Native.Nat.{ℕ, zero, suc, _+_, _*_, _<_}
 use lib.Dec.{eqb}
 use lib.IntN.{ℤ, pos}
 use lib.ListN.{getD, take, drop}
 use Rattle.lane_math.specs.Check.{Word}
-use Rattle.lane_math.specs.Iteration.{Code, hard, unsatisfiedCount}
+use Rattle.lane_math.specs.Iteration.{Code, degree, hard, unsatisfied, unsatisfiedCount}
 use Rattle.simd.specs.Words.{within}
 use Rattle.schedule.specs.Alone.{after, ends}
 use Rattle.bch.specs.Answers.{decodedOf, wordOut}
 use Rattle.bch.specs.declared.Decoded.{Decoded}
 use Rattle.bch.specs.declared.Decoded.the-variants.{Corrected, Uncorrectable, Refused}
+
+-- word w's own soft values, of all the words' values one after the other
+unfoldable pub ownWord : ℕ → ℕ → List ℤ → List ℤ
+ownWord n w soft = take n (drop (w * n) soft)
 
 -- "A word alone starts with its soft values as L, every message 0": its n soft values
 unfoldable pub begin : ℕ → List ℤ → Word
@@ -33,6 +38,15 @@ unmetOf code p x = unsatisfiedCount code p (x .L)
 unfoldable pub metOf : Code → ℕ → Word → Bool
 metOf code p x = eqb (unmetOf code p x) 0
 
+-- whether the values L leave check c unsatisfied: 1, else 0
+abbrev pub unmetAt : Code → (ℕ → ℤ) → ℕ → ℕ
+unmetAt code L c = unsatisfied (code .rows) (code .row-start c) (degree code c) L
+
+-- "one unsatisfied check (any; 0 if none)": what holds of the check that a record names, of p checks and the values x that were counted
+pub record Names (code : Code) (p : ℕ) (x : Word) (check : ℕ) : Type 0 where
+  pub some : 0 < unmetOf code p x → (check < p) × (unmetAt code (x .L) check ≡ 1)
+  pub none : unmetOf code p x ≡ 0 → check ≡ 0
+
 -- "A finished word's BCH part, `first` and `length`, is then corrected inside the output."
 unfoldable pub corrected : ℕ → ℕ → List ℕ → List ℕ
 corrected first size b = take first b ++ (wordOut (take size (drop first b)) ++ drop (first + size) b)
@@ -49,7 +63,25 @@ resultOf (Refused k) = lost
 unfoldable pub bchOf : ℕ → ℕ → List ℕ → ℕ
 bchOf first size b = resultOf (decodedOf (take size (drop first b)))
 
--- all of a finished word's record but the named check, and its bits. States: 2 met, 3 unmet
+-- a finished word's state: "2 met, 3 unmet"
+abbrev pub stateOf : Bool → ℕ
+stateOf met = cond met 2 3
+
+unfoldable pub isFinished : ℕ → Bool
+isFinished state = eqb state 2 || eqb state 3
+
+-- "A finished word is lost if BCH refuses, else kept": by its state and its BCH result
+unfoldable pub isLost : ℕ → ℕ → Bool
+isLost state bch = eqb bch lost
+
+-- what a word's record adds to the tally's `lost` and to its `kept`: words that wait or are held are neither
+unfoldable pub lostOf : ℕ → ℕ → ℕ
+lostOf state bch = cond (isFinished state) (cond (isLost state bch) 1 0) 0
+
+unfoldable pub keptOf : ℕ → ℕ → ℕ
+keptOf state bch = cond (isFinished state) (cond (isLost state bch) 0 1) 0
+
+-- all of a finished word's record but the named check, and its bits
 pub record Outcome : Type 0 where
   pub bits : List ℕ
   pub state : ℕ
@@ -62,7 +94,7 @@ unfoldable pub outcomeOf : Code → ℕ → ℕ → ℕ → ℕ → Word → ℕ
 outcomeOf code n p first size x i =
     record {
       bits = corrected first size (bitsOf n x);
-      state = cond (metOf code p x) 2 3;
+      state = stateOf (metOf code p x);
       iterations = i;
       unsatisfied = unmetOf code p x;
       bch = bchOf first size (bitsOf n x);

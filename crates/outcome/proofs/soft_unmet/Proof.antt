@@ -1,0 +1,92 @@
+use mathlib.Core.Logic.{⊎-elim}
+use Rattle.ldpc_shape.specs.Accepted.{accepted, p-le}
+use mathlib.Core.Bool.{true, false}
+use Prim.Native.Nat.{_-_, _≤_}
+use Rattle.ldpc_shape.specs.Shape.{pOf}
+use Rattle.outcome.specs.Code.{codeOf}
+use Rattle.outcome.specs.Outcome.{begin}
+use Rattle.outcome.specs.Index.{odd-is, listed}
+use Rattle.outcome.specs.Scan.{Counted, counted-start, counted-more, counted-same, counted-end, counted-le, named-le}
+use borrow.Author.Needs.{needs}
+use native.Mathlib.Omega.{arith}
+use Rattle.outcome.proofs.soft_unmet.Statement.{statement}
+use Rattle.outcome.proofs.soft_unmet.Tie as tie
+
+abbrev Inv-loop : tie.InvT-loop
+Inv-loop n lens addrs index soft p count₀ check₀ c₀ count check c = (c ≤ p) × Counted (codeOf n lens addrs) c (begin n soft) count check
+
+abbrev μ-loop : tie.MeasureT-loop
+μ-loop n lens addrs index soft p count₀ check₀ c₀ count check c = p - c
+
+checks-requires : tie.Need-checks-requires Inv-loop μ-loop
+checks-requires c κs = c .before .before .before .pre .code
+
+loop-holds : tie.Need-loop-holds Inv-loop μ-loop
+loop-holds c = let a = c .before .before .before .before .args in (search needs, counted-start (codeOf (a .n) (a .lens .now) (a .addrs .now)) (begin (a .n) (a .soft .now)))
+
+odd-requires : tie.Need-odd-requires Inv-loop μ-loop
+odd-requires c κs =
+    let k = c .before .before in
+    let s = k .before .before .before .before in
+    let a = s .args in
+    (c .loop-test .taken, listed (a .n) (a .lens .now) (a .addrs .now) (a .index .now) (a .soft .now) (s .pre) (k .checks .result) (k .checks .ensures))
+
+add-count : tie.Need-add-count Inv-loop μ-loop
+add-count c =
+    let h = c .before .before .before in
+    let k = h .before in
+    let s = k .before .before .before .before in
+    let a = s .args in
+    record { fits = omega (arith, counted-le (codeOf (a .n) (a .lens .now) (a .addrs .now)) (begin (a .n) (a .soft .now)) (h .loop .inv .1), h .loop .inv .0, k .checks .ensures, p-le (a .n) (a .lens .now) (a .addrs .now) (accepted _ _ _ (s .pre .code))) }
+
+add-c : tie.Need-add-c Inv-loop μ-loop
+add-c c = search needs
+
+loop-less : tie.Need-loop-less Inv-loop μ-loop
+loop-less c = search needs
+
+loop-again : tie.Need-loop-again Inv-loop μ-loop
+loop-again c =
+    let h = c .before .before .before in
+    let k = h .before in
+    let s = k .before .before .before .before in
+    let a = s .args in (
+      search needs,
+      ⊎-elim
+          (λ w. counted-more (codeOf (a .n) (a .lens .now) (a .addrs .now)) (begin (a .n) (a .soft .now)) (c .if1 .count) (c .if1 .check)
+          (odd-is (a .n) (a .lens .now) (a .addrs .now) (a .index .now) (a .soft .now) (s .pre) (k .checks .result) (h .loop .c) _ true (k .checks .ensures) (c .before .before .loop-test .taken) (c .before .odd .ensures) (w .0 .taken)) (h .loop .inv .1) (w .1) (w .2))
+          (λ w. counted-same (codeOf (a .n) (a .lens .now) (a .addrs .now)) (begin (a .n) (a .soft .now)) (c .if1 .count) (c .if1 .check)
+          (odd-is (a .n) (a .lens .now) (a .addrs .now) (a .index .now) (a .soft .now) (s .pre) (k .checks .result) (h .loop .c) _ false (k .checks .ensures) (c .before .before .loop-test .taken) (c .before .odd .ensures) (w .0 .left)) (h .loop .inv .1) (w .1) (w .2))
+          (c .if1 .came),
+    )
+
+cast-t12 : tie.Need-cast-t12 Inv-loop μ-loop
+cast-t12 c =
+    let h = c .before in
+    let k = h .before in
+    let s = k .before .before .before .before in
+    let a = s .args in
+    record { fits = omega (arith, named-le (codeOf (a .n) (a .lens .now) (a .addrs .now)) (begin (a .n) (a .soft .now)) (h .loop .inv .1), h .loop .inv .0, k .checks .ensures, p-le (a .n) (a .lens .now) (a .addrs .now) (accepted _ _ _ (s .pre .code))) }
+
+returns : tie.Need-returns Inv-loop μ-loop
+returns c =
+    let h = c .before in
+    let k = h .before in
+    let a = k .before .before .before .before .args in
+    counted-end (codeOf (a .n) (a .lens .now) (a .addrs .now)) (begin (a .n) (a .soft .now)) (pOf (a .n) (a .lens .now)) (omega (arith, c .loop-test .left, h .loop .inv .0, k .checks .ensures)) (h .loop .inv .1)
+
+pub soft-unmet-spec : {M : Type 1} → statement M
+soft-unmet-spec =
+    tie.close
+    (tie.spec
+    Inv-loop
+    μ-loop
+    checks-requires
+    loop-holds
+    odd-requires
+    add-count
+    add-c
+    loop-less
+    loop-again
+    cast-t12
+    returns)
