@@ -94,7 +94,7 @@ unfolding negatives
 negatives-again v s k L count b e f = ap₂ (λ (x y : ℕ). x + y) e f ∙ ap (λ (z : ℕ). negatives v s z L) (sym (add-one k))
 
 -- ---- a slice that holds an accepted code's lists
-module _ (n : ℕ) (lens addrs index : List ℕ) (soft : List ℤ) (G : Lent n lens addrs index soft) where
+module _ {n : ℕ} {lens addrs index : List ℕ} {soft : List ℤ} (G : Lent n lens addrs index soft) where
   ok : Accepted n lens addrs
   ok = accepted n lens addrs (G .code)
 

@@ -122,7 +122,7 @@ fn result_of(answer: Decoded) -> u32
 
 // A word's BCH part, `size` bits from `first` on, corrected inside it.
 pub fn correct(word: &mut [u8], first: usize, size: usize) -> u32
-    requires { ⌜ (first + size ≤ length (now word)) × ((193 ≤ size) × (size ≤ 65535)) ⌝ }
+    requires { ⌜ first + size ≤ length (now word) ⌝ }
     ensures result { λ r. ⌜ r ≡ bchOf first size (now (word .entry)) ⌝ }
     ensures bits { λ r. ⌜ now (word .exit) ≡ corrected first size (now (word .entry)) ⌝ }
 {

@@ -1,3 +1,5 @@
+use Rattle.lane_math.specs.Check.{Word}
+use Rattle.lane_math.specs.Iteration.{Code}
 use mathlib.Core.Path.{_≡_, sym}
 use mathlib.Core.Bool.{true, false}
 use Prim.Native.Nat.{_-_, _≤_}
@@ -17,18 +19,24 @@ Inv-loop n lens addrs index soft p c₀ c = (c ≤ p) × (unmetOf (codeOf n lens
 abbrev μ-loop : tie.MeasureT-loop
 μ-loop n lens addrs index soft p c₀ c = p - c
 
+-- the code and the word
+abbrev codeAt : tie.Start Inv-loop μ-loop → Code
+codeAt s = codeOf (s .args .n) (s .args .lens .now) (s .args .addrs .now)
+
+abbrev wordAt : tie.Start Inv-loop μ-loop → Word
+wordAt s = begin (s .args .n) (s .args .soft .now)
+
 checks-requires : tie.Need-checks-requires Inv-loop μ-loop
 checks-requires c κs = c .before .before .before .pre .code
 
 loop-holds : tie.Need-loop-holds Inv-loop μ-loop
-loop-holds c = let a = c .before .before .before .before .args in (search needs, met-start (codeOf (a .n) (a .lens .now) (a .addrs .now)) (begin (a .n) (a .soft .now)))
+loop-holds c = let s = c .before .before .before .before in (search needs, met-start (codeAt s) (wordAt s))
 
 odd-requires : tie.Need-odd-requires Inv-loop μ-loop
 odd-requires c κs =
     let k = c .before .before in
     let s = k .before .before .before .before in
-    let a = s .args in
-    (c .loop-test .taken, listed (a .n) (a .lens .now) (a .addrs .now) (a .index .now) (a .soft .now) (s .pre) (k .checks .result) (k .checks .ensures))
+    (c .loop-test .taken, listed (s .pre) (k .checks .result) (k .checks .ensures))
 
 returns : tie.Need-returns Inv-loop μ-loop
 returns c =
@@ -36,8 +44,8 @@ returns c =
     let k = h .before in
     let s = k .before .before .before .before in
     let a = s .args in
-    sym (met-not (codeOf (a .n) (a .lens .now) (a .addrs .now)) (begin (a .n) (a .soft .now)) (h .loop .c) (pOf (a .n) (a .lens .now)) (omega (arith, c .before .before .loop-test .taken, k .checks .ensures))
-    (odd-is (a .n) (a .lens .now) (a .addrs .now) (a .index .now) (a .soft .now) (s .pre) (k .checks .result) (h .loop .c) _ true (k .checks .ensures) (c .before .before .loop-test .taken) (c .before .odd .ensures) (c .if1 .taken)))
+    sym (met-not (codeAt s) (wordAt s) (h .loop .c) (pOf (a .n) (a .lens .now)) (omega (arith, c .before .before .loop-test .taken, k .checks .ensures))
+    (odd-is (s .pre) (k .checks .result) (h .loop .c) _ true (k .checks .ensures) (c .before .before .loop-test .taken) (c .before .odd .ensures) (c .if1 .taken)))
 
 add-c : tie.Need-add-c Inv-loop μ-loop
 add-c c = search needs
@@ -49,18 +57,18 @@ loop-again : tie.Need-loop-again Inv-loop μ-loop
 loop-again c =
     let h = c .before .before .before in
     let k = h .before in
-    let s = k .before .before .before .before in
-    let a = s .args in (
+    let s = k .before .before .before .before in (
       search needs,
-      met-again (codeOf (a .n) (a .lens .now) (a .addrs .now)) (begin (a .n) (a .soft .now)) (h .loop .c) (odd-is (a .n) (a .lens .now) (a .addrs .now) (a .index .now) (a .soft .now) (s .pre) (k .checks .result) (h .loop .c) _ false (k .checks .ensures) (c .before .before .loop-test .taken) (c .before .odd .ensures) (c .if1 .left)) (h .loop .inv .1),
+      met-again (codeAt s) (wordAt s) (h .loop .c) (odd-is (s .pre) (k .checks .result) (h .loop .c) _ false (k .checks .ensures) (c .before .before .loop-test .taken) (c .before .odd .ensures) (c .if1 .left)) (h .loop .inv .1),
     )
 
 returns-2 : tie.Need-returns-2 Inv-loop μ-loop
 returns-2 c =
     let h = c .before in
     let k = h .before in
-    let a = k .before .before .before .before .args in
-    sym (met-end (codeOf (a .n) (a .lens .now) (a .addrs .now)) (begin (a .n) (a .soft .now)) (h .loop .c) (pOf (a .n) (a .lens .now)) (omega (arith, c .loop-test .left, h .loop .inv .0, k .checks .ensures)) (h .loop .inv .1))
+    let s = k .before .before .before .before in
+    let a = s .args in
+    sym (met-end (codeAt s) (wordAt s) (h .loop .c) (pOf (a .n) (a .lens .now)) (omega (arith, c .loop-test .left, h .loop .inv .0, k .checks .ensures)) (h .loop .inv .1))
 
 pub soft-met-spec : {M : Type 1} → statement M
 soft-met-spec =
