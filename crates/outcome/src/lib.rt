@@ -65,7 +65,7 @@ pub fn soft_met(n: u32, lens: &[u32], addrs: &[u16], index: &[u32], soft: &[i8])
     ensures { λ r. ⌜ r ≡ metOf (codeOf n (now (lens .entry)) (now (addrs .entry))) (pOf n (now (lens .entry))) (begin n (now (soft .entry))) ⌝ }
 {
     let p = checks(n, lens, addrs);
-    let mut c: usize = 0;
+    let mut c = 0;
     while c < p {
         if odd(index, p, c, soft) {
             return false;
