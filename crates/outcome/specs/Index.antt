@@ -1,20 +1,20 @@
 -- The code's lists as they lie in one slice, P + 1 starts and then the variables, and the soft values of one word.
 use mathlib.Core.Path.{_≡_, refl, sym, ap, ap₂, _∙_, subst}
 use mathlib.Core.Bool.{Bool, true, false, cond}
-use mathlib.Core.List.{List, [], _++_, append-nil}
+use mathlib.Core.List.{List, [], append-nil}
 use Prim.Native.Nat.{ℕ, zero, suc, _+_, _-_, _%_, _≤_, _<_}
 use native.Mathlib.Omega.{arith}
 use native.Mathlib.Numerals.{add-one}
 use borrow.Author.Tests.{ltb-false}
 use lib.Dec.{ltb, eqb}
 use lib.IntN.{ℤ, pos}
-use lib.ListN.{length, getD, length-append, take, drop, List·getD-append, List·getD-eq-default}
+use lib.ListN.{length, getD, drop, List·getD-append, List·getD-eq-default}
 use lib.Seq.{getD-append-add, getD-take, getD-drop}
 use Rattle.ldpc_shape.specs.Shape.{pOf, eOf, refusalOf}
 use Rattle.ldpc_shape.specs.Accepted.{Accepted, accepted}
 use Rattle.ldpc_edges.specs.Code.{check, rowStart, rows, edgeLists}
-use Rattle.ldpc_edges.specs.Layout.{Laid, laid, start-length, rows-length, lists-length}
-use Rattle.lane_math.specs.Iteration.{Code, degree, hard, negatives, unsatisfied}
+use Rattle.ldpc_edges.specs.Layout.{Laid, laid, start-length, lists-length}
+use Rattle.lane_math.specs.Iteration.{Code, hard, negatives, unsatisfied}
 use Rattle.laws.specs.Signed.{negative}
 use Rattle.laws.specs.Choice.{by-cond}
 use Rattle.simd.specs.Words.{within}

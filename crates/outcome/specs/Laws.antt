@@ -1,27 +1,28 @@
 -- What holds of a word's bits, of its corrected bits, of its own soft values, and of a lane that holds it from its start.
-use mathlib.Core.Path.{_≡_, refl, sym, ap, ap₂, _∙_, subst}
-use mathlib.Core.Logic.{ite, if-pos, if-neg}
-use mathlib.Core.Bool.{Bool, true, false, cond, _||_}
+use mathlib.Core.Path.{_≡_, refl, sym, ap, ap₂, _∙_}
+use mathlib.Core.Logic.{if-pos, if-neg}
+use mathlib.Core.Bool.{Bool, true, false, cond}
 use mathlib.Core.List.{List, [], _∷_, _++_}
 use Prim.Native.Nat.{ℕ, zero, suc, _+_, _-_, _*_, _≤_, _<_}
 use native.Mathlib.Omega.{arith}
 use native.Mathlib.Decide.{ℕ-discrete, decLe, decLt}
 use native.Mathlib.Numerals.{add-one}
 use borrow.Author.Tests.{ltb-true}
-use lib.Dec.{ltb, eqb}
+use lib.Dec.{ltb}
 use lib.IntN.{ℤ, pos}
-use lib.ListN.{length, getD, take, drop, set, length-append, length-take, length-drop}
+use lib.ListN.{length, getD, take, drop, set, length-append, length-take, length-drop, List·getD-eq-default}
 use lib.Seq.{getD-take, getD-drop, length-take-le, take-suc-set, take-all, drop-drop}
 use Rattle.lane_math.specs.Check.{Word}
 use Rattle.lane_math.specs.Iteration.{hard}
 use Rattle.simd.specs.Words.{within, wordOf}
+use Rattle.ldpc_edges.specs.Encoder.{Bits}
 use Rattle.bch_remainder.specs.Word.{remainderOf}
 use Rattle.bch.specs.Decode.{register, leftBy, leftOf, flipped}
 use Rattle.bch.specs.Flips.{flipped-length}
 use Rattle.bch.specs.Answers.{outIf, wordRefusal, wordOut, decodedOf}
 use Rattle.bch.specs.declared.Decoded.{Decoded}
 use Rattle.outcome.specs.Outcome.{ownWord, begin, bitsFrom, bitsOf, corrected, resultOf, bchOf, isFinished, isLost, lostOf, keptOf}
-use Rattle.outcome.specs.Index.{hard-le, values, begin-values}
+use Rattle.outcome.specs.Index.{hard-le, values}
 
 -- ---- hard decisions
 bits-from-length : (x : Word) (v m : ℕ) → length (bitsFrom x v m) ≡ m
@@ -46,8 +47,12 @@ unfolding bitsOf
 bits-at n x i h = let e : 0 + i ≡ i = omega arith in bits-from-at x 0 n i h ∙ ap (λ (z : ℕ). hard (x .L z)) e
 
 -- they are 0 or 1
-pub bits-le : (n : ℕ) (x : Word) (i : ℕ) → i < n → getD (bitsOf n x) i 0 ≤ 1
-bits-le n x i h = omega (arith, bits-at n x i h, hard-le (x .L i))
+pub bits-are : (n : ℕ) (x : Word) → Bits (bitsOf n x)
+bits-are n x i = go (decLt i n)
+  where
+    go : Dec (i < n) → getD (bitsOf n x) i 0 < 2
+    go (yes h) = omega (arith, bits-at n x i h, hard-le (x .L i))
+    go (no h) = omega (arith, List·getD-eq-default (bitsOf n x) 0 {n = i} (omega (arith, bits-length n x)))
 
 bits-from-snoc : (x : Word) (v m : ℕ) → bitsFrom x v (suc m) ≡ bitsFrom x v m ++ (hard (x .L (v + m)) ∷ [])
 unfolding bitsFrom

@@ -1,15 +1,14 @@
 -- The checks gone through one after the other: the verdict, the count and the named check.
 use mathlib.Core.Path.{_≡_, refl, sym, ap, _∙_, subst}
-use mathlib.Core.Bool.{Bool, true, false, cond}
-use Prim.Native.Nat.{ℕ, zero, suc, _+_, _-_, _≤_, _<_, _%_}
+use mathlib.Core.Bool.{true, false}
+use Prim.Native.Nat.{ℕ, zero, suc, _+_, _-_, _≤_, _<_}
 use native.Mathlib.Omega.{arith}
 use native.Mathlib.Numerals.{add-one}
 use native.Mathlib.Decide.{decLt}
 use borrow.Author.Tests.{eqb-true, eqb-false, eq-eqb, ne-eqb}
 use lib.Dec.{eqb}
-use lib.IntN.{ℤ}
 use Rattle.lane_math.specs.Check.{Word}
-use Rattle.lane_math.specs.Iteration.{Code, degree, unsatisfied, unsatisfiedCount}
+use Rattle.lane_math.specs.Iteration.{Code, unsatisfied, unsatisfiedCount}
 use Rattle.outcome.specs.Outcome.{unmetOf, metOf, unmetAt, Names}
 
 -- what a count promises: how many of p checks the values x leave unsatisfied, and one of them
@@ -87,13 +86,13 @@ module _ (code : Code) (x : Word) where
   pub counted-end : {c count check : ℕ} (p : ℕ) → c ≡ p → Counted code c x count check → Counted code p x count check
   counted-end {c} {count} {check} p e k = subst (λ (z : ℕ). Counted code z x count check) e k
 
-  few : (c : ℕ) → unmetOf code c x ≤ c
+  pub unmet-few : (c : ℕ) → unmetOf code c x ≤ c
   unfolding unmetOf unsatisfiedCount
-  few zero = omega arith
-  few (suc c) = omega (arith, few c, unmet-le c)
+  unmet-few zero = omega arith
+  unmet-few (suc c) = omega (arith, unmet-few c, unmet-le c)
 
   pub counted-le : {c count check : ℕ} → Counted code c x count check → count ≤ c
-  counted-le {c} {count} {check} k = omega (arith, k .all, few c)
+  counted-le {c} {count} {check} k = omega (arith, k .all, unmet-few c)
 
   pub named-le : {c count check : ℕ} → Counted code c x count check → check ≤ c
   named-le {c} {count} {check} k = go (decLt 0 (unmetOf code c x))

@@ -1,8 +1,7 @@
 // One word of a run: its outcome from its values. What its soft values meet before any iteration, its bits, and its BCH part corrected.
 use bch::Decoded;
 ghost use mathlib.Core.Path.{_≡_};
-ghost use mathlib.Core.Bool.{Bool};
-ghost use Prim.Native.Nat.{ℕ, _+_, _<_, _≤_};
+ghost use Prim.Native.Nat.{_+_, _<_, _≤_};
 ghost use lib.Dec.{eqb};
 ghost use lib.ListN.{length, getD};
 ghost use Rattle.ldpc_shape.specs.Shape.{pOf, refusalOf};
