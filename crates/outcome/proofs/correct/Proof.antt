@@ -1,0 +1,48 @@
+use mathlib.Core.Path.{_∙_}
+use Rattle.outcome.specs.Laws.{result-whole, corrected-whole}
+use borrow.Author.Needs.{needs}
+use Rattle.outcome.proofs.correct.Statement.{statement}
+use Rattle.outcome.proofs.correct.Tie as tie
+
+add-end : tie.Need-add-end
+add-end c = search needs
+
+sub-decode : tie.Need-sub-decode
+sub-decode c = search needs
+
+part-decode-start : tie.Need-part-decode-start
+part-decode-start c = search needs
+
+part-decode-end : tie.Need-part-decode-end
+part-decode-end c = search needs
+
+decode-requires : tie.Need-decode-requires
+decode-requires c κs = search needs
+
+result-of-requires : tie.Need-result-of-requires
+result-of-requires c κs = search needs
+
+same-length : tie.Need-same-length
+same-length c = search needs
+
+returns : tie.Need-returns
+returns c =
+    let d = c .before .before .before in
+    let a = d .before .before .before .args in
+    let e = d .decode .ensures in (
+      c .result-of .ensures ∙ result-whole (a .first) (a .size) (a .word .now) _ (e .answer),
+      corrected-whole (a .first) (a .size) (a .word .now) (d .decode .last .0) (e .word),
+    )
+
+pub correct-spec : {M : Type 1} → statement M
+correct-spec =
+    tie.close
+    (tie.spec
+    add-end
+    sub-decode
+    part-decode-start
+    part-decode-end
+    decode-requires
+    result-of-requires
+    same-length
+    returns)

@@ -1,0 +1,107 @@
+-- A word's outcome, from its values: "its hard decisions at the end, with the BCH part as BCH leaves it; met if every check was met before
+-- BCH, else unmet; its iterations; how many checks were unsatisfied before BCH; the BCH result".
+use mathlib.Core.Bool.{Bool, cond, _||_}
+use mathlib.Core.List.{List, [], _∷_, _++_}
+use mathlib.Core.Path.{_≡_}
+use Prim.Native.Nat.{ℕ, zero, suc, _+_, _*_, _<_}
+use lib.Dec.{eqb}
+use lib.IntN.{ℤ, pos}
+use lib.ListN.{getD, take, drop}
+use Rattle.lane_math.specs.Check.{Word}
+use Rattle.lane_math.specs.Iteration.{Code, degree, hard, unsatisfied, unsatisfiedCount}
+use Rattle.simd.specs.Words.{within}
+use Rattle.schedule.specs.Alone.{after, ends}
+use Rattle.bch.specs.Answers.{decodedOf, wordOut}
+use Rattle.bch.specs.declared.Decoded.{Decoded}
+use Rattle.bch.specs.declared.Decoded.the-variants.{Corrected, Uncorrectable, Refused}
+
+-- word w's own soft values, of all the words' values one after the other
+unfoldable pub ownWord : ℕ → ℕ → List ℤ → List ℤ
+ownWord n w soft = take n (drop (w * n) soft)
+
+-- "A word alone starts with its soft values as L, every message 0": its n soft values
+unfoldable pub begin : ℕ → List ℤ → Word
+begin n soft = record { L = within n (λ v. getD soft v (pos 0)); r = λ e. pos 0 }
+
+-- its hard decisions, "1 where L < 0": m of them from variable v on
+unfoldable pub bitsFrom : Word → ℕ → ℕ → List ℕ
+bitsFrom x v zero = []
+bitsFrom x v (suc m) = hard (x .L v) ∷ bitsFrom x (suc v) m
+
+unfoldable pub bitsOf : ℕ → Word → List ℕ
+bitsOf n x = bitsFrom x 0 n
+
+-- how many of the p checks its values leave unsatisfied, and whether they meet every check
+unfoldable pub unmetOf : Code → ℕ → Word → ℕ
+unmetOf code p x = unsatisfiedCount code p (x .L)
+
+unfoldable pub metOf : Code → ℕ → Word → Bool
+metOf code p x = eqb (unmetOf code p x) 0
+
+-- whether the values L leave check c unsatisfied: 1, else 0
+abbrev pub unmetAt : Code → (ℕ → ℤ) → ℕ → ℕ
+unmetAt code L c = unsatisfied (code .rows) (code .row-start c) (degree code c) L
+
+-- "one unsatisfied check (any; 0 if none)": what holds of the check that a record names, of p checks and the values x that were counted
+pub record Names (code : Code) (p : ℕ) (x : Word) (check : ℕ) : Type 0 where
+  pub some : 0 < unmetOf code p x → (check < p) × (unmetAt code (x .L) check ≡ 1)
+  pub none : unmetOf code p x ≡ 0 → check ≡ 0
+
+-- "A finished word's BCH part, `first` and `length`, is then corrected inside the output."
+unfoldable pub corrected : ℕ → ℕ → List ℕ → List ℕ
+corrected first size b = take first b ++ (wordOut (take size (drop first b)) ++ drop (first + size) b)
+
+-- "BCH result (corrected count, or lost)": lost is 4,294,967,295
+unfoldable pub lost : ℕ
+lost = 4294967295
+
+unfoldable pub resultOf : Decoded → ℕ
+resultOf (Corrected k) = k
+resultOf Uncorrectable = lost
+resultOf (Refused k) = lost
+
+unfoldable pub bchOf : ℕ → ℕ → List ℕ → ℕ
+bchOf first size b = resultOf (decodedOf (take size (drop first b)))
+
+-- a finished word's state: "2 met, 3 unmet"
+abbrev pub stateOf : Bool → ℕ
+stateOf met = cond met 2 3
+
+unfoldable pub isFinished : ℕ → Bool
+isFinished state = eqb state 2 || eqb state 3
+
+-- "A finished word is lost if BCH refuses, else kept": by its state and its BCH result
+unfoldable pub isLost : ℕ → ℕ → Bool
+isLost state bch = eqb bch lost
+
+-- what a word's record adds to the tally's `lost` and to its `kept`: words that wait or are held are neither
+unfoldable pub lostOf : ℕ → ℕ → ℕ
+lostOf state bch = cond (isFinished state) (cond (isLost state bch) 1 0) 0
+
+unfoldable pub keptOf : ℕ → ℕ → ℕ
+keptOf state bch = cond (isFinished state) (cond (isLost state bch) 0 1) 0
+
+-- all of a finished word's record but the named check, and its bits
+pub record Outcome : Type 0 where
+  pub bits : List ℕ
+  pub state : ℕ
+  pub iterations : ℕ
+  pub unsatisfied : ℕ
+  pub bch : ℕ
+
+-- the outcome of a word that ends with the values x after i iterations
+unfoldable pub outcomeOf : Code → ℕ → ℕ → ℕ → ℕ → Word → ℕ → Outcome
+outcomeOf code n p first size x i =
+    record {
+      bits = corrected first size (bitsOf n x);
+      state = stateOf (metOf code p x);
+      iterations = i;
+      unsatisfied = unmetOf code p x;
+      bch = bchOf first size (bitsOf n x);
+    }
+
+-- Its outcome alone: from its soft values, the code and the settings. Lane count, round limit and other words cannot occur here.
+unfoldable pub alone : Code → ℕ → ℕ → (Word → Word) → ℕ → ℕ → ℕ → List ℤ → Outcome
+alone code n p iterate limit first size soft =
+    let e = ends (begin n soft) iterate (metOf code p) limit in
+    outcomeOf code n p first size (after (begin n soft) iterate e) e

@@ -1,0 +1,107 @@
+-- The BCH part of a word: what its correction inside the word gives.
+use mathlib.Core.Path.{_≡_, refl, sym, ap, _∙_, subst}
+use mathlib.Core.Logic.{_≢_, _↔_, _⊎_, inl, inr, if-pos}
+use mathlib.Core.List.{List, [], _∷_, _++_}
+use Prim.Native.Nat.{ℕ, zero, suc, _+_, _/_, _≤_, _<_}
+use native.Mathlib.Omega.{arith}
+use native.Mathlib.Decide.{ℕ-discrete}
+use lib.ListN.{length, getD, take, drop, length-take, length-drop}
+use lib.Seq.{getD-drop}
+use Rattle.ldpc_edges.specs.Encoder.{Bits}
+use Rattle.bch.specs.Distance.{highBits}
+use Rattle.bch.specs.Decode.{answerOf, leftOf}
+use Rattle.bch.specs.Exact.{Near, Exact, exact}
+use Rattle.bch.specs.Answers.{wordRefusal, fair-word, decodedOf, wordOut, changed}
+use Rattle.bch.specs.declared.Decoded.{Decoded}
+use Rattle.bch.specs.declared.Decoded.the-variants.{Corrected, Uncorrectable, Refused}
+use Rattle.outcome.specs.Outcome.{corrected, lost, resultOf, bchOf}
+
+-- a part of an accepted length, inside the word
+pub record Part (first size : ℕ) (b : List ℕ) : Type 0 where
+  pub inside : first + size ≤ length b
+  pub least : 193 ≤ size
+  pub most : size ≤ 65535
+
+module _ (first size : ℕ) (b : List ℕ) (P : Part first size b) where
+  abbrev part : List ℕ
+  part = take size (drop first b)
+
+  part-length : length part ≡ size
+  part-length = length-take size (drop first b) ∙ omega (arith, length-drop first b, P .inside)
+
+  fair : wordRefusal (length part) ≡ 0
+  fair = fair-word (length part) (omega (arith, part-length, P .least)) (omega (arith, part-length, P .most))
+
+  answered : decodedOf part ≡ answerOf part
+  unfolding decodedOf
+  answered = if-pos (ℕ-discrete (wordRefusal (length part)) 0) fair (answerOf part) (Refused (wordRefusal (length part)))
+
+  left : wordOut part ≡ leftOf part
+  unfolding wordOut
+  left = sym (changed (wordRefusal (length part)) (leftOf part) part fair)
+
+  -- it is corrected exactly when a codeword of its length lies within 12 bits, and to that codeword
+  pub part-exact : Exact part (wordOut part) (decodedOf part)
+  part-exact =
+      subst (λ (x : List ℕ). Exact part x (decodedOf part)) (sym left)
+      (subst (λ (d : Decoded). Exact part (leftOf part) d) (sym answered) (exact part (omega (arith, part-length, P .most))))
+
+  -- the result is a count of at most 12, or lost
+  few : (k : ℕ) → decodedOf part ≡ Corrected k → k ≤ 12
+  few k e = let c = part-exact .count k e in omega (arith, c .0 .within, c .1)
+
+  pub bch-range : (bchOf first size b ≤ 12) ⊎ (bchOf first size b ≡ lost)
+  unfolding bchOf resultOf
+  bch-range = go (decodedOf part) refl
+    where
+      go : (d : Decoded) → decodedOf part ≡ d → (resultOf d ≤ 12) ⊎ (resultOf d ≡ lost)
+      go (Corrected k) e = inl (few k e)
+      go Uncorrectable e = inr refl
+      go (Refused k) e = inr refl
+
+  -- a word is not lost exactly when its part has a codeword within 12 bits
+  pub kept-exactly : (bchOf first size b ≢ lost) ↔ ((v : List ℕ) × Near part v)
+  unfolding bchOf resultOf lost
+  kept-exactly = (λ h. go (decodedOf part) refl h, λ h q. back (part-exact .exactly .1 h) q)
+    where
+      go : (d : Decoded) → decodedOf part ≡ d → (resultOf d ≢ lost) → (v : List ℕ) × Near part v
+      go (Corrected k) e h = part-exact .exactly .0 (k, e)
+      go Uncorrectable e h = absurd (h refl)
+      go (Refused k) e h = absurd (h refl)
+
+      back : (k : ℕ) × (decodedOf part ≡ Corrected k) → resultOf (decodedOf part) ≢ lost
+      back h q = let e : h .0 ≡ 4294967295 = sym (ap resultOf (h .1)) ∙ q in omega (arith, e, few (h .0) (h .1))
+
+-- ---- bytes 0 or 1 stay 0 or 1
+bits-append : (xs ys : List ℕ) → Bits xs → Bits ys → Bits (xs ++ ys)
+bits-append [] ys h g i = g i
+bits-append (x ∷ xs) ys h g zero = h 0
+bits-append (x ∷ xs) ys h g (suc i) = bits-append xs ys (λ j. h (suc j)) g i
+
+bits-take : (k : ℕ) (xs : List ℕ) → Bits xs → Bits (take k xs)
+bits-take zero xs h i = omega arith
+bits-take (suc k) [] h i = omega arith
+bits-take (suc k) (x ∷ xs) h zero = h 0
+bits-take (suc k) (x ∷ xs) h (suc i) = bits-take k xs (λ j. h (suc j)) i
+
+bits-drop : (k : ℕ) (xs : List ℕ) → Bits xs → Bits (drop k xs)
+bits-drop k xs h i = subst (λ (z : ℕ). z < 2) (sym (getD-drop k xs i 0)) (h (k + i))
+
+high-at : (w : List ℕ) (i : ℕ) → getD (highBits w) i 0 ≡ getD w i 0 / 2
+unfolding highBits
+high-at [] i = refl
+high-at (b ∷ w) zero = refl
+high-at (b ∷ w) (suc i) = high-at w i
+
+bits-high : (w v : List ℕ) → highBits v ≡ highBits w → Bits w → Bits v
+bits-high w v e h i =
+    let q : getD v i 0 / 2 ≡ getD w i 0 / 2 = sym (high-at v i) ∙ ap (λ (l : List ℕ). getD l i 0) e ∙ high-at w i in
+    omega (arith, q, h i)
+
+pub corrected-bits : (first size : ℕ) (b : List ℕ) → Part first size b → Bits b → Bits (corrected first size b)
+unfolding corrected
+corrected-bits first size b P h =
+    bits-append (take first b) (wordOut (take size (drop first b)) ++ drop (first + size) b) (bits-take first b h)
+    (bits-append (wordOut (take size (drop first b))) (drop (first + size) b)
+    (bits-high (take size (drop first b)) (wordOut (take size (drop first b))) (part-exact first size b P .rest) (bits-take size (drop first b) (bits-drop first b h)))
+    (bits-drop (first + size) b h))

@@ -1,0 +1,169 @@
+// One word of a run: its outcome from its values. What its soft values meet before any iteration, its bits, and its BCH part corrected.
+use bch::Decoded;
+ghost use mathlib.Core.Path.{_≡_};
+ghost use Prim.Native.Nat.{_+_, _<_, _≤_};
+ghost use lib.Dec.{eqb};
+ghost use lib.ListN.{length, getD};
+ghost use Rattle.ldpc_shape.specs.Shape.{pOf, refusalOf};
+ghost use Rattle.lane_math.specs.Iteration.{negatives};
+ghost use Rattle.outcome.specs.Code.{codeOf};
+ghost use Rattle.outcome.specs.Outcome.{begin, bitsOf, metOf, unmetAt, corrected, resultOf, bchOf, stateOf, isFinished, keptOf, lostOf};
+ghost use Rattle.outcome.specs.Index.{Variables, indexed, Listed, values, Lent};
+ghost use Rattle.outcome.specs.Scan.{Counted};
+
+// How many checks a word leaves unsatisfied, and one of them (0 if there is none).
+pub struct Unmet {
+    pub count: u32,
+    pub check: u32,
+}
+
+// P of an accepted code.
+fn checks(n: u32, lens: &[u32], addrs: &[u16]) -> usize
+    requires { ⌜ refusalOf n (now lens) (now addrs) ≡ 0 ⌝ }
+    ensures { λ r. ⌜ r ≡ pOf n (now (lens .entry)) ⌝ }
+{
+    ldpc_shape::wide(n) - ldpc_shape::info_bits(lens)
+}
+
+// Entry i of the code's lists.
+fn entry(index: &[u32], i: usize) -> usize
+    requires { ⌜ i < length (now index) ⌝ }
+    ensures { λ r. ⌜ r ≡ getD (now (index .entry)) i 0 ⌝ }
+{
+    index[i] as usize
+}
+
+// How many of the d variables listed from `at` on have a negative value. A repeated variable counts as often as it occurs.
+fn negative(index: &[u32], at: usize, d: usize, soft: &[i8]) -> usize
+    requires { ⌜ Variables (now index) at d (length (now soft)) ⌝ }
+    ensures { λ r. ⌜ r ≡ negatives (λ e. getD (now (index .entry)) e 0) at d (values (now (soft .entry))) ⌝ }
+{
+    let mut count: usize = 0;
+    let mut k: usize = 0;
+    while k < d {
+        let v = entry(index, at + k);
+        count += lane_math::bit(soft[v]) as usize;
+        k += 1;
+    }
+    count
+}
+
+// Whether check c of p is unsatisfied: an odd number of its variables' values are negative.
+fn odd(index: &[u32], p: usize, c: usize, soft: &[i8]) -> bool
+    requires { ⌜ (c < p) × Listed p (length (now soft)) (now index) ⌝ }
+    ensures { λ r. ⌜ r ≡ eqb (unmetAt (indexed p (now (index .entry))) (values (now (soft .entry))) c) 1 ⌝ }
+{
+    let s = entry(index, c);
+    let d = entry(index, c + 1) - s;
+    negative(index, p + 1 + s, d, soft) % 2 == 1
+}
+
+// Whether a word's soft values meet every check. The scan ends at the first unsatisfied one.
+pub fn soft_met(n: u32, lens: &[u32], addrs: &[u16], index: &[u32], soft: &[i8]) -> bool
+    requires { ⌜ Lent n (now lens) (now addrs) (now index) (now soft) ⌝ }
+    ensures { λ r. ⌜ r ≡ metOf (codeOf n (now (lens .entry)) (now (addrs .entry))) (pOf n (now (lens .entry))) (begin n (now (soft .entry))) ⌝ }
+{
+    let p = checks(n, lens, addrs);
+    let mut c = 0;
+    while c < p {
+        if odd(index, p, c, soft) {
+            return false;
+        }
+        c += 1;
+    }
+    true
+}
+
+// How many checks a word's soft values leave unsatisfied, and one of them.
+pub fn soft_unmet(n: u32, lens: &[u32], addrs: &[u16], index: &[u32], soft: &[i8]) -> Unmet
+    requires { ⌜ Lent n (now lens) (now addrs) (now index) (now soft) ⌝ }
+    ensures { λ r. ⌜ Counted (codeOf n (now (lens .entry)) (now (addrs .entry))) (pOf n (now (lens .entry))) (begin n (now (soft .entry))) (r .count) (r .check) ⌝ }
+{
+    let p = checks(n, lens, addrs);
+    let mut count: u32 = 0;
+    let mut check: usize = 0;
+    let mut c: usize = 0;
+    while c < p {
+        if odd(index, p, c, soft) {
+            count += 1;
+            check = c;
+        }
+        c += 1;
+    }
+    Unmet {
+        count: count,
+        check: check as u32,
+    }
+}
+
+// A word's hard decisions before any iteration.
+pub fn soft_bits(n: usize, soft: &[i8], out: &mut [u8])
+    requires { ⌜ (length (now soft) ≡ n) × (length (now out) ≡ n) ⌝ }
+    ensures { λ _. ⌜ now (out .exit) ≡ bitsOf n (begin n (now (soft .entry))) ⌝ }
+{
+    let mut i: usize = 0;
+    while i < n {
+        out[i] = lane_math::bit(soft[i]);
+        i += 1;
+    }
+}
+
+// The number that stands for BCH's answer.
+fn result_of(answer: Decoded) -> u32
+    ensures { λ r. ⌜ r ≡ resultOf answer ⌝ }
+{
+    match answer {
+        Decoded::Corrected(k) => k,
+        Decoded::Uncorrectable => 4294967295,
+        Decoded::Refused(_) => 4294967295,
+    }
+}
+
+// A word's BCH part, `size` bits from `first` on, corrected inside it.
+pub fn correct(word: &mut [u8], first: usize, size: usize) -> u32
+    requires { ⌜ first + size ≤ length (now word) ⌝ }
+    ensures result { λ r. ⌜ r ≡ bchOf first size (now (word .entry)) ⌝ }
+    ensures bits { λ r. ⌜ now (word .exit) ≡ corrected first size (now (word .entry)) ⌝ }
+{
+    let end = first + size;
+    let answer = bch::decode(&mut word[first..end]);
+    result_of(answer)
+}
+
+// A finished word's state.
+pub fn state_of(met: bool) -> u32
+    ensures { λ r. ⌜ r ≡ stateOf met ⌝ }
+{
+    if met { 2 } else { 3 }
+}
+
+fn is_finished(state: u32) -> bool
+    ensures { λ r. ⌜ r ≡ isFinished state ⌝ }
+{
+    if state == 2 {
+        return true;
+    }
+    state == 3
+}
+
+// What a word adds to the tally's `kept`.
+pub fn kept_of(state: u32, bch: u32) -> u32
+    ensures { λ r. ⌜ r ≡ keptOf state bch ⌝ }
+{
+    if is_finished(state) {
+        if bch == 4294967295 { 0 } else { 1 }
+    } else {
+        0
+    }
+}
+
+// What a word adds to the tally's `lost`.
+pub fn lost_of(state: u32, bch: u32) -> u32
+    ensures { λ r. ⌜ r ≡ lostOf state bch ⌝ }
+{
+    if is_finished(state) {
+        if bch == 4294967295 { 1 } else { 0 }
+    } else {
+        0
+    }
+}
