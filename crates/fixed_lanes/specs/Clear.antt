@@ -1,0 +1,126 @@
+-- The messages of the fresh lanes cleared: rows n to n + e − 1 of their columns are 0; all else is as it was.
+use mathlib.Core.Path.{_≡_, refl, sym, ap, _∙_, subst}
+use mathlib.Core.Bool.{Bool, true, false, cond}
+use mathlib.Core.List.{List}
+use Prim.Native.Nat.{ℕ, zero, suc, _+_, _*_, _≤_, _<_}
+use native.Mathlib.Omega.{arith}
+use native.Mathlib.Numerals.{add-one}
+use native.Mathlib.Decide.{ℕ-discrete}
+use borrow.Author.Tests.{eqb-true, eqb-false, eq-eqb, ne-eqb, ltb-true, ltb-false, lt-ltb, le-ltb}
+use lib.Dec.{eqb, ltb}
+use lib.ListN.{getD, length}
+use lib.IntN.{ℤ, pos}
+use Rattle.lane_math.specs.Check.{Word, put}
+use Rattle.lane_math.specs.Laws.{put-same, put-other}
+use Rattle.lane_memory.specs.Column.{column}
+use Rattle.simd.specs.Words.{within, wordOf, word, message-put}
+use Rattle.fixed_lanes.specs.Place.{Placed}
+
+abbrev pub on : List Bool → ℕ → Bool
+on fresh i = getD fresh i false
+
+-- ---- row u, of the first k lanes
+pub record RowCleared (lanes u : ℕ) (fresh : List Bool) (a : List ℤ) (k : ℕ) (a′ : List ℤ) : Type 0 where
+  pub done : (i : ℕ) → i < k → i < lanes → column lanes a′ i ≡ cond (on fresh i) (put (column lanes a i) u (pos 0)) (column lanes a i)
+  pub still : (i : ℕ) → k ≤ i → i < lanes → column lanes a′ i ≡ column lanes a i
+
+pub row-start : (lanes u : ℕ) (fresh : List Bool) (a : List ℤ) → RowCleared lanes u fresh a 0 a
+row-start lanes u fresh a = record { done = λ i q h. absurd (omega (arith, q)); still = λ i q h. refl }
+
+put-self : (f : ℕ → ℤ) (u : ℕ) → put f u (f u) ≡ f
+unfolding put
+put-self f u = λ i w. go w (eqb w u) refl i
+  where
+    go : (w : ℕ) (b : Bool) → eqb w u ≡ b → cond b (f u) (f w) ≡ f w
+    go w true e = ap f (sym (eqb-true w u e))
+    go w false e = refl
+
+put-cond : (b : Bool) (f : ℕ → ℤ) (u : ℕ) → put f u (cond b (pos 0) (f u)) ≡ cond b (put f u (pos 0)) f
+put-cond true f u = refl
+put-cond false f u = put-self f u
+
+pub row-again : {lanes u : ℕ} {fresh : List Bool} {a a′ a″ : List ℤ} {k : ℕ} {x y : ℤ} → RowCleared lanes u fresh a k a′ → k < lanes
+    → x ≡ column lanes a′ k u → y ≡ cond (on fresh k) (pos 0) x → Placed lanes k u y a′ a″ → RowCleared lanes u fresh a (k + 1) a″
+row-again {lanes} {u} {fresh} {a} {a′} {a″} {k} {x} {y} v h e f p =
+    record {
+      done = λ i q l. go i q l (ℕ-discrete i k);
+      still = λ i q l. p .outside i l (λ z. omega arith) ∙ v .still i (omega arith) l;
+    }
+  where
+    go : (i : ℕ) → i < k + 1 → i < lanes → Dec (i ≡ k) → column lanes a″ i ≡ cond (on fresh i) (put (column lanes a i) u (pos 0)) (column lanes a i)
+    go i q l (yes z) =
+        subst (λ (j : ℕ). column lanes a″ j ≡ cond (on fresh j) (put (column lanes a j) u (pos 0)) (column lanes a j)) (sym z)
+        (p .inside
+        ∙ ap (put (column lanes a′ k) u) (f ∙ ap (λ (w : ℤ). cond (on fresh k) (pos 0) w) e)
+        ∙ put-cond (on fresh k) (column lanes a′ k) u
+        ∙ ap (λ (g : ℕ → ℤ). cond (on fresh k) (put g u (pos 0)) g) (v .still k (omega arith) h))
+    go i q l (no z) = p .outside i l z ∙ v .done i (omega arith) l
+
+pub row-end : {lanes u : ℕ} {fresh : List Bool} {a a′ : List ℤ} {k : ℕ} → k ≡ lanes → RowCleared lanes u fresh a k a′ → RowCleared lanes u fresh a lanes a′
+row-end {lanes} {u} {fresh} {a} {a′} {k} e v = subst (λ (j : ℕ). RowCleared lanes u fresh a j a′) e v
+
+-- ---- a column with the e rows from n on at 0
+unfoldable pub blank : ℕ → ℕ → (ℕ → ℤ) → ℕ → ℤ
+blank n zero f = f
+blank n (suc e) f = put (blank n e f) (n + e) (pos 0)
+
+-- which is to say
+pub blank-in : (n e : ℕ) (f : ℕ → ℤ) (k : ℕ) → k < e → blank n e f (n + k) ≡ pos 0
+unfolding blank
+blank-in n zero f k h = absurd (omega (arith, h))
+blank-in n (suc e) f k h = go (ℕ-discrete k e) (blank-in n e f k)
+  where
+    go : Dec (k ≡ e) → (k < e → blank n e f (n + k) ≡ pos 0) → put (blank n e f) (n + e) (pos 0) (n + k) ≡ pos 0
+    go (yes z) ih = ap (λ (j : ℕ). put (blank n e f) (n + e) (pos 0) (n + j)) z ∙ put-same (blank n e f) (n + e) (pos 0)
+    go (no z) ih = put-other (blank n e f) (n + e) (pos 0) (n + k) (λ x. omega arith) ∙ ih (omega arith)
+
+pub blank-out : (n e : ℕ) (f : ℕ → ℤ) (u : ℕ) → ((k : ℕ) → k < e → u ≡ n + k → ⊥) → blank n e f u ≡ f u
+unfolding blank
+blank-out n zero f u off = refl
+blank-out n (suc e) f u off = put-other (blank n e f) (n + e) (pos 0) u (off e (omega arith)) ∙ blank-out n e f u (λ k q. off k (omega arith))
+
+pub record Cleared (n lanes : ℕ) (fresh : List Bool) (a : List ℤ) (e : ℕ) (a′ : List ℤ) : Type 0 where
+  pub columns : (i : ℕ) → i < lanes → column lanes a′ i ≡ cond (on fresh i) (blank n e (column lanes a i)) (column lanes a i)
+
+pub clear-start : (n lanes : ℕ) (fresh : List Bool) (a : List ℤ) → Cleared n lanes fresh a 0 a
+unfolding blank
+clear-start n lanes fresh a = record { columns = λ i q. same (on fresh i) (column lanes a i) }
+  where
+    same : (b : Bool) (f : ℕ → ℤ) → f ≡ cond b f f
+    same true f = refl
+    same false f = refl
+
+pub clear-again : {n lanes : ℕ} {fresh : List Bool} {a a′ a″ : List ℤ} {k : ℕ} → Cleared n lanes fresh a k a′ → RowCleared lanes (n + k) fresh a′ lanes a″ → Cleared n lanes fresh a (k + 1) a″
+unfolding blank
+clear-again {n} {lanes} {fresh} {a} {a′} {a″} {k} v p =
+    subst (λ (j : ℕ). Cleared n lanes fresh a j a″) (sym (add-one k))
+    (record { columns = λ i q. p .done i q q ∙ ap (λ (g : ℕ → ℤ). cond (on fresh i) (put g (n + k) (pos 0)) g) (v .columns i q) ∙ both (on fresh i) (blank n k (column lanes a i)) (column lanes a i) })
+  where
+    both : (b : Bool) (f g : ℕ → ℤ) → cond b (put (cond b f g) (n + k) (pos 0)) (cond b f g) ≡ cond b (put f (n + k) (pos 0)) g
+    both true f g = refl
+    both false f g = refl
+
+pub clear-end : {n lanes : ℕ} {fresh : List Bool} {a a′ : List ℤ} {k e : ℕ} → k ≡ e → Cleared n lanes fresh a k a′ → Cleared n lanes fresh a e a′
+clear-end {n} {lanes} {fresh} {a} {a′} {k} {e} x v = subst (λ (j : ℕ). Cleared n lanes fresh a j a′) x v
+
+-- ---- a fresh lane's word has every message 0; another lane's is as it was
+pub blank-word : (n E : ℕ) (f : ℕ → ℤ) → wordOf n E (blank n E f) ≡ record { L = wordOf n E f .L; r = λ e. pos 0 }
+unfolding wordOf within
+blank-word n E f = λ i. record { L = λ u. values u (ltb u n) refl i; r = λ e. messages e (ltb e E) refl i }
+  where
+    values : (u : ℕ) (b : Bool) → ltb u n ≡ b → cond b (blank n E f u) (pos 0) ≡ cond b (f u) (pos 0)
+    values u true e = blank-out n E f u (λ k q x. omega (arith, ltb-true u n e))
+    values u false e = refl
+
+    messages : (e : ℕ) (b : Bool) → ltb e E ≡ b → cond b (blank n E f (n + e)) (pos 0) ≡ pos 0
+    messages e true s = blank-in n E f e (ltb-true e E s)
+    messages e false s = refl
+
+pub cleared-fresh : {n lanes : ℕ} {fresh : List Bool} {a a′ : List ℤ} {E i : ℕ} → Cleared n lanes fresh a E a′ → i < lanes → on fresh i ≡ true
+    → word n E lanes a′ i ≡ record { L = word n E lanes a i .L; r = λ e. pos 0 }
+cleared-fresh {n} {lanes} {fresh} {a} {a′} {E} {i} v q e =
+    ap (wordOf n E) (v .columns i q ∙ ap (λ (b : Bool). cond b (blank n E (column lanes a i)) (column lanes a i)) e) ∙ blank-word n E (column lanes a i)
+
+pub cleared-other : {n lanes : ℕ} {fresh : List Bool} {a a′ : List ℤ} {E i : ℕ} → Cleared n lanes fresh a E a′ → i < lanes → on fresh i ≡ false
+    → column lanes a′ i ≡ column lanes a i
+cleared-other {n} {lanes} {fresh} {a} {a′} {E} {i} v q e = v .columns i q ∙ ap (λ (b : Bool). cond b (blank n E (column lanes a i)) (column lanes a i)) e
