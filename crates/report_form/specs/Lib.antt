@@ -5,3 +5,4 @@ pub mod Unique
 pub mod Longest
 pub mod Reading
 pub mod Places
+pub mod Listing
