@@ -1,19 +1,18 @@
 -- The words' soft values, stored from a text that was read before.
 use mathlib.Core.Path.{_≡_, refl, sym, ap, ap₂, _∙_, subst}
-use mathlib.Core.Bool.{Bool, true, false}
+use mathlib.Core.Bool.{Bool, true}
 use mathlib.Core.Logic.{_⊎_, inl, inr}
-use mathlib.Core.List.{List, [], _∷_, _++_, append-assoc, append-nil}
-use Prim.Native.Nat.{ℕ, zero, suc, _+_, _-_, _*_, _≤_, _<_}
+use mathlib.Core.List.{List, [], _∷_, _++_, append-assoc}
+use Prim.Native.Nat.{ℕ, suc, _+_, _-_, _*_, _≤_, _<_}
 use native.Mathlib.Nat.{zero-add}
-use native.Mathlib.Numerals.{add-one}
 use native.Mathlib.Omega.{arith}
 use lib.IntN.{ℤ}
 use lib.ListN.{length, drop, getD, set, replicate, length-set, length-replicate}
 use lib.Seq.{sets, length-sets}
 use Rattle.laws.specs.Decimal.{Stops, signed}
-use Rattle.report_form.specs.Description.{Pair, Word, Small, Ascending, All, each}
-use Rattle.report_form.specs.Form.{Form, Reads, must-find, lead, one-byte}
-use Rattle.report_form.specs.Forms.{smalls, pairForm, pairFrom, pairText, PairWithin, PairsWithin, pairs-fine, wordForm, LineWithin, WordsWithin, lines-fine}
+use Rattle.report_form.specs.Description.{Pair, Word, Ascending, All, each}
+use Rattle.report_form.specs.Form.{Reads, must-find, lead, one-byte}
+use Rattle.report_form.specs.Forms.{smalls, pairForm, pairFrom, pairText, PairWithin, pairs-fine, wordForm, LineWithin, lines-fine}
 use Rattle.report_form.specs.Reading.{stored, softWord, softWords}
 use Rattle.report_form.specs.Places.{PairsAt, PairsHere, WordAt, WordHere, WordsAt, WordsHere, Filled}
 use Rattle.report_form.proofs.Bytes.{head-at, byte-here}

@@ -1,6 +1,6 @@
 -- A row's addresses and the rows, read one by one and laid into arrays.
-use mathlib.Core.Path.{_≡_, refl, sym, ap, ap₂, _∙_, subst}
-use mathlib.Core.Bool.{Bool, true, false}
+use mathlib.Core.Path.{_≡_, refl, sym, ap, ap₂, _∙_}
+use mathlib.Core.Bool.{Bool, false}
 use mathlib.Core.Logic.{_⊎_, inl, inr}
 use mathlib.Core.List.{List, [], _∷_, _++_, map, append-assoc, append-nil}
 use Prim.Native.Nat.{ℕ, suc, _+_, _*_, _≤_, _<_}
@@ -10,7 +10,7 @@ use native.Mathlib.Omega.{arith}
 use lib.ListN.{length, getD, set, replicate, length-append, length-map}
 use lib.Seq.{sets}
 use Rattle.report_form.specs.Description.{RowWithin, All}
-use Rattle.report_form.specs.Form.{Form, Found, Missing, Reads, reads-both, byte, lead, lead-reads, via-reads, Ongoing, Hopeless, Ends, Listed, listed, not-listed, going-start, going-more, going-missing, chain-reads, chain-missing}
+use Rattle.report_form.specs.Form.{Found, Missing, Reads, byte, lead, lead-reads, via-reads, Ongoing, Ends, Listed, listed, not-listed, going-start, going-more, going-missing, chain-reads, chain-missing}
 use Rattle.report_form.specs.Forms.{numbers, addresses, newline-apart, row-chain, rowForm, rows, RowsWithin, rows-within, RowsSo, flat}
 use Rattle.report_form.proofs.Stores.{sets-append}
 use Rattle.report_form.proofs.Lists.{too-many, length-snoc, all-snoc}

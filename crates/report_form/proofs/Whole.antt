@@ -1,19 +1,18 @@
 -- A whole text: the first line, the rows, the settings and the words.
 use mathlib.Core.Path.{_≡_, refl, sym, ap, ap₂, _∙_, subst}
 use mathlib.Core.Bool.{Bool, true, false}
-use mathlib.Core.Logic.{_⊎_, inl, inr}
 use mathlib.Core.List.{List, [], _∷_, _++_, map, append-assoc, append-nil}
-use Prim.Native.Nat.{ℕ, zero, suc, _+_, _-_, _*_, _≤_, _<_}
+use Prim.Native.Nat.{ℕ, zero, suc, _+_, _-_, _*_, _≤_}
 use native.Mathlib.Nat.{zero-add, mul-le-mul-right}
 use native.Mathlib.Omega.{arith}
 use lib.IntN.{ℤ}
-use lib.ListN.{length, take, drop, replicate, length-append, length-replicate, length-map}
+use lib.ListN.{length, drop, replicate, length-append, length-replicate, length-map}
 use lib.Seq.{sets, sets-eq}
 use Rattle.report_form.specs.Description.{Settings, Word, Description, Within, each, render}
-use Rattle.report_form.specs.Form.{Form, Found, Missing, Reads, found-there, missing-there, right-before, byte, end, lead, lead-reads, seq-reads, Ongoing, Listed, listed-reads, listed-there}
-use Rattle.report_form.specs.Forms.{numbers, rows, RowsWithin, rows-within, RowsSo, flat, settingsForm, SettingsSo, settingsThen, settings-apart, wordForm, wordsForm, WordsWithin, Body, bodyForm, headForm}
+use Rattle.report_form.specs.Form.{Found, Missing, Reads, missing-there, byte, lead, lead-reads, seq-reads, Ongoing, Listed, listed-reads}
+use Rattle.report_form.specs.Forms.{numbers, rows, RowsWithin, rows-within, RowsSo, flat, settingsForm, SettingsSo, settingsThen, settings-apart, wordForm, wordsForm, Body, bodyForm, headForm}
 use Rattle.report_form.specs.Unique.{bodyOf, descriptionOf, body-within, description-within, render-is, render-injective}
-use Rattle.report_form.specs.Reading.{padded, readingOf, refusedReading, softWord, softWords, overlaid, NoDescription, OneDescription, RightReading}
+use Rattle.report_form.specs.Reading.{padded, readingOf, softWord, softWords, overlaid, OneDescription}
 use Rattle.report_form.specs.Places.{WordsAt, WordsHere}
 use Rattle.report_form.specs.declared.Reading.{Reading}
 use Rattle.report_form.proofs.RowLists.{flat-length}

@@ -1,6 +1,6 @@
 -- What the report is told, and how it is written: 01's "Report text". A text of the form is the rendering of a description within the limits.
 use mathlib.Core.List.{List, [], _∷_, _++_, map}
-use Prim.Native.Nat.{ℕ, suc, _≤_, _<_, _^_}
+use Prim.Native.Nat.{ℕ, suc, _≤_, _<_}
 use lib.IntN.{ℤ, pos, negsuc}
 use lib.ListN.{length}
 use Rattle.laws.specs.Decimal.{decimal, signed}

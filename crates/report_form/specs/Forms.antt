@@ -2,13 +2,13 @@
 use mathlib.Core.Path.{_≡_, refl, sym, ap, _∙_, subst}
 use mathlib.Core.Bool.{Bool, true, false}
 use mathlib.Core.List.{List, [], _∷_, _++_, map}
-use Prim.Native.Nat.{ℕ, zero, suc, _+_, _≤_, _<_}
+use Prim.Native.Nat.{ℕ, suc, _+_, _≤_}
 use native.Mathlib.Omega.{arith}
-use lib.IntN.{ℤ, pos, negsuc}
-use lib.ListN.{length, getD, replicate}
+use lib.IntN.{ℤ}
+use lib.ListN.{length, replicate}
 use lib.Seq.{sets}
 use Rattle.laws.specs.Decimal.{decimal, signed, Stops, decimal-unique, signed-unique, decimal-leads}
-use Rattle.report_form.specs.Description.{Schedule, sequential, layered, Settings, Pair, Word, Description, All, Wide, Small, Ascending, RowWithin, ScheduleWithin, SettingsWithin, WordWithin, Within, each, scheduleText}
+use Rattle.report_form.specs.Description.{Schedule, sequential, layered, Settings, Pair, Word, All, Wide, Small, Ascending, RowWithin, ScheduleWithin, SettingsWithin, WordWithin, Within, each, scheduleText}
 use Rattle.report_form.specs.Form.{Form, Reads, byte, end, seq, seq-reads, via, via-reads, lead, lead-reads, Items, Apart, chain}
 
 -- a number of at most `most`

@@ -1,14 +1,13 @@
 -- No text of the form is longer than 10,501 bytes.
-use mathlib.Core.Path.{_≡_, refl, sym, ap, _∙_, subst}
+use mathlib.Core.Path.{sym, subst}
 use mathlib.Core.List.{List, [], _∷_, _++_}
-use Prim.Native.Nat.{ℕ, zero, suc, _+_, _*_, _≤_, _<_}
+use Prim.Native.Nat.{ℕ, suc, _+_, _*_, _≤_}
 use native.Mathlib.Nat.{mul-le-mul-right}
 use native.Mathlib.Omega.{arith}
 use lib.IntN.{ℤ, pos, negsuc}
 use lib.ListN.{length, length-append}
 use Rattle.laws.specs.Decimal.{decimal, signed, decimal-length}
-use Rattle.report_form.specs.Description.{Schedule, sequential, layered, Settings, Pair, Word, Description, All, Wide, Small, Ascending, RowWithin, ScheduleWithin, SettingsWithin, WordWithin, Within, each, line, rowLine, scheduleText, settingsLine, pairFields, wordLine, render}
-use Rattle.report_form.specs.Form.{Form}
+use Rattle.report_form.specs.Description.{Schedule, sequential, layered, Settings, Pair, Word, Description, All, Small, Ascending, RowWithin, ScheduleWithin, SettingsWithin, WordWithin, Within, each, line, rowLine, scheduleText, settingsLine, wordLine, render}
 use Rattle.report_form.specs.Forms.{rowForm, wordForm, pairText, address}
 use Rattle.report_form.specs.Unique.{row-line, word-line}
 

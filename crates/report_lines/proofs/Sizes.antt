@@ -1,12 +1,12 @@
 -- How long the fields are, and which text a state has.
-use mathlib.Core.Path.{_≡_, refl, sym, ap, _∙_, subst}
+use mathlib.Core.Path.{_≡_, refl}
 use mathlib.Core.Bool.{Bool, true, false}
-use mathlib.Core.List.{List, [], _∷_, _++_}
+use mathlib.Core.List.{[], _∷_, _++_}
 use Prim.Native.Nat.{ℕ, zero, suc, _+_, _≤_, _<_}
 use native.Mathlib.Omega.{arith}
 use lib.ListN.{length, length-append}
 use Rattle.laws.specs.Decimal.{decimal, decimal-length}
-use Rattle.report_lines.specs.Lines.{endingText, stateText, bchText}
+use Rattle.report_lines.specs.Lines.{endingText, stateText}
 
 pub number-length : (v : ℕ) → v < 4294967296 → length (decimal v) ≤ 10
 number-length v h = decimal-length 9 v (omega arith)

@@ -1,8 +1,7 @@
 -- 01's listing: its output.
 use mathlib.Core.Path.{_≡_, refl}
 use mathlib.Core.Bool.{false}
-use mathlib.Core.List.{List, [], _∷_, _++_}
-use Prim.Native.Nat.{ℕ}
+use mathlib.Core.List.{[], _∷_}
 use Rattle.laws.specs.Decimal.{decimal, digits}
 use Rattle.report_lines.specs.Lines.{resultOf, renderResult, refusedLine}
 

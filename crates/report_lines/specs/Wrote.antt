@@ -1,7 +1,7 @@
 -- A text stored at a place of a slice, and texts stored one after another.
-use mathlib.Core.Path.{_≡_, refl, sym, ap, ap₂, _∙_, subst}
+use mathlib.Core.Path.{_≡_, sym, ap, ap₂, _∙_, subst}
 use mathlib.Core.List.{List, [], _∷_, _++_}
-use Prim.Native.Nat.{ℕ, suc, _+_, _≤_, _<_}
+use Prim.Native.Nat.{ℕ, suc, _+_}
 use native.Mathlib.Nat.{add-zero, add-suc, suc-add, add-assoc}
 use lib.ListN.{length, set, length-append}
 use lib.Seq.{sets, length-sets, append-snoc}

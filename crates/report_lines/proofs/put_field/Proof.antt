@@ -1,6 +1,6 @@
 -- `report_lines::put_field` meets its contract.
 -- Assumes nothing.
-use Rattle.report_lines.specs.Wrote.{Wrote, wrote-then}
+use Rattle.report_lines.specs.Wrote.{wrote-then}
 use Rattle.report_lines.proofs.Sizes.{number-length}
 use native.Mathlib.Omega.{arith}
 use borrow.Author.Needs.{needs}

@@ -1,6 +1,5 @@
 -- `report_lines::write_word` meets its contract.
 -- Assumes nothing.
-use mathlib.Core.List.{List, [], _∷_}
 use Rattle.laws.specs.Decimal.{decimal}
 use Rattle.report_lines.specs.Lines.{stateText}
 use Rattle.report_lines.specs.Wrote.{wrote-line}
