@@ -1,3 +1,4 @@
 pub mod Lines
 pub mod Wrote
 pub mod Listing
+pub mod Sizes

@@ -3,7 +3,7 @@
 use Rattle.laws.specs.Decimal.{decimal}
 use Rattle.report_lines.specs.Lines.{stateText}
 use Rattle.report_lines.specs.Wrote.{wrote-line}
-use Rattle.report_lines.proofs.Sizes.{field-length, state-length}
+use Rattle.report_lines.specs.Sizes.{field-length, state-length}
 use native.Mathlib.Omega.{arith}
 use borrow.Author.Needs.{needs}
 use Rattle.report_lines.proofs.write_word.Statement.{statement}
