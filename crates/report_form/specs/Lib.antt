@@ -6,3 +6,4 @@ pub mod Longest
 pub mod Reading
 pub mod Places
 pub mod Listing
+pub mod Accepted
