@@ -9,10 +9,10 @@ use native.Mathlib.Numerals.{add-one}
 use native.Mathlib.Omega.{arith}
 use lib.ListN.{length, getD, set, replicate, length-append, length-map}
 use lib.Seq.{sets}
-use Rattle.report_form.specs.Description.{RowWithin}
+use Rattle.report_form.specs.Description.{RowWithin, flat}
 use Rattle.report_form.specs.Accepted.{flat-few}
 use Rattle.report_form.specs.Form.{Found, Missing, Reads, byte, lead, lead-reads, via-reads, Ongoing, Ends, Listed, listed, not-listed, going-start, going-more, going-missing, chain-reads, chain-missing}
-use Rattle.report_form.specs.Forms.{numbers, addresses, newline-apart, row-chain, rowForm, rows, RowsWithin, rows-within, RowsSo, flat}
+use Rattle.report_form.specs.Forms.{numbers, addresses, newline-apart, row-chain, rowForm, rows, RowsWithin, rows-within, RowsSo}
 use Rattle.laws.specs.Stores.{sets-append}
 use Rattle.report_form.proofs.Lists.{too-many, length-snoc, all-snoc}
 

@@ -6,8 +6,7 @@ use mathlib.Core.List.{List, [], _∷_, _++_, map}
 use Prim.Native.Nat.{ℕ, _+_, _-_}
 use lib.IntN.{ℤ, pos}
 use lib.ListN.{length, drop, set, replicate}
-use Rattle.report_form.specs.Description.{Pair, Word, Description, Within, render}
-use Rattle.report_form.specs.Forms.{flat, isLayered, stepOf}
+use Rattle.report_form.specs.Description.{Pair, Word, Description, Within, render, flat, isLayered, stepOf}
 use Rattle.report_form.specs.declared.Reading.{Reading}
 
 -- a list with zeros behind it, k long
