@@ -16,7 +16,7 @@ ghost use Rattle.report_form.specs.Form.{Reads, Listed, byte, lead};
 ghost use Rattle.report_form.specs.Forms.{numbers, smalls, rowForm, rows, RowsWithin, rows-within, RowsSo, pair-chain, wordForm, wordsForm, schedules, OrderSo, settingsForm, SettingsSo, pairForm, pairFrom};
 
 // What a text says: refusal 1 and zeros, or refusal 0 and a description's numbers: the code's n, the number of rows, their lengths and
-// their addresses one after another, the settings, and the number of words.
+// their addresses one after another, the settings (rounds is the round limit, bits the BCH part's length), and the number of words.
 pub struct Reading {
     pub refusal: u32,
     pub n: u32,
