@@ -7,10 +7,10 @@ use native.Mathlib.Nat.{not-suc-le-zero, le-refl, mul-comm}
 use native.Mathlib.Decide.{ℕ-discrete, decLe, decLt}
 use native.Mathlib.Omega.{arith}
 use Rattle.algebra.specs.Ring.{Ring, Field, zero-⊠, dist-⊠, ⊞-cancel}
-use Rattle.algebra.specs.Series.{sum, sum-ext, sum-add, pow, pow-add, eval, conv, conv-ext}
+use Rattle.algebra.specs.Series.{sum, sum-ext, sum-add, pow, pow-add, eval}
 use Rattle.algebra.specs.Power.{pow-mul}
 use Rattle.algebra.specs.Roots.{Distinct, domain, pow-nz, inv-inj, vandermonde}
-use Rattle.algebra.specs.Massey.{Gen, Shortest}
+use Rattle.algebra.specs.Massey.{Gen, Shortest, gen-ext}
 use Rattle.algebra.specs.Locator.{syndrome, eval-sums, locator, locator-gen, all-roots, only-roots, length-is}
 
 module _ {F : Type 0} (K : Field F) where
@@ -61,6 +61,12 @@ module _ {F : Type 0} (K : Field F) where
       pick r (yes z) (no nz) = omega (arith, r, weight-same n ε z, weight-more n η nz)
       pick r (no nz) (yes z) = absurd (h n (le-refl (suc n)) nz z)
       pick r (no nz) (no nz′) = omega (arith, r, weight-more n ε nz, weight-more n η nz′)
+
+  pub weight-ext : (n : ℕ) (ε η : ℕ → F) → ((p : ℕ) → p < n → ε p ≡ η p) → weight n ε ≡ weight n η
+  weight-ext n ε η e =
+      let a = weight-mono n ε η (λ p h ne z. ne (e p h ∙ z)) in
+      let b = weight-mono n η ε (λ p h ne z. ne (sym (e p h) ∙ z)) in
+      omega arith
 
   pub weight-strict : (n : ℕ) (ε η : ℕ → F) → ((p : ℕ) → p < n → ε p ≢ 𝟘 → η p ≢ 𝟘)
       → (q : ℕ) → q < n → ε q ≡ 𝟘 → η q ≢ 𝟘 → weight n ε < weight n η
@@ -196,7 +202,7 @@ module _ {F : Type 0} (K : Field F) where
   abbrev pub Syndromes : ℕ → (ℕ → F) → ℕ → ℕ → (ℕ → F) → (ℕ → F) → Type 0
   Syndromes n x b k ε s = (j : ℕ) → j < k → s j ≡ sum R₂ n (λ p. ε p ⊠ pow R₂ (x p) (b + j))
 
-  shift : (a u : F) (b j : ℕ) → a ⊠ pow R₂ u (b + j) ≡ a ⊠ pow R₂ u b ⊠ pow R₂ u j
+  pub shift : (a u : F) (b j : ℕ) → a ⊠ pow R₂ u (b + j) ≡ a ⊠ pow R₂ u b ⊠ pow R₂ u j
   shift a u b j = ap (λ w. a ⊠ w) (pow-add R₂ u b j) ∙ sym (⊠-assoc a _ _)
 
   -- the values of the word ε at the powers b, b + 1, .. of α are its syndromes, X_p being α^p
@@ -204,6 +210,13 @@ module _ {F : Type 0} (K : Field F) where
   word-syndromes n α b k ε j h =
       eval-sums R₂ n ε (pow R₂ α (b + j))
       ∙ sum-ext R₂ n _ _ (λ p _. ap (λ w. ε p ⊠ w) (sym (pow-mul R₂ α (b + j) p) ∙ ap (pow R₂ α) (mul-comm (b + j) p) ∙ pow-mul R₂ α p (b + j)))
+
+  pub syndromes-add : (n : ℕ) (x : ℕ → F) (b k : ℕ) (ε η s u : ℕ → F) → Syndromes n x b k ε s → Syndromes n x b k η u
+      → Syndromes n x b k (λ p. ε p ⊞ η p) (λ j. s j ⊞ u j)
+  syndromes-add n x b k ε η s u s-is u-is j h =
+      ap₂ _⊞_ (s-is j h) (u-is j h)
+      ∙ sym (sum-add R₂ n (λ p. ε p ⊠ pow R₂ (x p) (b + j)) (λ p. η p ⊠ pow R₂ (x p) (b + j)))
+      ∙ sum-ext R₂ n _ _ (λ p _. sym (dist-⊠ R₂ (ε p) (η p) (pow R₂ (x p) (b + j))))
 
   -- the register's polynomial at the inverse of X_p: what a Chien search looks for zeros of
   abbrev pub chien : (ℕ → F) → ℕ → (ℕ → F) → ℕ → F
@@ -231,10 +244,7 @@ module _ {F : Type 0} (K : Field F) where
         ∙ sum-ext R₂ e _ _ (λ i _. shift (ε (L .place i)) (x (L .place i)) b j)
 
     gen-there : (c : ℕ → F) (l : ℕ) → Gen R₂ s k c l → Gen R₂ (syndrome R₂ e y₀ x₀) k c l
-    gen-there c l g = record { head = g .head; supp = g .supp; zeros = λ n h h′. sym (conv-ext R₂ n c s _ (λ j a. agree j (omega arith))) ∙ g .zeros n h h′ }
-
-    gen-back : (c : ℕ → F) (l : ℕ) → Gen R₂ (syndrome R₂ e y₀ x₀) k c l → Gen R₂ s k c l
-    gen-back c l g = record { head = g .head; supp = g .supp; zeros = λ n h h′. conv-ext R₂ n c s _ (λ j a. agree j (omega arith)) ∙ g .zeros n h h′ }
+    gen-there c l g = gen-ext R₂ s (syndrome R₂ e y₀ x₀) k c l agree g
 
     nz₀ : (p : ℕ) → p < e → x₀ p ≢ 𝟘
     unfolding e x₀ L
@@ -247,7 +257,7 @@ module _ {F : Type 0} (K : Field F) where
     -- the locator polynomial, the product of 1 + X_p x over the wrong places, is a register of the error's weight
     pub locator-serves : Gen R₂ s k (locator R₂ x₀ (weight n ε)) (weight n ε)
     unfolding e
-    locator-serves = gen-back _ _ (locator-gen K e y₀ x₀ nz₀ k)
+    locator-serves = gen-ext R₂ (syndrome R₂ e y₀ x₀) s k _ _ (λ j h. sym (agree j h)) (locator-gen K e y₀ x₀ nz₀ k)
 
     -- so a shortest register is no longer than the error's weight
     pub no-longer : (c : ℕ → F) (l : ℕ) → Shortest R₂ s k c l → l ≤ weight n ε
@@ -261,7 +271,7 @@ module _ {F : Type 0} (K : Field F) where
 
       enough₀ : e + e ≤ k
       unfolding e
-      enough₀ = enough
+      enough₀ = omega (arith, enough)
 
       fits : l ≤ e
       unfolding e
@@ -321,10 +331,6 @@ module _ {F : Type 0} (K : Field F) where
   pub only-error : (n : ℕ) (x : ℕ → F) → ((p : ℕ) → p < n → x p ≢ 𝟘) → Distinct n x → (b k : ℕ) (ε η s : ℕ → F)
       → Syndromes n x b k ε s → Syndromes n x b k η s → weight n ε + weight n η ≤ k → (p : ℕ) → p < n → ε p ≡ η p
   only-error n x x-nz x-d b k ε η s se sη light p h =
-      ⊞-cancel R₂ (ε p) (η p) (min-distance n x x-nz x-d b k (λ p. ε p ⊞ η p) (omega (arith, weight-add n ε η)) zeros p h)
-    where
-      zeros : (j : ℕ) → j < k → sum R₂ n (λ p. (ε p ⊞ η p) ⊠ pow R₂ (x p) (b + j)) ≡ 𝟘
-      zeros j a =
-          sum-ext R₂ n _ _ (λ p _. dist-⊠ R₂ (ε p) (η p) (pow R₂ (x p) (b + j)))
-          ∙ sum-add R₂ n (λ p. ε p ⊠ pow R₂ (x p) (b + j)) (λ p. η p ⊠ pow R₂ (x p) (b + j))
-          ∙ ap₂ _⊞_ (sym (se j a)) (sym (sη j a)) ∙ ⊞-self (s j)
+      ⊞-cancel R₂ (ε p) (η p)
+      (min-distance n x x-nz x-d b k (λ p. ε p ⊞ η p) (omega (arith, weight-add n ε η))
+      (λ j a. sym (syndromes-add n x b k ε η s s se sη j a) ∙ ⊞-self (s j)) p h)

@@ -1,10 +1,10 @@
 -- Multiplication below 2 ^ suc n, by shift and reduce: a commutative ring of characteristic 2. `poly` is the reduction.
-use mathlib.Core.Path.{_≡_, refl, sym, ap, ap₂, _∙_, subst}
-use Prim.Native.Nat.{ℕ, zero, suc, _+_, _-_, _*_, _/_, _%_, _^_, _≤_, _<_}
-use native.Mathlib.Nat.{not-suc-le-zero, le-of-suc-le-suc, mod-lt, zero-lt-suc, add-zero, pow-suc, mul-comm, one-mul, zero-mul, le-refl, le-of-lt, le-trans, lt-of-lt-of-le, mod-eq-of-lt, div-eq-of-lt, mul-div-cancel, mul-mod-left, le-suc, suc-le-suc-iff}
-use lib.Pow.{pow-pos, pow-lt, pow-mono}
+use mathlib.Core.Path.{_≡_, refl, sym, ap, ap₂, _∙_}
+use Prim.Native.Nat.{ℕ, zero, suc, _*_, _/_, _%_, _^_, _≤_, _<_}
+use native.Mathlib.Nat.{not-suc-le-zero, le-of-suc-le-suc, mod-lt, pow-suc, one-mul, zero-mul, le-of-lt, mod-eq-of-lt, div-eq-of-lt, mul-div-cancel, mul-mod-left, suc-le-suc-iff}
+use lib.Pow.{pow-pos, pow-lt}
 use native.Mathlib.Omega.{arith}
-use Rattle.laws.specs.Xor.{_⊕_, ⊕-assoc, ⊕-comm, ⊕-self, ⊕-zero, zero-⊕, ⊕-left-comm, ⊕-lt, ⊕-div, ⊕-mod, ⊕-half, ⊕-odd, ⊕-double, ⊕-swap, bit-mul, two-cases, two-pos, span}
+use Rattle.laws.specs.Xor.{_⊕_, ⊕-self, ⊕-zero, zero-⊕, ⊕-lt, ⊕-div, ⊕-mod, ⊕-half, ⊕-odd, ⊕-double, ⊕-swap, bit-mul, two-cases, two-pos, span}
 
 -- the top digit n goes out at the left, and `poly` comes in for it
 unfoldable pub xt : ℕ → ℕ → ℕ → ℕ

@@ -1,19 +1,19 @@
 -- The numbers below 2 ^ suc n with xor and `mul` are a ring; with two computed checks, a field.
 use mathlib.Core.Path.{_≡_, refl, sym, ap, ap₂, _∙_, subst}
-use mathlib.Core.Logic.{_≢_, _⊎_, inl, inr}
+use mathlib.Core.Logic.{_⊎_, inl, inr}
 use mathlib.Core.HLevel.{Σ-prop-path, Σ-prop-discrete}
 use mathlib.Core.Bool.{Bool, true, false}
 use mathlib.Core.List.{List, [], _∷_}
-use Prim.Native.Nat.{ℕ, zero, suc, _+_, _-_, _*_, _/_, _%_, _^_, _≤_, _<_}
-use native.Mathlib.Nat.{not-suc-le-zero, le-of-suc-le-suc, mod-lt, mod-eq-of-lt, pow-suc, zero-mul, one-mul, le-of-lt, add-mul, le-refl, suc-le-suc-iff, le-suc, mul-zero}
+use Prim.Native.Nat.{ℕ, zero, suc, _+_, _*_, _/_, _%_, _^_, _<_}
+use native.Mathlib.Nat.{le-of-suc-le-suc, mod-lt, le-of-lt}
 use native.Mathlib.Bridge.{le-prop}
 use native.Mathlib.Decide.{ℕ-discrete}
 use native.Mathlib.Omega.{arith}
 use lib.Dec.{T, eqb, eqb→eq}
 use lib.Pow.{pow-pos, pow-lt}
 use Rattle.laws.specs.Tests.{below, below-at}
-use Rattle.laws.specs.Xor.{_⊕_, ⊕-assoc, ⊕-comm, ⊕-self, ⊕-zero, zero-⊕, ⊕-lt, ⊕-half, ⊕-odd, ⊕-double, ⊕-swap, bit-mul, two-cases, two-pos, span}
-use Rattle.algebra.specs.Gf.{mul, mul-lt, mul-add-l, mul-add-r, one-mul′, mul-comm′, mul-assoc′, mul-two, mul-zero-l}
+use Rattle.laws.specs.Xor.{_⊕_, ⊕-assoc, ⊕-comm, ⊕-self, ⊕-zero, ⊕-lt, ⊕-half, ⊕-odd, ⊕-double, ⊕-swap, bit-mul, two-cases, two-pos, span}
+use Rattle.algebra.specs.Gf.{mul, mul-lt, mul-add-r, one-mul′, mul-comm′, mul-assoc′, mul-two, mul-zero-l}
 use Rattle.algebra.specs.Ring.{Ring, Field, sqs, sqs-add, sqs-mul, sqs-zero, sqs-one, ones-power, fermat-inverse, square-add}
 
 -- ---- linear maps by their values at the powers of two

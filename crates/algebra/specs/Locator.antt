@@ -1,12 +1,12 @@
 -- A shortest register for the syndromes of e errors, from twice as many syndromes, has the errors' inverse locators as its roots, and no others.
-use mathlib.Core.Path.{_≡_, refl, sym, ap, ap₂, _∙_, subst, fun-ext}
-use mathlib.Core.Logic.{_≢_, _⊎_, inl, inr, ite, if-pos, if-neg}
-use Prim.Native.Nat.{ℕ, zero, suc, _+_, _-_, _≤_, _<_}
-use native.Mathlib.Nat.{not-suc-le-zero, le-of-suc-le-suc, le-suc, le-refl}
+use mathlib.Core.Path.{_≡_, refl, sym, ap, ap₂, _∙_}
+use mathlib.Core.Logic.{_≢_, ite, if-pos, if-neg}
+use Prim.Native.Nat.{ℕ, zero, suc, _+_, _≤_, _<_}
+use native.Mathlib.Nat.{not-suc-le-zero, le-of-suc-le-suc, le-suc}
 use native.Mathlib.Decide.{ℕ-discrete, decLe, decLt}
 use native.Mathlib.Omega.{arith}
-use Rattle.algebra.specs.Ring.{Ring, Field, ⊞-lc, ⊠-lc, zero-⊞, one-⊠, dist-⊠, ⊠-zero, zero-⊠, ⊞-self-l, ⊞-swap, ⊠-swap, ⊞-cancel}
-use Rattle.algebra.specs.Series.{sum, sum-ext, sum-zero, sum-none, sum-mul, sum-front, pow, pow-add, eval, eval-zero, eval-more, conv, up, conv-vanish, conv-add-r, conv-mul-r, conv-pow}
+use Rattle.algebra.specs.Ring.{Ring, Field, ⊠-lc, zero-⊞, one-⊠, ⊠-zero, ⊞-swap}
+use Rattle.algebra.specs.Series.{sum, sum-ext, sum-zero, sum-none, sum-mul, sum-front, pow, pow-add, eval, eval-more, conv, up, conv-vanish, conv-add-r, conv-mul-r, conv-pow}
 use Rattle.algebra.specs.Roots.{Distinct, domain, pow-nz, inv-inj, roots, vandermonde}
 use Rattle.algebra.specs.Massey.{Gen}
 

@@ -1,12 +1,12 @@
 -- Shift registers that generate a sequence; Massey's bound; Berlekamp-Massey finds a shortest one.
-use mathlib.Core.Path.{_≡_, refl, sym, ap, ap₂, _∙_, subst, fun-ext, transport}
-use mathlib.Core.Logic.{_≢_, _⊎_, inl, inr}
+use mathlib.Core.Path.{_≡_, refl, sym, ap, ap₂, _∙_, transport}
+use mathlib.Core.Logic.{_≢_}
 use Prim.Native.Nat.{ℕ, zero, suc, _+_, _-_, _≤_, _<_}
 use native.Mathlib.Nat.{not-suc-le-zero, le-of-suc-le-suc, le-suc, le-refl}
 use native.Mathlib.Decide.{ℕ-discrete, decLe}
 use native.Mathlib.Omega.{arith}
-use Rattle.algebra.specs.Ring.{Ring, Field, ⊞-lc, ⊠-lc, zero-⊞, one-⊠, dist-⊠, ⊠-zero, zero-⊠, ⊞-self-l, ⊞-swap, ⊠-swap, ⊞-cancel}
-use Rattle.algebra.specs.Series.{conv, up, conv-vanish, conv-head, conv-add-l, conv-mul-l, conv-up-l, conv-lc, sum, conv-sum, sum-more}
+use Rattle.algebra.specs.Ring.{Ring, Field, one-⊠, ⊠-zero, zero-⊠}
+use Rattle.algebra.specs.Series.{conv, up, conv-ext, conv-vanish, conv-head, conv-add-l, conv-mul-l, conv-up-l, conv-lc, sum, conv-sum, sum-more}
 
 -- times x ^ m
 unfoldable pub ups : {F : Type 0} → Ring F → ℕ → (ℕ → F) → ℕ → F
@@ -26,6 +26,18 @@ module _ {F : Type 0} (R : Ring F) where
     pub gen : Gen s k c l
     pub short : (c′ : ℕ → F) (l′ : ℕ) → Gen s k c′ l′ → l ≤ l′
 
+  -- sequences that agree below k have the same registers
+  pub gen-ext : (s s′ : ℕ → F) (k : ℕ) (c : ℕ → F) (l : ℕ) → ((j : ℕ) → j < k → s j ≡ s′ j) → Gen s k c l → Gen s′ k c l
+  gen-ext s s′ k c l e g =
+      record { head = g .head; supp = g .supp; zeros = λ n h h′. sym (conv-ext R n c s s′ (λ j a. e j (omega arith))) ∙ g .zeros n h h′ }
+
+  pub shortest-ext : (s s′ : ℕ → F) (k : ℕ) (c : ℕ → F) (l : ℕ) → ((j : ℕ) → j < k → s j ≡ s′ j) → Shortest s k c l → Shortest s′ k c l
+  shortest-ext s s′ k c l e S =
+      record {
+        gen = gen-ext s s′ k c l e (S .gen);
+        short = λ c′ l′ g. S .short c′ l′ (gen-ext s′ s k c′ l′ (λ j h. sym (e j h)) g);
+      }
+
 module _ {F : Type 0} (K : Field F) where
   open Ring (K .ring) using (𝟘, 𝟙, _⊞_, _⊠_, ⊞-assoc, ⊞-comm, ⊞-zero, ⊞-self, ⊠-assoc, ⊠-comm, ⊠-one, ⊠-dist)
 
@@ -34,8 +46,9 @@ module _ {F : Type 0} (K : Field F) where
   abbrev R : Ring F
   R = K .ring
 
-  gen-fewer : (s : ℕ → F) (k : ℕ) (c : ℕ → F) (l : ℕ) → Gen R s (suc k) c l → Gen R s k c l
-  gen-fewer s k c l g = record { head = g .head; supp = g .supp; zeros = λ n h h′. g .zeros n h (omega arith) }
+  -- fewer places
+  pub gen-less : (s : ℕ → F) (j k : ℕ) (c : ℕ → F) (l : ℕ) → j ≤ k → Gen R s k c l → Gen R s j c l
+  gen-less s j k c l a g = record { head = g .head; supp = g .supp; zeros = λ n h h′. g .zeros n h (omega arith) }
 
   -- one place more
   pub gen-more : (s : ℕ → F) (k : ℕ) (c : ℕ → F) (l : ℕ) → Gen R s k c l → conv R c s k ≡ 𝟘 → Gen R s (suc k) c l
@@ -134,9 +147,6 @@ module _ {F : Type 0} (K : Field F) where
   unfolding fixed
   fixed-below c q m b i h = ap (λ y. c i ⊞ q ⊠ y) (ups-below m i b h) ∙ ap (λ y. c i ⊞ y) (⊠-zero R q) ∙ ⊞-zero (c i)
 
-  pub gen-less : (s : ℕ → F) (j k : ℕ) (c : ℕ → F) (l : ℕ) → j ≤ k → Gen R s k c l → Gen R s j c l
-  gen-less s j k c l a g = record { head = g .head; supp = g .supp; zeros = λ n h h′. g .zeros n h (omega arith) }
-
   -- 1, and then 0
   unfoldable pub unit : ℕ → F
   unit zero = 𝟙
@@ -165,7 +175,7 @@ module _ {F : Type 0} (K : Field F) where
     step-zero e =
         record {
           gen = gen-more s k c l (I .gen) e;
-          short = λ c′ l′ g. I .short c′ l′ (gen-fewer s k c′ l′ g);
+          short = λ c′ l′ g. I .short c′ l′ (gen-less s k (suc k) c′ l′ (le-suc k) g);
           δ-nz = I .δ-nz;
           m-pos = omega arith;
           link = omega (arith, I .link);
@@ -201,7 +211,7 @@ module _ {F : Type 0} (K : Field F) where
     step-keep nz h =
         record {
           gen = mend l (le-refl l) h;
-          short = λ c′ l′ g. I .short c′ l′ (gen-fewer s k c′ l′ g);
+          short = λ c′ l′ g. I .short c′ l′ (gen-less s k (suc k) c′ l′ (le-suc k) g);
           δ-nz = I .δ-nz;
           m-pos = omega arith;
           link = omega (arith, I .link);

@@ -1,15 +1,15 @@
 -- Powers of an element of a ring: by squaring, and what its order is a multiple of.
 use mathlib.Core.Path.{_≡_, refl, sym, ap, ap₂, _∙_, subst}
-use mathlib.Core.Logic.{_≢_, _⊎_, inl, inr}
+use mathlib.Core.Logic.{_≢_}
 use mathlib.Core.Bool.{Bool, true, false, not}
-use Prim.Native.Nat.{ℕ, zero, suc, _+_, _-_, _*_, _/_, _%_, _^_, _≤_, _<_}
-use native.Mathlib.Nat.{not-suc-le-zero, le-of-suc-le-suc, le-suc, le-refl, mul-suc, mul-zero, add-comm, div-add-mod', mul-comm, mod-lt, zero-lt-suc, zero-add, pow-suc, add-zero}
+use Prim.Native.Nat.{ℕ, zero, suc, _+_, _*_, _/_, _%_, _^_, _<_}
+use native.Mathlib.Nat.{not-suc-le-zero, le-of-suc-le-suc, mul-suc, mul-zero, div-add-mod', mul-comm, mod-lt, zero-lt-suc, pow-suc}
 use native.Mathlib.Omega.{arith}
 use lib.Arith.{lt-one}
 use lib.Dec.{T, T-not}
 use Rattle.laws.specs.Tests.{both, both-l, both-r}
 use Rattle.laws.specs.Xor.{two-cases, two-pos}
-use Rattle.algebra.specs.Ring.{Ring, Field, one-⊠, ⊠-lc, ⊠-swap, ⊠-zero, zero-⊠}
+use Rattle.algebra.specs.Ring.{Ring, one-⊠, ⊠-swap}
 use Rattle.algebra.specs.Series.{pow, pow-add}
 
 module _ {F : Type 0} (R : Ring F) where

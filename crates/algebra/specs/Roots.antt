@@ -1,12 +1,12 @@
 -- Over a field: a polynomial of n coefficients with n roots is zero; a combination of n power sequences that vanishes n times is zero
 -- (Vandermonde); powers of an element below its order differ.
-use mathlib.Core.Path.{_≡_, refl, sym, ap, ap₂, _∙_, subst, fun-ext}
+use mathlib.Core.Path.{_≡_, refl, sym, ap, ap₂, _∙_}
 use mathlib.Core.Logic.{_≢_, _⊎_, inl, inr}
-use Prim.Native.Nat.{ℕ, zero, suc, _+_, _-_, _≤_, _<_}
-use native.Mathlib.Nat.{not-suc-le-zero, le-of-suc-le-suc, le-suc, le-refl}
+use Prim.Native.Nat.{ℕ, zero, suc, _+_, _-_, _<_}
+use native.Mathlib.Nat.{not-suc-le-zero, le-of-suc-le-suc, le-refl}
 use native.Mathlib.Decide.{ℕ-discrete}
 use native.Mathlib.Omega.{arith}
-use Rattle.algebra.specs.Ring.{Ring, Field, ⊞-lc, ⊠-lc, zero-⊞, one-⊠, dist-⊠, ⊠-zero, zero-⊠, ⊞-self-l, ⊞-swap, ⊠-swap, ⊞-cancel, square-add}
+use Rattle.algebra.specs.Ring.{Ring, Field, ⊠-lc, zero-⊞, one-⊠, dist-⊠, ⊠-zero, zero-⊠, ⊞-self-l, ⊞-swap, ⊞-cancel, square-add}
 use Rattle.algebra.specs.Power.{pow-one, pow-prod}
 use Rattle.algebra.specs.Series.{sum, sum-ext, sum-add, sum-mul, sum-zero, pow, pow-add, eval, eval-zero}
 

@@ -1,10 +1,10 @@
 -- Sequences over a ring: finite sums, powers, Horner evaluation, and the product of power series, `conv`, with no subtraction of indices.
-use mathlib.Core.Path.{_≡_, refl, sym, ap, ap₂, _∙_, subst, fun-ext}
+use mathlib.Core.Path.{_≡_, refl, sym, ap, ap₂, _∙_, fun-ext}
 use Prim.Native.Nat.{ℕ, zero, suc, _+_, _-_, _≤_, _<_}
-use native.Mathlib.Nat.{not-suc-le-zero, le-of-suc-le-suc, le-suc, le-refl, le-of-lt, add-zero, zero-add, add-suc, suc-add, suc-sub-suc, sub-zero}
+use native.Mathlib.Nat.{not-suc-le-zero, le-of-suc-le-suc, zero-add, suc-add, suc-sub-suc, sub-zero}
 use native.Mathlib.Decide.{le-ind}
 use native.Mathlib.Omega.{arith}
-use Rattle.algebra.specs.Ring.{Ring, ⊞-lc, ⊠-lc, zero-⊞, one-⊠, dist-⊠, ⊠-zero, zero-⊠, ⊞-self-l, ⊞-swap, ⊠-swap}
+use Rattle.algebra.specs.Ring.{Ring, ⊠-lc, zero-⊞, one-⊠, dist-⊠, ⊠-zero, zero-⊠, ⊞-swap, ⊠-swap, square-add}
 
 module _ {F : Type 0} (R : Ring F) where
   open Ring R using (𝟘, 𝟙, _⊞_, _⊠_, ⊞-assoc, ⊞-comm, ⊞-zero, ⊞-self, ⊠-assoc, ⊠-comm, ⊠-one, ⊠-dist)
@@ -43,6 +43,11 @@ module _ {F : Type 0} (R : Ring F) where
   unfolding sum
   sum-zero zero f h = refl
   sum-zero (suc n) f h = ap₂ _⊞_ (sum-zero n f (λ i k. h i (omega arith))) (h n (omega arith)) ∙ ⊞-zero 𝟘
+
+  pub sum-square : (n : ℕ) (f : ℕ → F) → sum n f ⊠ sum n f ≡ sum n (λ i. f i ⊠ f i)
+  unfolding sum
+  sum-square zero f = ⊠-zero R 𝟘
+  sum-square (suc n) f = square-add R (sum n f) (f n) ∙ ap (λ x. x ⊞ f n ⊠ f n) (sum-square n f)
 
   -- ---- powers
   unfoldable pub pow : F → ℕ → F

@@ -1,12 +1,12 @@
 -- A register of length l with l different roots generates nothing but sums of l powers: sequences that are the syndromes of l errors.
 use mathlib.Core.Path.{_≡_, refl, sym, ap, ap₂, _∙_}
 use mathlib.Core.Logic.{_≢_, ite, if-pos, if-neg}
-use Prim.Native.Nat.{ℕ, zero, suc, _+_, _≤_, _<_}
+use Prim.Native.Nat.{ℕ, zero, suc, _≤_, _<_}
 use native.Mathlib.Nat.{not-suc-le-zero, le-refl}
 use native.Mathlib.Decide.{ℕ-discrete, decLt}
 use native.Mathlib.Omega.{arith}
 use Rattle.algebra.specs.Ring.{Ring, Field, ⊞-cancel, ⊞-swap, ⊞-self-l, ⊠-lc, ⊠-zero, one-⊠}
-use Rattle.algebra.specs.Series.{sum, sum-last, sum-ext, sum-add, sum-mul, sum-zero, pow, eval, eval-more, conv, conv-add-r, conv-head}
+use Rattle.algebra.specs.Series.{sum-last, sum-ext, sum-add, sum-mul, sum-zero, pow, eval, eval-more, conv, conv-add-r, conv-head}
 use Rattle.algebra.specs.Roots.{Distinct, apart, weigh}
 use Rattle.algebra.specs.Massey.{Gen}
 use Rattle.algebra.specs.Locator.{syndrome, at-roots}

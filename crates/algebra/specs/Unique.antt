@@ -7,7 +7,7 @@ use native.Mathlib.Decide.{ℕ-discrete, decLe, le-ind}
 use native.Mathlib.Omega.{arith}
 use Rattle.algebra.specs.Ring.{Ring, Field, ⊠-zero, ⊞-cancel}
 use Rattle.algebra.specs.Series.{conv, conv-add-l, conv-mul-l}
-use Rattle.algebra.specs.Massey.{Gen, Shortest, massey, gen-more, ups, ups-at, ups-below, conv-ups}
+use Rattle.algebra.specs.Massey.{Gen, Shortest, massey, gen-less, gen-more, ups, ups-at, ups-below, conv-ups}
 
 module _ {F : Type 0} (K : Field F) where
   open Ring (K .ring) using (𝟘, 𝟙, _⊞_, _⊠_, ⊞-zero, ⊞-self, ⊠-comm)
@@ -65,12 +65,9 @@ module _ {F : Type 0} (K : Field F) where
         again : (m : ℕ) → k - j ≤ m → Gen R s m moved (l - j) → m < k → Gen R s (suc m) moved (l - j)
         again m a g h = pick (K .dec (conv R moved s m) 𝟘)
           where
-            less : Gen R s (suc m) c l
-            less = record { head = S .gen .head; supp = S .gen .supp; zeros = λ n p q. S .gen .zeros n p (omega arith) }
-
             pick : Dec (conv R moved s m ≡ 𝟘) → Gen R s (suc m) moved (l - j)
             pick (yes e) = gen-more K s m moved (l - j) g e
-            pick (no ne) = absurd (omega (arith, massey K s m moved (l - j) c l g ne less, fits))
+            pick (no ne) = absurd (omega (arith, massey K s m moved (l - j) c l g ne (gen-less K s (suc m) k c l h (S .gen)), fits))
 
         all-of-it : Gen R s k moved (l - j)
         all-of-it =

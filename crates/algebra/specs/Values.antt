@@ -1,7 +1,6 @@
 -- The values of binary polynomials in a ring of characteristic 2; a polynomial that vanishes at all roots of a divisor is its multiple.
-use mathlib.Core.Path.{_≡_, refl, sym, ap, ap₂, _∙_, subst}
-use mathlib.Core.Logic.{_≢_}
-use Prim.Native.Nat.{ℕ, zero, suc, _+_, _-_, _*_, _/_, _%_, _^_, _≤_, _<_}
+use mathlib.Core.Path.{_≡_, refl, sym, ap, ap₂, _∙_}
+use Prim.Native.Nat.{ℕ, zero, suc, _+_, _*_, _/_, _%_, _^_, _≤_, _<_}
 use native.Mathlib.Nat.{not-suc-le-zero, le-of-suc-le-suc, mod-lt, zero-mul, one-mul, le-refl, mul-div-cancel, mul-mod-left, div-one}
 use native.Mathlib.Omega.{arith}
 use lib.Arith.{lt-one}

@@ -1,22 +1,21 @@
--- The table's rule: each entry is its word of its register. antt computes one test over the whole table:
+-- The table's rule: its entries are the words of the registers. antt computes one test over the whole table:
 -- the register of 0 is 0, that of 2 ^ (i + 1) is that of 2 ^ i shifted once, and that of t is that of t without its top digit, with that of its top digit added.
 -- Laws on remainders turn what it shows into t(x) times x^e mod g, whatever e is.
 -- Assumes nothing.
 use mathlib.Core.Path.{_≡_, refl, sym, ap, ap₂, _∙_, subst}
 use mathlib.Core.List.{List, [], _∷_, _++_, map}
 use Prim.Native.Nat.{ℕ, zero, suc, _+_, _-_, _*_, _/_, _%_, _^_, _≤_, _<_}
-use native.Mathlib.Nat.{not-suc-le-zero, le-of-suc-le-suc, le-of-lt, lt-of-lt-of-le, lt-of-not-le, le-refl, add-comm, suc-mul, suc-add, zero-mul, one-mul, pow-suc, mul-assoc, mul-comm, mul-one, mul-div-cancel, mul-mod-left, two-pow-succ}
+use native.Mathlib.Nat.{not-suc-le-zero, le-of-suc-le-suc, le-of-lt, lt-of-lt-of-le, lt-of-not-le, le-refl, add-comm, zero-mul, one-mul, pow-suc, mul-div-cancel, mul-mod-left, two-pow-succ}
 use native.Mathlib.Decide.{decLe}
 use native.Mathlib.Omega.{arith}
 use lib.Arith.{lt-one}
-use lib.Dec.{lit<}
 use lib.ListN.{length, getD, length-append, length-map, List·getD-append}
-use lib.Seq.{getD-append-add}
+use lib.Seq.{getD-append-add, ext-getD}
 use lib.Pow.{pow-mono, pow-lt, shl-lt}
-use Rattle.laws.specs.Xor.{_⊕_, ⊕-comm, two-pos}
+use Rattle.laws.specs.Xor.{_⊕_, two-pos}
 use Rattle.laws.specs.Poly.{rem, into, shifted, rem-zero, rem-add, rem-digits, ⊕-join, ⊕-shift}
 use Rattle.bch_table.specs.Generator.{generator, generator-is}
-use Rattle.bch_table.specs.Table.{timesPower, wordOf}
+use Rattle.bch_table.specs.Table.{timesPower, wordOf, byteTable, table-length, table-at}
 use Rattle.bch_table.proofs.Entries.{table}
 
 -- a list, and after it the same with r added to each
@@ -145,9 +144,19 @@ words-at (r ∷ rs) (suc t) w h hw = ap (λ (n : ℕ). getD (words (r ∷ rs)) n
     next : suc t * 3 + w ≡ suc (suc (suc (t * 3 + w)))
     next = omega arith
 
-pub entry : (t w : ℕ) → t < 256 → w < 3 → getD table (t * 3 + w) 0 ≡ wordOf w (timesPower 192 t)
+entry : (t w : ℕ) → t < 256 → w < 3 → getD table (t * 3 + w) 0 ≡ wordOf w (timesPower 192 t)
 entry t w ht hw =
     ap (λ (l : List ℕ). getD l (t * 3 + w) 0) (sym table-is)
     ∙ ap₂ (λ (g r : ℕ). getD (words (registers g r 8)) (t * 3 + w) 0) (sym generator-is) (sym first)
     ∙ words-at (registers generator (timesPower 192 1) 8) t w (subst (λ (n : ℕ). t < n) (sym (registers-length generator (timesPower 192 1) 8)) ht) hw
     ∙ ap (wordOf w) (registers-at 192 8 (le-refl 8) t ht)
+
+pub table-rule : table ≡ byteTable
+table-rule = ext-getD 0 table byteTable (sym table-length) same
+  where
+    same : (i : ℕ) → i < length table → getD table i 0 ≡ getD byteTable i 0
+    same i h =
+        let t : i / 3 < 256 = omega arith in
+        let w : i % 3 < 3 = omega arith in
+        let e : i / 3 * 3 + i % 3 ≡ i = omega arith in
+        subst (λ (k : ℕ). getD table k 0 ≡ getD byteTable k 0) e (entry (i / 3) (i % 3) t w ∙ sym (table-at (i / 3) (i % 3) t w))

@@ -1,11 +1,11 @@
 -- Three words as one number: shifted by eight places, xored, and its top byte. `omega` takes no number of more than 38 digits, so 2 ^ 64 is a variable B in what it shows.
 -- Assumes nothing.
-use mathlib.Core.Path.{_≡_, refl, sym, _∙_, ap, ap₂, subst}
-use Prim.Native.Nat.{ℕ, _+_, _*_, _/_, _%_, _^_, _<_, _≤_}
-use native.Mathlib.Nat.{mul-div-mul-right, mul-add-mod-self-right, mod-eq-of-lt, add-mul-div-right, div-eq-of-lt, div-div-eq-div-mul, mod-lt, add-comm, div-add-mod', mul-le-mul-right, mul-le-mul-left, le-trans, lt-of-lt-of-le}
+use mathlib.Core.Path.{_≡_, sym, _∙_, ap, ap₂, subst}
+use Prim.Native.Nat.{ℕ, _+_, _*_, _/_, _%_, _^_, _<_}
+use native.Mathlib.Nat.{mul-div-mul-right, mul-add-mod-self-right, mod-eq-of-lt, div-div-eq-div-mul, mod-lt, add-comm, lt-of-lt-of-le}
 use native.Mathlib.Omega.{arith}
 use lib.Dec.{lit<, lit≤}
-use lib.Bits.{bitXor, xor-block, xor-shifted, xor-lt}
+use lib.Bits.{bitXor, xor-shifted}
 use Rattle.bch_table.specs.Table.{wordOf, timesPower}
 use Rattle.laws.specs.Xor.{_⊕_, ⊕-assoc, ⊕-comm, ⊕-split}
 use Rattle.laws.specs.Poly.{rem, rem-add, rem-small, ⊕-shift}

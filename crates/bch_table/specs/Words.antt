@@ -5,7 +5,6 @@ use native.Mathlib.Nat.{div-div-eq-div-mul, div-add-mod', mod-lt, mul-le-mul-rig
 use native.Mathlib.Omega.{arith}
 use lib.Dec.{lit<}
 use lib.Bits.{bitXor, xor-block}
-use Rattle.laws.specs.Xor.{_⊕_}
 use Rattle.bch_table.specs.Table.{wordOf}
 use Rattle.bch_table.specs.Step.{joined}
 

@@ -1,6 +1,10 @@
--- Laws that the kit lacks, one home for each: xor on numbers, computed tests, polynomials over two elements, decimal numbers, runs of stores.
+-- Laws that the kit lacks, one home for each: xor on numbers, computed tests, polynomials over two elements, signed numbers, lists, remainders, choices, decimal numbers, runs of stores.
 pub mod Xor
 pub mod Tests
 pub mod Poly
+pub mod Signed
+pub mod Lists
+pub mod Modulo
+pub mod Choice
 pub mod Decimal
 pub mod Stores

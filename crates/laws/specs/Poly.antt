@@ -207,6 +207,18 @@ clmul-lt (suc k) q m g h =
     up : m ≤ suc (k + m)
     up = omega arith
 
+-- degrees add: k + 1 digits of q and m of g give k + m
+pub clmul-degree : (k q m g : ℕ) → g < 2 ^ m → clmul (suc k) q g < 2 ^ (k + m)
+unfolding clmul
+clmul-degree zero q m g h =
+    subst (λ (n : ℕ). (q % 2 * g) ⊕ 0 < 2 ^ n) (sym (zero-add m)) (subst (λ (x : ℕ). x < 2 ^ m) (sym (⊕-zero (q % 2 * g))) (digit-times-lt m (q % 2) g (mod-lt q two-pos) h))
+clmul-degree (suc k) q m g h =
+    subst (λ (n : ℕ). (q % 2 * g) ⊕ (clmul (suc k) (q / 2) g * 2) < 2 ^ n) (sym (suc-add k m))
+    (⊕-lt (suc (k + m)) (digit-times-lt (suc (k + m)) (q % 2) g (mod-lt q two-pos) (lt-of-lt-of-le h (pow-mono up))) (double-lt (k + m) (clmul (suc k) (q / 2) g) (clmul-degree k (q / 2) m g h)))
+  where
+    up : m ≤ suc (k + m)
+    up = omega arith
+
 pub rem-multiple : (d g k q : ℕ) → g / 2 ^ d ≡ 1 → rem d g (k + suc d) (clmul k q g) ≡ 0
 unfolding clmul
 rem-multiple d g zero q e = rem-zero d g (0 + suc d)

@@ -1,0 +1,54 @@
+-- An array of sixteen that a loop fills: each entry below i meets P. Assumes nothing.
+use mathlib.Core.Path.{_≡_, refl, sym, ap, _∙_, subst}
+use mathlib.Core.List.{List}
+use Prim.Native.Nat.{ℕ, _+_, _*_, _≤_, _<_}
+use native.Mathlib.Nat.{mul-le-mul, le-of-suc-le-suc}
+use native.Mathlib.Decide.{ℕ-discrete}
+use native.Mathlib.Omega.{arith}
+use lib.ListN.{getD, set, length-set, replicate}
+use lib.Seq.{getD-set-same, getD-set-other}
+use Rattle.algebra.specs.Values.{ev}
+use Rattle.gf16.specs.Alpha.{R16, α}
+use Rattle.bch_locator.specs.Element.{toEl, poly}
+use Rattle.bch_locator.specs.Lanes.{Lanes, Products}
+use Rattle.bch_locator.proofs.Steps.{zeros-at}
+
+pub record Filling (P : ℕ → ℕ → Type 0) (r : List ℕ) (i : ℕ) : Type 0 where
+  pub lanes : Lanes r
+  pub below : i ≤ 16
+  pub at : (j : ℕ) → j < i → P j (getD r j 0)
+
+pub zero-lanes : Lanes (replicate 16 0)
+zero-lanes = record { len = refl; fit = λ i. let e = zeros-at 16 i in omega arith }
+
+pub filling-start : (P : ℕ → ℕ → Type 0) (r : List ℕ) → Lanes r → Filling P r 0
+filling-start P r z = record { lanes = z; below = omega arith; at = λ j h. absurd (omega arith) }
+
+pub lanes-set : (r : List ℕ) (i v : ℕ) → Lanes r → i < 16 → v < 65536 → Lanes (set r i v)
+lanes-set r i v l h hv = record { len = length-set r i v ∙ l .len; fit = λ j. fits j (ℕ-discrete j i) }
+  where
+    fits : (j : ℕ) → Dec (j ≡ i) → getD (set r i v) j 0 < 65536
+    fits j (yes e) = subst (λ (z : ℕ). z < 65536) (sym (ap (λ (k : ℕ). getD (set r i v) k 0) e ∙ getD-set-same r i v 0 (omega (arith, l .len)))) hv
+    fits j (no ne) = subst (λ (z : ℕ). z < 65536) (sym (getD-set-other r i j v 0 ne)) (l .fit j)
+
+pub filling-again : (P : ℕ → ℕ → Type 0) (r : List ℕ) (i v : ℕ) → Filling P r i → i < 16 → v < 65536 → P i v → Filling P (set r i v) (i + 1)
+filling-again P r i v F h hv p =
+    record { lanes = lanes-set r i v (F .lanes) h hv; below = omega arith; at = λ j g. pick j g (ℕ-discrete j i) }
+  where
+    pick : (j : ℕ) → j < i + 1 → Dec (j ≡ i) → P j (getD (set r i v) j 0)
+    pick j g (yes e) =
+        subst (λ (k : ℕ). P k (getD (set r i v) k 0)) (sym e) (subst (P i) (sym (getD-set-same r i v 0 (omega (arith, F .lanes .len)))) p)
+    pick j g (no ne) = subst (P j) (sym (getD-set-other r i j v 0 ne)) (F .at j (omega arith))
+
+-- ---- `times`
+abbrev pub At : List ℕ → List ℕ → ℕ → ℕ → Type 0
+At t p i v = toEl v ≡ ev R16 32 (getD t i 0 * getD p i 0) α
+
+pub product-fits : (a b : ℕ) → a < 65536 → b ≤ 4096 → a * b < 2147483648
+product-fits a b ha hb =
+    let m : a * b ≤ 65535 * 4096 = mul-le-mul (le-of-suc-le-suc ha) hb in
+    omega arith
+
+pub products-end : (r t p : List ℕ) (i : ℕ) → 16 ≤ i → Filling (At t p) r i → Products r t p
+unfolding poly
+products-end r t p i h F = record { lanes = F .lanes; at = λ j g. F .at j (omega arith) }

@@ -1,0 +1,107 @@
+-- The digits of a number, the highest first, as the code takes them: b shifted up by i in 1 + n digits. And the product of two polynomials
+-- so taken. Assumes nothing.
+use mathlib.Core.Path.{_≡_, refl, sym, ap, ap₂, _∙_, subst}
+use Prim.Native.Nat.{ℕ, zero, suc, _+_, _-_, _*_, _/_, _%_, _^_, _≤_, _<_}
+use native.Mathlib.Nat.{mod-lt, pow-suc, zero-mul, one-mul, mul-assoc, mod-eq-of-lt, add-mod, lt-of-lt-of-le, div-one, mul-one, le-refl, zero-add, suc-add}
+use native.Mathlib.Numerals.{add-one}
+use native.Mathlib.Omega.{arith}
+use lib.Pow.{pow-pos, pow-mono, field, shr-shr, shl-shr}
+use lib.Bits.{bitXor}
+use Rattle.laws.specs.Xor.{_⊕_, ⊕-comm, ⊕-lt, two-cases, two-pos}
+use Rattle.laws.specs.Poly.{clmul}
+use Rattle.algebra.specs.Values.{ev, ev-clmul}
+use Rattle.gf16.specs.Alpha.{R16, α}
+use Rattle.bch_locator.specs.Element.{toEl}
+use Rattle.bch_locator.proofs.AtAlpha.{ev-itself}
+
+-- the highest digit is the next
+pub digit-top : (n b i m y : ℕ) → i + m ≡ n → y ≡ b * 2 ^ i % 2 ^ (1 + n) → y / 2 ^ n ≡ b / 2 ^ m % 2
+digit-top n b i m y e f =
+    ap (λ (z : ℕ). z / 2 ^ n) f ∙ field (b * 2 ^ i) 1 n
+    ∙ ap (λ (z : ℕ). z % 2) (ap (λ (z : ℕ). b * 2 ^ i / 2 ^ z) (sym e) ∙ sym (shr-shr (b * 2 ^ i) i m) ∙ ap (λ (z : ℕ). z / 2 ^ m) (shl-shr b i))
+
+-- and goes
+pub digit-next : (n b i y : ℕ) → y ≡ b * 2 ^ i % 2 ^ n → y * 2 % 2 ^ n ≡ b * 2 ^ (i + 1) % 2 ^ n
+digit-next n b i y f =
+    ap (λ (z : ℕ). z % 2 ^ n) (twice y ∙ ap₂ _+_ f f) ∙ sym (add-mod (b * 2 ^ i) (b * 2 ^ i) (2 ^ n))
+    ∙ ap (λ (z : ℕ). z % 2 ^ n) (sym (twice (b * 2 ^ i)) ∙ mul-assoc b (2 ^ i) 2 ∙ ap (λ (z : ℕ). b * z) (sym (pow-suc 2 i) ∙ ap (λ (z : ℕ). 2 ^ z) (sym (add-one i))))
+  where
+    twice : (z : ℕ) → z * 2 ≡ z + z
+    twice z = omega arith
+
+bit-lt : (d a k : ℕ) → d < 2 → a < 2 ^ k → d * a < 2 ^ k
+bit-lt d a k h g = two-cases (λ d. d * a < 2 ^ k) (subst (λ (z : ℕ). z < 2 ^ k) (sym (zero-mul a)) (pow-pos k)) (subst (λ (z : ℕ). z < 2 ^ k) (sym (one-mul a)) g) d h
+
+clmul-lt : (k q g d : ℕ) → g < 2 ^ d → clmul (suc k) q g < 2 ^ (k + d)
+unfolding clmul
+clmul-lt zero q g d h =
+    subst (λ (z : ℕ). clmul 1 q g < 2 ^ z) (sym (zero-add d)) (⊕-lt d (bit-lt (q % 2) g d (mod-lt q two-pos) h) (pow-pos d))
+clmul-lt (suc k) q g d h =
+    let r = clmul-lt k (q / 2) g d h in
+    subst (λ (z : ℕ). clmul (suc (suc k)) q g < 2 ^ z) (sym (suc-add k d))
+    (⊕-lt (suc (k + d)) (bit-lt (q % 2) g (suc (k + d)) (mod-lt q two-pos) (lt-of-lt-of-le h (pow-mono (omega arith))))
+    (omega (arith, r, pow-suc 2 (k + d))))
+
+-- ---- the loop of `mul`: i digits of b are done
+pub record Taken (a b x y i : ℕ) : Type 0 where
+  pub most : i ≤ 16
+  pub done : x ≡ clmul i (b / 2 ^ (16 - i)) a
+  pub left : y ≡ b * 2 ^ i % 2 ^ 16
+
+pub taken-start : (a b : ℕ) → b < 65536 → Taken a b 0 b 0
+unfolding clmul
+taken-start a b h = record { most = omega arith; done = refl; left = sym (ap (λ (z : ℕ). z % 65536) (mul-one b) ∙ mod-eq-of-lt h) }
+
+module _ (a b x y i : ℕ) (ha : a < 65536) (t : Taken a b x y i) (h : i < 16) where
+  top : y / 2 ^ 15 ≡ b / 2 ^ (15 - i) % 2
+  top = digit-top 15 b i (15 - i) y (omega arith) (t .left)
+
+  pub top-lt : y / 32768 < 2
+  top-lt = subst (λ (z : ℕ). z < 2) (sym top) (mod-lt (b / 2 ^ (15 - i)) two-pos)
+
+  pub room : x < 2147483648
+  unfolding clmul
+  room = small i refl
+    where
+      small : (j : ℕ) → i ≡ j → x < 2147483648
+      small zero e = subst (λ (z : ℕ). z < 2147483648) (sym (t .done ∙ ap (λ (z : ℕ). clmul z (b / 2 ^ (16 - i)) a) e)) (pow-pos 31)
+      small (suc j) e =
+          subst (λ (z : ℕ). z < 2147483648) (sym (t .done ∙ ap (λ (z : ℕ). clmul z (b / 2 ^ (16 - i)) a) e))
+          (lt-of-lt-of-le (clmul-lt j (b / 2 ^ (16 - i)) a 16 ha) (pow-mono {j = 31} (omega arith)))
+
+  pub taken-again : Taken a b (bitXor (x * 2 % 4294967296) (y / 32768 * a)) (y * 2 % 65536) (i + 1)
+  unfolding clmul _⊕_
+  taken-again =
+      record {
+        most = omega arith;
+        done =
+            ap₂ bitXor whole (ap (λ (z : ℕ). z * a) top) ∙ ⊕-comm (x * 2) (b / 2 ^ (15 - i) % 2 * a)
+            ∙ ap (λ (z : ℕ). bitXor (b / 2 ^ (15 - i) % 2 * a) (z * 2)) (t .done ∙ ap (λ (z : ℕ). clmul i z a) half)
+            ∙ ap₂ (λ (m n : ℕ). clmul n (b / 2 ^ m) a) less (sym (add-one i));
+        left = digit-next 16 b i y (t .left);
+      }
+    where
+      whole : x * 2 % 4294967296 ≡ x * 2
+      whole = omega (arith, room)
+
+      half : b / 2 ^ (16 - i) ≡ b / 2 ^ (15 - i) / 2
+      half = let e : 16 - i ≡ 15 - i + 1 = omega arith in ap (λ (z : ℕ). b / 2 ^ z) e ∙ sym (shr-shr b (15 - i) 1)
+
+      less : 15 - i ≡ 16 - (i + 1)
+      less = omega arith
+
+-- all of them
+pub taken-end : (a b x y i r : ℕ) → a < 65536 → b < 65536 → Taken a b x y i → 16 ≤ i → toEl r ≡ ev R16 32 x α → toEl r ≡ R16 ._⊠_ (toEl a) (toEl b)
+taken-end a b x y i r ha hb t h e =
+    let n : i ≡ 16 = omega (arith, t .most) in
+    e
+    ∙ ap (λ (z : ℕ). ev R16 32 z α) (t .done ∙ ap₂ (λ (m k : ℕ). clmul k (b / 2 ^ m) a) (ap (λ (z : ℕ). 16 - z) n) n ∙ ap (λ (z : ℕ). clmul 16 z a) (div-one b))
+    ∙ ev-clmul R16 16 b a 16 32 α ha (le-refl 32) ∙ ap₂ (R16 ._⊠_) (ev-itself b hb) (ev-itself a ha) ∙ R16 .⊠-comm (toEl b) (toEl a)
+
+pub taken-fits : (a b x y i : ℕ) → a < 65536 → Taken a b x y i → 16 ≤ i → x < 2147483648
+taken-fits a b x y i ha t h =
+    let n : i ≡ 16 = omega (arith, t .most) in
+    subst (λ (z : ℕ). z < 2147483648) (sym (t .done ∙ ap (λ (k : ℕ). clmul k (b / 2 ^ (16 - i)) a) n)) (clmul-lt 15 (b / 2 ^ (16 - i)) a 16 ha)
+
+pub product-lt : (y a : ℕ) → a < 65536 → y / 32768 < 2 → y / 32768 * a < 4294967296
+product-lt y a ha h = lt-of-lt-of-le (bit-lt (y / 32768) a 16 h ha) (pow-mono {i = 16} {j = 32} (omega arith))

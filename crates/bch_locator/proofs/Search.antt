@@ -1,0 +1,236 @@
+-- The search: lane i holds c (l - 1 - i) α^(p (i + 1)), so that c l and the lanes' sum are α^(p l) times the register at α^-p. Assumes nothing.
+use mathlib.Core.Path.{_≡_, refl, sym, ap, ap₂, _∙_, subst, transport}
+use mathlib.Core.Logic.{_≢_}
+use mathlib.Core.List.{List}
+use Prim.Native.Nat.{ℕ, zero, suc, _+_, _-_, _*_, _≤_, _<_}
+use native.Mathlib.Nat.{zero-mul, mul-zero, suc-sub-suc, sub-zero, not-suc-le-zero}
+use native.Mathlib.Numerals.{add-one}
+use native.Mathlib.Decide.{ℕ-discrete, decLt}
+use native.Mathlib.Omega.{arith}
+use lib.Bits.{bitXor}
+use lib.ListN.{getD, length, set, length-set, replicate}
+use lib.Seq.{getD-set-same, getD-set-other}
+use Rattle.laws.specs.Xor.{_⊕_}
+use Rattle.algebra.specs.Ring.{Ring, ⊠-zero, ⊠-lc, ⊞-cancel}
+use Rattle.algebra.specs.Series.{sum, sum-none, sum-last, sum-front, sum-ext, sum-more, pow, pow-add, conv-sum, conv-pow}
+use Rattle.algebra.specs.Power.{pow-mul}
+use Rattle.algebra.specs.Roots.{domain, pow-nz}
+use Rattle.algebra.specs.Values.{ev, ev-zero}
+use Rattle.algebra.specs.Places.{zeros, zeros-none, zeros-more, zeros-same}
+use Rattle.algebra.specs.Corrects.{roots-fit}
+use Rattle.algebra.specs.GfField.{El}
+use Rattle.gf16.specs.Field16.{gf16}
+use Rattle.gf16.specs.Alpha.{R16, α, α-nz, α-distinct}
+use Rattle.bch_locator.specs.Element.{toEl, toEl-inj, toEl-xor, toEl-zero, poly}
+use Rattle.bch_locator.specs.Lanes.{Lanes, Products, PowersOf}
+use Rattle.bch_locator.specs.Places.{valueAt, Places-of, Reversed}
+use Rattle.bch_locator.proofs.Raised.{lanes-raised, lanes-past}
+use Rattle.bch_locator.proofs.Steps.{zeros-at}
+use Rattle.bch_locator.proofs.Filling.{zero-lanes, lanes-set}
+
+-- ---- the terms
+pub record Terms (t c : List ℕ) (l p : ℕ) : Type 0 where
+  pub lanes : Lanes t
+  pub at : (i : ℕ) → i < l → poly t i ≡ R16 ._⊠_ (poly c (l - suc i)) (pow R16 α (p * suc i))
+  pub rest : (i : ℕ) → l ≤ i → poly t i ≡ R16 .𝟘
+
+pub terms-start : (t c : List ℕ) (l : ℕ) → Reversed t c l → Terms t c l 0
+unfolding poly pow
+terms-start t c l W =
+    record {
+      lanes = W .lanes;
+      at = λ i h. ap toEl (W .at i h) ∙ sym (R16 .⊠-one _) ∙ ap (λ (k : ℕ). R16 ._⊠_ (poly c (l - suc i)) (pow R16 α k)) (sym (zero-mul (suc i)));
+      rest = λ i h. ap toEl (W .rest i h) ∙ toEl-zero;
+    }
+
+pub terms-again : (r t q c : List ℕ) (l p : ℕ) → l ≤ 12 → Terms t c l p → PowersOf q suc → Products r t q → Terms r c l (p + 1)
+terms-again r t q c l p h S P Q =
+    record { lanes = Q .lanes; at = next; rest = λ i g. none i g (decLt i 12) }
+  where
+    next : (i : ℕ) → i < l → poly r i ≡ R16 ._⊠_ (poly c (l - suc i)) (pow R16 α ((p + 1) * suc i))
+    next i g =
+        let e : suc i + p * suc i ≡ (p + 1) * suc i = omega arith in
+        lanes-raised r t q suc (S .lanes) P Q i (omega arith) ∙ ap (R16 ._⊠_ (pow R16 α (suc i))) (S .at i g)
+        ∙ ⊠-lc R16 (pow R16 α (suc i)) (poly c (l - suc i)) (pow R16 α (p * suc i))
+        ∙ ap (R16 ._⊠_ (poly c (l - suc i))) (sym (pow-add R16 α (suc i) (p * suc i)) ∙ ap (pow R16 α) e)
+
+    idle : (i : ℕ) → 12 ≤ i → Dec (i < 16) → poly r i ≡ R16 .𝟘
+    idle i g (yes k) = Q .at i k ∙ ap (λ (z : ℕ). ev R16 32 z α) (ap (λ (z : ℕ). getD t i 0 * z) (P .rest i g) ∙ mul-zero _) ∙ ev-zero R16 32 α
+    idle i g (no k) = lanes-past r i (Q .lanes) (omega arith)
+
+    none : (i : ℕ) → l ≤ i → Dec (i < 12) → poly r i ≡ R16 .𝟘
+    none i g (yes k) = lanes-raised r t q suc (S .lanes) P Q i k ∙ ap (R16 ._⊠_ (pow R16 α (suc i))) (S .rest i g) ∙ ⊠-zero R16 _
+    none i g (no k) = idle i (omega arith) (decLt i 16)
+
+-- ---- their sum
+sum-reverse : {F : Type 0} (R : Ring F) (n : ℕ) (f : ℕ → F) → sum R n f ≡ sum R n (λ i. f (n - suc i))
+sum-reverse R zero f = sum-none R f ∙ sym (sum-none R _)
+sum-reverse R (suc n) f =
+    sum-last R n f ∙ ap₂ (R ._⊞_) (sum-reverse R n f ∙ sum-ext R n _ _ (λ i h. ap f (sym (suc-sub-suc n (suc i))))) (ap f (sym (sub-zero n) ∙ sym (suc-sub-suc n 0)))
+    ∙ R .⊞-comm _ _ ∙ sym (sum-front R n (λ i. f (suc n - suc i)))
+
+pow-none : (x : El 15) → R16 .𝟙 ≡ pow R16 x 0
+unfolding pow
+pow-none x = refl
+
+pub total-is : (t c : List ℕ) (l p : ℕ) → l ≤ 12 → Terms t c l p
+    → R16 ._⊞_ (sum R16 16 (poly t)) (poly c l) ≡ R16 ._⊠_ (pow R16 (pow R16 α p) l) (valueAt c l p)
+total-is t c l p h S =
+    ap₂ (R16 ._⊞_)
+    (sum-more R16 l 16 (poly t) (omega arith) (λ i g _. S .rest i g) ∙ sum-ext R16 l (poly t) (λ i. f (l - suc i)) term ∙ sym (sum-reverse R16 l f)) last
+    ∙ sym (sum-last R16 l f) ∙ sym (conv-sum R16 l (poly c) (pow R16 x)) ∙ conv-pow R16 l (poly c) x (gf16 .inv x) (gf16 .inv-law x (α-nz p))
+  where
+    x : El 15
+    x = pow R16 α p
+
+    f : ℕ → El 15
+    f j = R16 ._⊠_ (poly c j) (pow R16 x (l - j))
+
+    term : (i : ℕ) → i < l → poly t i ≡ f (l - suc i)
+    term i g =
+        let e : suc i ≡ l - (l - suc i) = omega arith in
+        S .at i g ∙ ap (R16 ._⊠_ (poly c (l - suc i))) (pow-mul R16 α p (suc i) ∙ ap (pow R16 x) e)
+
+    last : poly c l ≡ f l
+    last = let e : 0 ≡ l - l = omega arith in sym (R16 .⊠-one (poly c l)) ∙ ap (R16 ._⊠_ (poly c l)) (pow-none x ∙ ap (pow R16 x) e)
+
+module _ (t c : List ℕ) (l p v w : ℕ) (h : l ≤ 12) (S : Terms t c l p) (ev : toEl v ≡ sum R16 16 (poly t)) (ew : w ≡ getD c l 0) where
+  both : R16 ._⊞_ (toEl v) (toEl w) ≡ R16 ._⊠_ (pow R16 (pow R16 α p) l) (valueAt c l p)
+  unfolding poly
+  both = ap₂ (R16 ._⊞_) ev (ap toEl ew) ∙ total-is t c l p h S
+
+  pub sum-hit : v ≡ w → valueAt c l p ≡ R16 .𝟘
+  sum-hit e =
+      domain gf16 (valueAt c l p) (pow R16 (pow R16 α p) l)
+      (R16 .⊠-comm _ _ ∙ sym both ∙ ap (λ (z : ℕ). R16 ._⊞_ (toEl z) (toEl w)) e ∙ R16 .⊞-self (toEl w))
+      (pow-nz gf16 (pow R16 α p) l (α-nz p))
+
+  pub sum-miss : v < 65536 → w < 65536 → v ≢ w → valueAt c l p ≢ R16 .𝟘
+  sum-miss hv hw ne z =
+      ne (toEl-inj v w hv hw (⊞-cancel R16 (toEl v) (toEl w) (both ∙ ap (R16 ._⊠_ (pow R16 (pow R16 α p) l)) z ∙ ⊠-zero R16 _)))
+
+-- ---- the list of places
+pub places-start : (at c : List ℕ) (l : ℕ) → length at ≡ 12 → Places-of at 0 c l 0
+places-start at c l e =
+    record {
+      size = e;
+      many = sym (zeros-none gf16 (valueAt c l));
+      most = omega arith;
+      in-order = λ i j h k. absurd (not-suc-le-zero k);
+      inside = λ i h. absurd (not-suc-le-zero h);
+      root = λ i h. absurd (not-suc-le-zero h);
+      all = λ p h. absurd (not-suc-le-zero h);
+    }
+
+pub places-miss : (at : List ℕ) (count : ℕ) (c : List ℕ) (l p : ℕ) → Places-of at count c l p → valueAt c l p ≢ R16 .𝟘 → Places-of at count c l (p + 1)
+places-miss at count c l p D ne =
+    record {
+      size = D .size;
+      many = D .many ∙ sym (zeros-same gf16 p (valueAt c l) ne) ∙ ap (λ (k : ℕ). zeros gf16 k (valueAt c l)) (sym (add-one p));
+      most = D .most;
+      in-order = D .in-order;
+      inside = λ i h. let t = D .inside i h in omega arith;
+      root = D .root;
+      all = λ q h z. pick q h z (ℕ-discrete q p);
+    }
+  where
+    pick : (q : ℕ) → q < p + 1 → valueAt c l q ≡ R16 .𝟘 → Dec (q ≡ p) → (i : ℕ) × (i < count) × (getD at i 0 ≡ q)
+    pick q h z (yes e) = absurd (ne (ap (valueAt c l) (sym e) ∙ z))
+    pick q h z (no e) = D .all q (omega arith) z
+
+-- one root more still fits
+pub count-fits : (at : List ℕ) (count : ℕ) (c : List ℕ) (l p : ℕ) → p < 65535 → poly c 0 ≡ R16 .𝟙 → Places-of at count c l p → valueAt c l p ≡ R16 .𝟘 → count < l
+count-fits at count c l p h head D z =
+    let m = zeros-more gf16 p (valueAt c l) z in
+    let f = roots-fit gf16 (suc p) (pow R16 α) (λ q _. α-nz q) (λ i j a b. α-distinct i j a (omega arith)) (poly c) l head in
+    omega (arith, m, f, D .many)
+
+pub places-hit : (at : List ℕ) (count : ℕ) (c : List ℕ) (l p : ℕ) → l ≤ 12 → p < 65535 → poly c 0 ≡ R16 .𝟙 → Places-of at count c l p
+    → valueAt c l p ≡ R16 .𝟘 → Places-of (set at count p) (count + 1) c l (p + 1)
+places-hit at count c l p hl h head D z =
+    record {
+      size = length-set at count p ∙ D .size;
+      many = ap (λ (k : ℕ). k + 1) (D .many) ∙ add-one _ ∙ sym (zeros-more gf16 p (valueAt c l) z) ∙ ap (λ (k : ℕ). zeros gf16 k (valueAt c l)) (sym (add-one p));
+      most = omega (arith, small);
+      in-order = λ i j a b. order i j a b (ℕ-discrete j count);
+      inside = λ i a. within i a (ℕ-discrete i count);
+      root = λ i a. vanish i a (ℕ-discrete i count);
+      all = λ q a w. found q a w (ℕ-discrete q p);
+    }
+  where
+    small : count < l
+    small = count-fits at count c l p h head D z
+
+    old : (i : ℕ) → i < count → getD (set at count p) i 0 ≡ getD at i 0
+    old i a = getD-set-other at count i p 0 (omega arith)
+
+    new : getD (set at count p) count 0 ≡ p
+    new = getD-set-same at count p 0 (omega (arith, D .size, small))
+
+    newest : (i : ℕ) → i ≡ count → getD (set at count p) i 0 ≡ p
+    newest i e = ap (λ (k : ℕ). getD (set at count p) k 0) e ∙ new
+
+    order : (i j : ℕ) → i < j → j < count + 1 → Dec (j ≡ count) → getD (set at count p) i 0 < getD (set at count p) j 0
+    order i j a b (yes e) = let u = old i (omega arith) in let w = newest j e in let t = D .inside i (omega arith) in omega arith
+    order i j a b (no e) = let u = old i (omega arith) in let w = old j (omega arith) in let t = D .in-order i j a (omega arith) in omega arith
+
+    within : (i : ℕ) → i < count + 1 → Dec (i ≡ count) → getD (set at count p) i 0 < p + 1
+    within i a (yes e) = let u = newest i e in omega arith
+    within i a (no e) = let u = old i (omega arith) in let t = D .inside i (omega arith) in omega arith
+
+    vanish : (i : ℕ) → i < count + 1 → Dec (i ≡ count) → valueAt c l (getD (set at count p) i 0) ≡ R16 .𝟘
+    vanish i a (yes e) = ap (valueAt c l) (newest i e) ∙ z
+    vanish i a (no e) = ap (valueAt c l) (old i (omega arith)) ∙ D .root i (omega arith)
+
+    found : (q : ℕ) → q < p + 1 → valueAt c l q ≡ R16 .𝟘 → Dec (q ≡ p) → (i : ℕ) × (i < count + 1) × (getD (set at count p) i 0 ≡ q)
+    found q a w (yes e) = (count, omega arith, new ∙ sym e)
+    found q a w (no e) =
+        let r = D .all q (omega arith) w in
+        let b : r .0 < count = r .1 in
+        (r .0, omega arith, old (r .0) b ∙ r .2)
+
+pub places-as : {at : List ℕ} {count : ℕ} {c : List ℕ} {l p : ℕ} (at′ : List ℕ) (count′ : ℕ) → Places-of at count c l p → at′ ≡ at → count′ ≡ count → Places-of at′ count′ c l p
+places-as {at} {count} {c} {l} {p} at′ count′ D e f = transport (λ i. Places-of (sym e i) (sym f i) c l p) D
+
+pub places-end : (at : List ℕ) (count : ℕ) (c : List ℕ) (l p n : ℕ) → p ≡ n → Places-of at count c l p → Places-of at count c l n
+places-end at count c l p n e D = subst (Places-of at count c l) e D
+
+-- ---- `lane_sum`
+pub lanes-none : (t : List ℕ) → toEl 0 ≡ sum R16 0 (poly t)
+lanes-none t = toEl-zero ∙ sym (sum-none R16 (poly t))
+
+pub lanes-more : (t : List ℕ) (i r : ℕ) → toEl r ≡ sum R16 i (poly t) → toEl (bitXor r (getD t i 0)) ≡ sum R16 (i + 1) (poly t)
+unfolding poly _⊕_
+lanes-more t i r e =
+    toEl-xor r (getD t i 0) ∙ ap (λ y. R16 ._⊞_ y (toEl (getD t i 0))) e ∙ sym (ap (λ (n : ℕ). sum R16 n (poly t)) (add-one i) ∙ sum-last R16 i (poly t))
+
+-- ---- `reversed`
+pub record Reversing (t c : List ℕ) (l i : ℕ) : Type 0 where
+  pub lanes : Lanes t
+  pub below : i ≤ l
+  pub at : (j : ℕ) → j < i → getD t j 0 ≡ getD c (l - suc j) 0
+  pub rest : (j : ℕ) → i ≤ j → getD t j 0 ≡ 0
+
+pub reversing-start : (c : List ℕ) (l : ℕ) → Reversing (replicate 16 0) c l 0
+reversing-start c l = record { lanes = zero-lanes; below = omega arith; at = λ j h. absurd (not-suc-le-zero h); rest = λ j h. zeros-at 16 j }
+
+pub reversing-again : (t c : List ℕ) (l i v : ℕ) → l ≤ 12 → i < l → v < 65536 → Reversing t c l i → v ≡ getD c (l - 1 - i) 0 → Reversing (set t i v) c l (i + 1)
+reversing-again t c l i v hl h hv W e =
+    record {
+      lanes = lanes-set t i v (W .lanes) (omega arith) hv;
+      below = omega arith;
+      at = λ j g. pick j g (ℕ-discrete j i);
+      rest = λ j g. getD-set-other t i j v 0 (omega arith) ∙ W .rest j (omega arith);
+    }
+  where
+    pick : (j : ℕ) → j < i + 1 → Dec (j ≡ i) → getD (set t i v) j 0 ≡ getD c (l - suc j) 0
+    pick j g (yes q) =
+        let k : l - 1 - i ≡ l - suc j = omega arith in
+        ap (λ (m : ℕ). getD (set t i v) m 0) q ∙ getD-set-same t i v 0 (omega (arith, W .lanes .len)) ∙ e ∙ ap (λ (m : ℕ). getD c m 0) k
+    pick j g (no q) = getD-set-other t i j v 0 q ∙ W .at j (omega arith)
+
+pub reversing-end : (t c : List ℕ) (l i : ℕ) → l ≤ i → Reversing t c l i → Reversed t c l
+reversing-end t c l i h W = record { lanes = W .lanes; at = λ j g. W .at j (omega arith); rest = λ j g. W .rest j (omega (arith, W .below)) }
+
+pub lanes-end : (t : List ℕ) (i r : ℕ) → i ≡ 16 → toEl r ≡ sum R16 i (poly t) → toEl r ≡ sum R16 16 (poly t)
+lanes-end t i r h e = e ∙ ap (λ (n : ℕ). sum R16 n (poly t)) h

@@ -1,0 +1,1 @@
+// The scope's starred bench examples: the theorem stands in specs/.

@@ -1,0 +1,53 @@
+use native.Mathlib.Omega.{arith}
+use borrow.Author.Needs.{needs}
+use mathlib.Core.Path.{refl}
+use Rattle.laws.specs.Signed.{plain}
+use Rattle.fixed_code.specs.Lists.{rows-part}
+use Rattle.fixed.specs.Sequential.{upto-end}
+use Rattle.fixed.proofs.iteration.Statement.{statement}
+use Rattle.fixed.proofs.iteration.Tie as tie
+
+add-base : tie.Need-add-base
+add-base c = search needs
+
+mul-checks : tie.Need-mul-checks
+mul-checks c = search needs
+
+sub-checks : tie.Need-sub-checks
+sub-checks c = search needs
+
+part-checks-start : tie.Need-part-checks-start
+part-checks-start c = search needs
+
+part-checks-end : tie.Need-part-checks-end
+part-checks-end c = search needs
+
+slice-aggregate-checks : tie.Need-slice-aggregate-checks
+slice-aggregate-checks c = search needs
+
+checks-requires : tie.Need-checks-requires
+checks-requires c κs =
+    let s = c .before .before .before .before in
+    ((s .pre, rows-part (s .args .p) (s .args .index .now)), omega arith)
+
+same-length : tie.Need-same-length
+same-length c = search needs
+
+returns : tie.Need-returns
+returns c =
+    let s = c .before .before .before .before .before .before .before in
+    upto-end (plain (s .args .offset) (s .fits .offset)) refl (c .before .before .checks .ensures)
+
+pub iteration-spec : {M : Type 1} → statement M
+iteration-spec =
+    tie.close
+    (tie.spec
+    add-base
+    mul-checks
+    sub-checks
+    part-checks-start
+    part-checks-end
+    slice-aggregate-checks
+    checks-requires
+    same-length
+    returns)

@@ -1,0 +1,2 @@
+-- The sequential iteration by columns.
+pub mod Sequential

@@ -1,0 +1,26 @@
+use borrow.Author.Needs.{needs}
+use native.Mathlib.Omega.{arith}
+use Rattle.fixed_code.proofs.degree.Statement.{statement}
+use Rattle.fixed_code.proofs.degree.Tie as tie
+
+add-start : tie.Need-add-start
+add-start c = search needs
+
+start-requires : tie.Need-start-requires
+start-requires c κs = search needs
+
+start-requires-2 : tie.Need-start-requires-2
+start-requires-2 c κs = search needs
+
+sub-result : tie.Need-sub-result
+sub-result c =
+    let s = c .before .before .before in
+    omega (arith, c .start2 .ensures, c .before .start .ensures, s .pre .0 .ascend (s .args .c) (s .pre .1))
+
+returns : tie.Need-returns
+returns c =
+    let s = c .before .before .before in
+    omega (arith, c .start2 .ensures, c .before .start .ensures, s .pre .0 .ascend (s .args .c) (s .pre .1))
+
+pub degree-spec : {M : Type 1} → statement M
+degree-spec = tie.close (tie.spec add-start start-requires start-requires-2 sub-result returns)

@@ -1,0 +1,21 @@
+// A code's lists as the iteration reads them, from one lent slice: row_start (P + 1 numbers), then rows (E bits).
+ghost use mathlib.Core.Path.{_≡_};
+ghost use Prim.Native.Nat.{_+_, _<_};
+ghost use lib.ListN.{getD, length};
+ghost use Rattle.fixed_code.specs.Lists.{Lists};
+
+// Where check c's edges begin.
+pub fn start(index: &[u32], c: usize) -> usize
+    requires { ⌜ c < length (now index) ⌝ }
+    ensures { λ r. ⌜ r ≡ getD (now (index .entry)) c 0 ⌝ }
+{
+    index[c] as usize
+}
+
+// How many edges check c has.
+pub fn degree(index: &[u32], n: usize, p: usize, c: usize) -> usize
+    requires { ⌜ Lists n p (now index) × (c < p) ⌝ }
+    ensures { λ r. ⌜ getD (now (index .entry)) c 0 + r ≡ getD (now (index .entry)) (c + 1) 0 ⌝ }
+{
+    start(index, c + 1) - start(index, c)
+}

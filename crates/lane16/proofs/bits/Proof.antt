@@ -1,0 +1,73 @@
+use borrow.Author.Needs.{needs}
+use native.Mathlib.Omega.{arith}
+use mathlib.Core.Path.{_≡_, refl, ap, _∙_}
+use Prim.Native.Nat.{ℕ, _-_, _≤_, _<_}
+use lib.ListN.{length, length-set, getD-replicate}
+use lib.Seq.{getD-set-other}
+use borrow.Author.Needs.{sfits-of}
+use Rattle.laws.specs.Signed.{plain}
+use Rattle.lane_math.specs.Iteration.{hard}
+use Rattle.lane16.specs.Lanes.{z, n}
+use Rattle.lane16.specs.Grow.{grown}
+use Rattle.lane16.proofs.bits.Statement.{statement}
+use Rattle.lane16.proofs.bits.Tie as tie
+
+abbrev Inv-loop : tie.InvT-loop
+Inv-loop lanes a v₀ i₀ v i = (i ≤ lanes) × ((length v ≡ 64) × (((k : ℕ) → k < i → n v k ≡ hard (z a k)) × ((k : ℕ) → i ≤ k → k < 64 → n v k ≡ 0)))
+
+abbrev μ-loop : tie.MeasureT-loop
+μ-loop lanes a v₀ i₀ v i = lanes - i
+
+loop-holds : tie.Need-loop-holds Inv-loop μ-loop
+loop-holds c = (search needs, (refl, (λ k q. absurd (omega (arith, q)), λ k q p. getD-replicate 64 k 0 0 p)))
+
+array-copy-out-bit : tie.Need-array-copy-out-bit Inv-loop μ-loop
+array-copy-out-bit c = search needs
+
+bit-requires : tie.Need-bit-requires Inv-loop μ-loop
+bit-requires c κs = search needs
+
+array-write-v : tie.Need-array-write-v Inv-loop μ-loop
+array-write-v c = search needs
+
+add-i : tie.Need-add-i Inv-loop μ-loop
+add-i c = search needs
+
+loop-less : tie.Need-loop-less Inv-loop μ-loop
+loop-less c = search needs
+
+loop-again : tie.Need-loop-again Inv-loop μ-loop
+loop-again c =
+    let h = c .before .before .before in
+    let a = h .before .args .t1 in
+    let i = h .loop .i in (
+      search needs,
+      (
+        simp length-set (omega arith),
+        (
+          grown 0 (λ (k x : ℕ). x ≡ hard (z a k)) (h .loop .v) i _ (omega arith) (h .loop .inv .1 .1 .0)
+              (c .bit .ensures ∙ ap hard (plain (z a i) (sfits-of (c .before .bit-arg .given)))),
+          λ k q p. getD-set-other (h .loop .v) i k _ 0 (λ r. omega arith) ∙ h .loop .inv .1 .1 .1 k (omega arith) p,
+        ),
+      ),
+    )
+
+returns : tie.Need-returns Inv-loop μ-loop
+returns c =
+    let v = c .before .loop .inv .1 .1 in
+    record { is = λ k q. v .0 k (omega (arith, q)); none = λ k q p. v .1 k (omega arith) p }
+
+pub bits-spec : {M : Type 1} → statement M
+bits-spec =
+    tie.close
+    (tie.spec
+    Inv-loop
+    μ-loop
+    loop-holds
+    array-copy-out-bit
+    bit-requires
+    array-write-v
+    add-i
+    loop-less
+    loop-again
+    returns)

@@ -1,0 +1,88 @@
+// Sixteen lanes by value: one fused loop for the scan of an edge and one for its answer.
+ghost use Prim.Native.Nat.{_≤_};
+ghost use Rattle.lane16.specs.Lanes.{Scanned, Reduced, NoneNegative, Answered, Decided};
+
+// Where a pass over a check's edges stands: the two smallest magnitudes, the sign of the product, and the last edge's t.
+pub struct Pass {
+    pub min1: [u8; 16],
+    pub min2: [u8; 16],
+    pub sign: [i8; 16],
+    pub t: [i8; 16],
+}
+
+// One edge more, with the values lv and the messages rv.
+pub fn scan(st: Pass, lv: [i8; 16], rv: [i8; 16]) -> Pass
+    ensures { λ r. ⌜ Scanned lv rv (st .min1) (st .min2) (st .sign) (r .min1) (r .min2) (r .sign) (r .t) ⌝ }
+{
+    let mut min1 = st.min1;
+    let mut min2 = st.min2;
+    let mut sign = st.sign;
+    let mut t: [i8; 16] = [0; 16];
+    let mut i: usize = 0;
+    while i < 16 {
+        let x = lane_math::sat_sub(lv[i], rv[i]);
+        t[i] = x;
+        let a = lane_math::mag(x);
+        let m = min1[i];
+        sign[i] = lane_math::flip(sign[i], x);
+        min2[i] = lane_math::maxu(m, lane_math::minu(min2[i], a));
+        min1[i] = lane_math::minu(m, a);
+        i += 1;
+    }
+    Pass {
+        min1: min1,
+        min2: min2,
+        sign: sign,
+        t: t,
+    }
+}
+
+// Magnitudes less the offset.
+pub fn reduce(a: [u8; 16], offset: i8) -> [i8; 16]
+    ensures { λ r. ⌜ Reduced offset a r ⌝ }
+{
+    let mut v: [i8; 16] = [0; 16];
+    let mut i: usize = 0;
+    while i < 16 {
+        v[i] = lane_math::reduce(a[i], offset);
+        i += 1;
+    }
+    v
+}
+
+// An edge's message and its variable's value.
+pub struct Answer {
+    pub m: [i8; 16],
+    pub y: [i8; 16],
+}
+
+pub fn reply(t: [i8; 16], sign: [i8; 16], min1: [u8; 16], m1: [i8; 16], m2: [i8; 16]) -> Answer
+    requires { ⌜ NoneNegative m1 × NoneNegative m2 ⌝ }
+    ensures { λ r. ⌜ Answered t sign min1 m1 m2 (r .m) (r .y) ⌝ }
+{
+    let mut m: [i8; 16] = [0; 16];
+    let mut y: [i8; 16] = [0; 16];
+    let mut i: usize = 0;
+    while i < 16 {
+        let x = t[i];
+        let q = lane_math::reply(x, sign[i], min1[i], m1[i], m2[i]);
+        m[i] = q;
+        y[i] = lane_math::sat_add(x, q);
+        i += 1;
+    }
+    Answer { m: m, y: y }
+}
+
+// 1 where the lane is negative, of `lanes` lanes; 0 past the last of them.
+pub fn bits(a: [i8; 64], lanes: usize) -> [u8; 64]
+    requires { ⌜ lanes ≤ 64 ⌝ }
+    ensures { λ r. ⌜ Decided lanes a r ⌝ }
+{
+    let mut v: [u8; 64] = [0; 64];
+    let mut i: usize = 0;
+    while i < lanes {
+        v[i] = lane_math::bit(a[i]);
+        i += 1;
+    }
+    v
+}

@@ -1,0 +1,20 @@
+use mathlib.Core.Path.{_≡_, sym, ap, _∙_}
+use mathlib.Core.Bool.{Bool, cond}
+use mir.Syntax.{w8}
+use mir.ValLaws.{toZ-ofZ}
+use Rattle.laws.specs.Signed.{lt-plain}
+use Rattle.lane_math.proofs.max8.Statement.{statement}
+use Rattle.lane_math.proofs.max8.Tie as tie
+
+returns : tie.Need-returns
+returns c =
+    let s = c .before in
+    toZ-ofZ w8 (s .args .b) (s .fits .b) ∙ sym (ap (λ (t : Bool). cond t (s .args .b) (s .args .a)) (lt-plain w8 (s .fits .a) (s .fits .b) (c .if1 .taken)))
+
+returns-2 : tie.Need-returns-2
+returns-2 c =
+    let s = c .before in
+    toZ-ofZ w8 (s .args .a) (s .fits .a) ∙ sym (ap (λ (t : Bool). cond t (s .args .b) (s .args .a)) (lt-plain w8 (s .fits .a) (s .fits .b) (c .if1 .left)))
+
+pub max8-spec : {M : Type 1} → statement M
+max8-spec = tie.close (tie.spec returns returns-2)

@@ -1,0 +1,128 @@
+-- Interleaved memory: row u of lane i is at u * lanes + i. Column i is one word's rows.
+use mathlib.Core.Path.{_≡_, refl, sym, ap, subst, _∙_}
+use mathlib.Core.Bool.{Bool, true, false, cond}
+use mathlib.Core.List.{List}
+use Prim.Native.Nat.{ℕ, _+_, _*_, _-_, _≤_, _<_}
+use native.Mathlib.Omega.{arith}
+use native.Mathlib.Nat.{mul-le-mul-right}
+use borrow.Author.Tests.{ltb-true, ltb-false, eqb-true, eqb-false}
+use borrow.Author.Count.{below-more}
+use lib.Dec.{ltb, eqb}
+use lib.ListN.{getD, set, length}
+use lib.Seq.{getD-set-same, getD-set-other}
+use lib.IntN.{ℤ, pos}
+use Rattle.lane_math.specs.Check.{put}
+use Rattle.lane16.specs.Lanes.{z}
+
+unfoldable pub column : ℕ → List ℤ → ℕ → ℕ → ℤ
+column lanes xs i u = getD xs (u * lanes + i) (pos 0)
+
+-- lane i is none of the w lanes from at
+abbrev pub Off : ℕ → ℕ → ℕ → Type 0
+Off at w i = (k : ℕ) → k < w → i ≡ at + k → ⊥
+
+-- the w lanes from at of row u were written, and nothing else
+pub record Stored (w lanes u at : ℕ) (x old new : List ℤ) : Type 0 where
+  pub inside : (k : ℕ) → k < w → column lanes new (at + k) ≡ put (column lanes old (at + k)) u (z x k)
+  pub outside : (i : ℕ) → i < lanes → Off at w i → column lanes new i ≡ column lanes old i
+
+pub stored-width : {w w′ lanes u at : ℕ} {x old new : List ℤ} → w ≡ w′ → Stored w lanes u at x old new → Stored w′ lanes u at x old new
+stored-width {w} {w′} {lanes} {u} {at} {x} {old} {new} e c = subst (λ (j : ℕ). Stored j lanes u at x old new) e c
+
+-- the columns of the w lanes from at are mapped by F, and the others are as they were
+pub record Part (F : (ℕ → ℤ) → ℕ → ℤ) (w lanes at : ℕ) (old new : List ℤ) : Type 0 where
+  pub inside : (k : ℕ) → k < w → column lanes new (at + k) ≡ F (column lanes old (at + k))
+  pub outside : (i : ℕ) → i < lanes → Off at w i → column lanes new i ≡ column lanes old i
+
+-- the columns of the lanes below at are mapped by F, and the others are as they were
+pub record Upto (F : (ℕ → ℤ) → ℕ → ℤ) (lanes at : ℕ) (old new : List ℤ) : Type 0 where
+  pub done : (i : ℕ) → i < at → i < lanes → column lanes new i ≡ F (column lanes old i)
+  pub rest : (i : ℕ) → at ≤ i → i < lanes → column lanes new i ≡ column lanes old i
+
+-- every column is mapped by F
+abbrev pub Mapped : ((ℕ → ℤ) → ℕ → ℤ) → ℕ → List ℤ → List ℤ → Type 0
+Mapped F lanes old new = (i : ℕ) → i < lanes → column lanes new i ≡ F (column lanes old i)
+
+pub upto-start : (F : (ℕ → ℤ) → ℕ → ℤ) (lanes : ℕ) (a : List ℤ) → Upto F lanes 0 a a
+upto-start F lanes a = record { done = λ i q. absurd (omega (arith, q)); rest = λ i q h. refl }
+
+pub upto-again : {F : (ℕ → ℤ) → ℕ → ℤ} {lanes at w : ℕ} {a a′ a″ : List ℤ} → Upto F lanes at a a′ → Part F w lanes at a′ a″ → Upto F lanes (at + w) a a″
+upto-again {F} {lanes} {at} {w} {a} {a′} {a″} v p =
+    record {
+      done = λ i q h. grow i q h (ltb i at) refl;
+      rest = λ i q h. p .outside i h (λ k b e. omega arith) ∙ v .rest i (omega arith) h;
+    }
+  where
+    grow : (i : ℕ) → i < at + w → i < lanes → (b : Bool) → ltb i at ≡ b → column lanes a″ i ≡ F (column lanes a i)
+    grow i q h true e = let b : i < at = ltb-true i at e in p .outside i h (λ k j x. omega arith) ∙ v .done i b h
+    grow i q h false e =
+        let b : at ≤ i = ltb-false i at e in
+        let y : at + (i - at) ≡ i = omega arith in
+        subst (λ (j : ℕ). column lanes a″ j ≡ F (column lanes a′ j)) y (p .inside (i - at) (omega arith)) ∙ ap F (v .rest i b h)
+
+pub upto-end : {F : (ℕ → ℤ) → ℕ → ℤ} {lanes at : ℕ} {a a′ : List ℤ} → lanes ≤ at → Upto F lanes at a a′ → Mapped F lanes a a′
+upto-end q v i h = v .done i (omega arith) h
+
+-- ---- places
+pub row-ends : (v n lanes : ℕ) → v < n → v * lanes + lanes ≤ n * lanes
+row-ends v n lanes h = let q : (v + 1) * lanes ≤ n * lanes = mul-le-mul-right lanes (omega (arith, h)) in omega (arith, q)
+
+-- a place has one row and one lane
+pub one-place : (lanes u i v j : ℕ) → i < lanes → j < lanes → u * lanes + i ≡ v * lanes + j → (u ≡ v) × (i ≡ j)
+one-place lanes u i v j p q e = go (ltb u v) (ltb v u) refl refl
+  where
+    go : (a b : Bool) → ltb u v ≡ a → ltb v u ≡ b → (u ≡ v) × (i ≡ j)
+    go true b s r = absurd (omega (arith, row-ends u v lanes (ltb-true u v s)))
+    go false true s r = absurd (omega (arith, row-ends v u lanes (ltb-true v u r)))
+    go false false s r =
+        let k : u ≡ v = omega (arith, ltb-false u v s, ltb-false v u r) in
+        let m : u * lanes ≡ v * lanes = ap (λ (n : ℕ). n * lanes) k in
+        (k, omega arith)
+
+pub column-at : (lanes : ℕ) (xs : List ℤ) (u at k : ℕ) → getD xs (u * lanes + at + k) (pos 0) ≡ column lanes xs (at + k) u
+unfolding column
+column-at lanes xs u at k =
+    let e : u * lanes + at + k ≡ u * lanes + (at + k) = omega arith in
+    ap (λ (p : ℕ). getD xs p (pos 0)) e
+
+-- ---- a loop of stores, by places: after i of them
+pub record Storing (base : ℕ) (x old new : List ℤ) (i : ℕ) : Type 0 where
+  pub long : length new ≡ length old
+  pub put-in : (k : ℕ) → k < i → getD new (base + k) (pos 0) ≡ z x k
+  pub kept : (p : ℕ) → ((k : ℕ) → k < i → p ≡ base + k → ⊥) → getD new p (pos 0) ≡ getD old p (pos 0)
+
+pub storing-start : (base : ℕ) (x a : List ℤ) → Storing base x a a 0
+storing-start base x a = record { long = refl; put-in = λ k q. absurd (omega (arith, q)); kept = λ p no. refl }
+
+pub storing-again : {base : ℕ} {x old a : List ℤ} {i : ℕ} {y : ℤ} (b : List ℤ) → Storing base x old a i → base + i < length old → length b ≡ length a → b ≡ set a (base + i) y → y ≡ z x i → Storing base x old b (i + 1)
+storing-again {base} {x} {old} {a} {i} {y} b v room same is e =
+    record {
+      long = same ∙ v .long;
+      put-in =
+          below-more (λ (k : ℕ). getD b (base + k) (pos 0) ≡ z x k) i
+          (λ k q. at-b (base + k) ∙ getD-set-other a (base + i) (base + k) y (pos 0) (λ r. omega arith) ∙ v .put-in k q)
+          (at-b (base + i) ∙ getD-set-same a (base + i) y (pos 0) (omega (arith, v .long)) ∙ e);
+      kept = λ p off. at-b p ∙ getD-set-other a (base + i) p y (pos 0) (λ r. off i (omega arith) r) ∙ v .kept p (λ k q e. off k (omega arith) e);
+    }
+  where
+    at-b : (p : ℕ) → getD b p (pos 0) ≡ getD (set a (base + i) y) p (pos 0)
+    at-b p = ap (λ (l : List ℤ). getD l p (pos 0)) is
+
+-- by columns
+pub storing-end : {lanes u at w i : ℕ} {x old new : List ℤ} → Storing (u * lanes + at) x old new i → i ≡ w → at + w ≤ lanes → Stored w lanes u at x old new
+unfolding column put
+storing-end {lanes} {u} {at} {w} {i} {x} {old} {new} v same h =
+    record {
+      inside = λ k q. λ j r. within k q r (eqb r u) refl j;
+      outside = λ l p off. λ j r. v .kept (r * lanes + l) (λ k q e. off k (omega arith) (one-place lanes r l u (at + k) p (omega arith) (omega arith) .1)) j;
+    }
+  where
+    within : (k : ℕ) → k < w → (r : ℕ) (b : Bool) → eqb r u ≡ b → getD new (r * lanes + (at + k)) (pos 0) ≡ cond (eqb r u) (z x k) (getD old (r * lanes + (at + k)) (pos 0))
+    within k q r true e =
+        let m : r * lanes + (at + k) ≡ u * lanes + at + k = (let s : r * lanes ≡ u * lanes = ap (λ (n : ℕ). n * lanes) (eqb-true r u e) in omega arith) in
+        ap (λ (p : ℕ). getD new p (pos 0)) m
+        ∙ v .put-in k (omega arith)
+        ∙ sym (ap (λ (b : Bool). cond b (z x k) (getD old (r * lanes + (at + k)) (pos 0))) e)
+    within k q r false e =
+        v .kept (r * lanes + (at + k)) (λ j b s. eqb-false r u e (one-place lanes r (at + k) u (at + j) (omega arith) (omega arith) (omega arith) .0))
+        ∙ sym (ap (λ (b : Bool). cond b (z x k) (getD old (r * lanes + (at + k)) (pos 0))) e)

@@ -1,0 +1,63 @@
+-- What a call on the memory may count on: one slice of n + 3E rows, E edges, each of a variable below n.
+use mathlib.Core.Path.{_≡_}
+use mathlib.Core.List.{List}
+use Prim.Native.Nat.{ℕ, _+_, _*_, _≤_, _<_}
+use native.Mathlib.Omega.{arith}
+use native.Mathlib.Nat.{mul-le-mul-right}
+use lib.ListN.{getD, length}
+use lib.IntN.{ℤ}
+use Rattle.lane_memory.specs.Column.{row-ends}
+
+-- the variable of edge e
+abbrev pub var : List ℕ → ℕ → ℕ
+var rows e = getD rows e 0
+
+-- A check of d edges from edge s, at most 128. A code has 747 edges or more; from 8 on, the rows of t and of the old messages are
+-- the 15 bytes and more that a load of 16 reaches behind the last message.
+pub record Room (rows : List ℕ) (s d n lanes : ℕ) (a : List ℤ) : Type 0 where
+  pub edges : s + d ≤ length rows
+  pub degree : d ≤ 128
+  pub variables : (e : ℕ) → e < length rows → var rows e < n
+  pub long : (n + 3 * length rows) * lanes ≤ length a
+  pub many : 8 ≤ length rows
+  pub some-lanes : 0 < lanes
+  pub few-lanes : lanes ≤ 64
+
+-- the same of a slice as long
+pub room-to : {rows : List ℕ} {s d n lanes : ℕ} {a b : List ℤ} → length b ≡ length a → Room rows s d n lanes a → Room rows s d n lanes b
+room-to e r =
+    record {
+      edges = r .edges;
+      degree = r .degree;
+      variables = r .variables;
+      long = omega (arith, r .long, e);
+      many = r .many;
+      some-lanes = r .some-lanes;
+      few-lanes = r .few-lanes;
+    }
+
+module _ {rows : List ℕ} {s d n lanes : ℕ} {a : List ℤ} (r : Room rows s d n lanes a) where
+  -- sixteen bytes from a lane of any row of values or messages are inside
+  pub load-room : (u at : ℕ) → u < n + length rows → at < lanes → u * lanes + at + 16 ≤ length a
+  load-room u at h q =
+      let e : 8 * lanes ≤ length rows * lanes = mul-le-mul-right lanes (r .many) in
+      omega (arith, row-ends u (n + length rows) lanes h, r .long, r .some-lanes)
+
+  -- and so is every row
+  pub row-room : (u : ℕ) → u < n + 3 * length rows → u * lanes + lanes ≤ length a
+  row-room u h = omega (arith, row-ends u (n + 3 * length rows) lanes h, r .long)
+
+  pub value-row : (k : ℕ) → k < d → var rows (s + k) < n
+  value-row k q = r .variables (s + k) (omega (arith, r .edges))
+
+  -- a row's number is below the slice's length
+  pub row-fits : (u : ℕ) → u ≤ n + 3 * length rows → u ≤ length a
+  row-fits u h =
+      let q : 1 * (n + 3 * length rows) ≤ lanes * (n + 3 * length rows) = mul-le-mul-right (n + 3 * length rows) (r .some-lanes) in
+      omega (arith, r .long)
+
+-- ---- how many lanes a chunk stores: 16, 8, 4 or 1
+pub record Width (w : ℕ) : Type 0 where
+  pub some : 0 < w
+  pub few : w ≤ 16
+  pub one-of : (w ≡ 16 → ⊥) → (w ≡ 8 → ⊥) → (w ≡ 4 → ⊥) → w ≡ 1

@@ -1,0 +1,84 @@
+use Rattle.ldpc_check.proofs.Loops.{Inserting, insert-start, insert-swap, insert-keep, insert-end}
+use lib.ListN.{length, length-set}
+use Prim.Native.Nat.{_≤_, _-_}
+use mathlib.Core.Logic.{⊎-elim}
+use mathlib.Core.Path.{_≡_, refl, sym, ap, _∙_}
+use borrow.Author.Needs.{needs}
+use native.Mathlib.Omega.{arith}
+use Rattle.ldpc_check.proofs.insert_bit.Statement.{statement}
+use Rattle.ldpc_check.proofs.insert_bit.Tie as tie
+use Rattle.ldpc_check.proofs.insert_bit.Reads as reads
+use Rattle.ldpc_check.proofs.insert_bit.Lts as lts
+
+abbrev Inv-loop : tie.InvT-loop
+Inv-loop out₀ n m v₀ i₀ out v i = (i ≤ n) × (length out ≡ length out₀) × Inserting m n out₀ out v i
+
+abbrev μ-loop : tie.MeasureT-loop
+μ-loop out₀ n m v₀ i₀ out v i = n - i
+
+loop-holds : tie.Need-loop-holds Inv-loop μ-loop
+loop-holds c = (omega arith, refl, insert-start (c .args .m) (c .args .n) (c .args .out .now))
+
+mul-b : tie.Need-mul-b Inv-loop μ-loop
+mul-b c = omega (arith, (c .before .loop .inv .1), (c .before .before .pre))
+
+slice-read-b : tie.Need-slice-read-b Inv-loop μ-loop
+slice-read-b c = omega (arith, (c .before .before .loop .inv .1), (c .before .before .before .pre))
+
+mul-out : tie.Need-mul-out Inv-loop μ-loop
+mul-out c = omega (arith, (c .before .before .before .loop .inv .1), (c .before .before .before .before .pre))
+
+slice-write-out : tie.Need-slice-write-out Inv-loop μ-loop
+slice-write-out c = omega (arith, (c .before .before .before .loop .inv .1), (c .before .before .before .before .pre))
+
+add-i : tie.Need-add-i Inv-loop μ-loop
+add-i c = search needs
+
+loop-less : tie.Need-loop-less Inv-loop μ-loop
+loop-less c = search needs
+
+loop-again : tie.Need-loop-again Inv-loop μ-loop
+loop-again c =
+    ⊎-elim
+    (λ w. (
+      omega arith,
+      ap length (w .1) ∙ length-set (c .before .before .before .loop .out) _ _ ∙ (c .before .before .before .loop .inv .1),
+      insert-swap (c .before .before .before .before .args .m) (c .before .before .before .before .args .n) (c .before .before .before .before .args .out .now) (c .before .before .before .loop .out) _ (c .before .before .before .loop .v) _ (c .before .before .before .loop .i) (search needs) (omega (arith, (c .before .before .before .loop .inv .1), (c .before .before .before .before .pre))) (w .0 .taken) (w .1) (w .2) (c .before .before .before .loop .inv .2),
+    ))
+    (λ w. (
+      omega arith,
+      ap length (w .1) ∙ (c .before .before .before .loop .inv .1),
+      insert-keep (c .before .before .before .before .args .m) (c .before .before .before .before .args .n) (c .before .before .before .before .args .out .now) (c .before .before .before .loop .out) _ (c .before .before .before .loop .v) _ (c .before .before .before .loop .i) (search needs) (omega (arith, (c .before .before .before .loop .inv .1), (c .before .before .before .before .pre))) (w .0 .left) (w .1) (w .2) (c .before .before .before .loop .inv .2),
+    ))
+    (c .if1 .came)
+
+mul-out-2 : tie.Need-mul-out-2 Inv-loop μ-loop
+mul-out-2 c = omega (arith, (c .before .loop .inv .1), (c .before .before .pre))
+
+slice-write-out-2 : tie.Need-slice-write-out-2 Inv-loop μ-loop
+slice-write-out-2 c = omega (arith, (c .before .loop .inv .1), (c .before .before .pre))
+
+same-length : tie.Need-same-length Inv-loop μ-loop
+same-length c = length-set (c .before .loop .out) _ _ ∙ (c .before .loop .inv .1)
+
+returns : tie.Need-returns Inv-loop μ-loop
+returns c = insert-end (c .before .before .args .m) (c .before .before .args .n) (c .before .before .args .out .now) (c .before .loop .out) (c .before .loop .v) (c .before .loop .i) (omega arith) (omega (arith, (c .before .loop .inv .1), (c .before .before .pre))) (c .before .loop .inv .2)
+
+pub insert-bit-spec : {M : Type 1} → statement M
+insert-bit-spec =
+    tie.close
+    (tie.spec
+    Inv-loop
+    μ-loop
+    loop-holds
+    mul-b
+    slice-read-b
+    mul-out
+    slice-write-out
+    add-i
+    loop-less
+    loop-again
+    mul-out-2
+    slice-write-out-2
+    same-length
+    returns)

@@ -1,0 +1,70 @@
+use Rattle.ldpc_check.proofs.Loops.{stair-one, stair-two}
+use lib.ListN.{length-set}
+use mathlib.Core.Path.{_≡_, refl, sym, ap, _∙_}
+use native.Mathlib.Omega.{arith}
+use borrow.Author.Needs.{needs}
+use Rattle.ldpc_check.proofs.put_stairs.Statement.{statement}
+use Rattle.ldpc_check.proofs.put_stairs.Tie as tie
+use Rattle.ldpc_check.proofs.put_stairs.Reads as reads
+use Rattle.ldpc_check.proofs.put_stairs.Lts as lts
+
+mul-out : tie.Need-mul-out
+mul-out c = omega (arith, stair-one (c .before .args .out .now) (c .before .args .n) (c .before .args .k) (c .before .args .c) (c .before .args .v) (c .before .pre .0) (c .if1 .taken) (c .before .pre .1))
+
+slice-write-out : tie.Need-slice-write-out
+slice-write-out c = stair-one (c .before .args .out .now) (c .before .args .n) (c .before .args .k) (c .before .args .c) (c .before .args .v) (c .before .pre .0) (c .if1 .taken) (c .before .pre .1) .0
+
+add-result : tie.Need-add-result
+add-result c = omega (arith, stair-one (c .before .args .out .now) (c .before .args .n) (c .before .args .k) (c .before .args .c) (c .before .args .v) (c .before .pre .0) (c .if1 .taken) (c .before .pre .1) .0)
+
+same-length : tie.Need-same-length
+same-length c = search needs
+
+returns : tie.Need-returns
+returns c = let s = stair-one (c .before .args .out .now) (c .before .args .n) (c .before .args .k) (c .before .args .c) (c .before .args .v) (c .before .pre .0) (c .if1 .taken) (c .before .pre .1) in (s .1, s .2)
+
+sub-out : tie.Need-sub-out
+sub-out c = search needs
+
+mul-out-2 : tie.Need-mul-out-2
+mul-out-2 c = omega (arith, stair-two (c .before .args .out .now) (c .before .args .n) (c .before .args .k) (c .before .args .c) (c .before .args .v) (c .before .pre .0) (c .if1 .left) (c .before .pre .1) .0)
+
+slice-write-out-2 : tie.Need-slice-write-out-2
+slice-write-out-2 c = omega (arith, stair-two (c .before .args .out .now) (c .before .args .n) (c .before .args .k) (c .before .args .c) (c .before .args .v) (c .before .pre .0) (c .if1 .left) (c .before .pre .1) .0)
+
+add-m : tie.Need-add-m
+add-m c = omega (arith, stair-two (c .before .args .out .now) (c .before .args .n) (c .before .args .k) (c .before .args .c) (c .before .args .v) (c .before .pre .0) (c .if1 .left) (c .before .pre .1) .0)
+
+mul-out-3 : tie.Need-mul-out-3
+mul-out-3 c = omega (arith, stair-two (c .before .args .out .now) (c .before .args .n) (c .before .args .k) (c .before .args .c) (c .before .args .v) (c .before .pre .0) (c .if1 .left) (c .before .pre .1) .0)
+
+slice-write-out-3 : tie.Need-slice-write-out-3
+slice-write-out-3 c = simp length-set (stair-two (c .before .args .out .now) (c .before .args .n) (c .before .args .k) (c .before .args .c) (c .before .args .v) (c .before .pre .0) (c .if1 .left) (c .before .pre .1) .0)
+
+add-result-2 : tie.Need-add-result-2
+add-result-2 c = omega (arith, stair-two (c .before .args .out .now) (c .before .args .n) (c .before .args .k) (c .before .args .c) (c .before .args .v) (c .before .pre .0) (c .if1 .left) (c .before .pre .1) .0)
+
+same-length-2 : tie.Need-same-length-2
+same-length-2 c = search needs
+
+returns-2 : tie.Need-returns-2
+returns-2 c = let s = stair-two (c .before .args .out .now) (c .before .args .n) (c .before .args .k) (c .before .args .c) (c .before .args .v) (c .before .pre .0) (c .if1 .left) (c .before .pre .1) in (s .1, s .2)
+
+pub put-stairs-spec : {M : Type 1} → statement M
+put-stairs-spec =
+    tie.close
+    (tie.spec
+    mul-out
+    slice-write-out
+    add-result
+    same-length
+    returns
+    sub-out
+    mul-out-2
+    slice-write-out-2
+    add-m
+    mul-out-3
+    slice-write-out-3
+    add-result-2
+    same-length-2
+    returns-2)

@@ -1,0 +1,1 @@
+-- The list of one check is that of the definition: ldpc_edges, Code.

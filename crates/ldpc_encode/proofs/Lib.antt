@@ -1,0 +1,4 @@
+pub mod Bytes
+pub mod Bits
+pub mod Rows
+pub mod Residue

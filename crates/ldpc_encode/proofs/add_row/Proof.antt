@@ -1,0 +1,87 @@
+use Rattle.ldpc_encode.specs.Sums.{Added, turnedBit}
+use mathlib.Core.Path.{subst}
+use Rattle.ldpc_encode.proofs.Bits.{Left, row-hit, row-miss, row-end}
+use Rattle.ldpc_encode.specs.Sums.{rowBit}
+use lib.ListN.{length, drop}
+use Prim.Native.Nat.{_≤_, _-_}
+use mathlib.Core.Logic.{⊎-elim}
+use mathlib.Core.Path.{_≡_, refl, sym, ap, _∙_}
+use borrow.Author.Needs.{needs}
+use native.Mathlib.Omega.{arith}
+use Rattle.ldpc_encode.proofs.add_row.Statement.{statement}
+use Rattle.ldpc_encode.proofs.add_row.Tie as tie
+use Rattle.ldpc_encode.proofs.add_row.Reads as reads
+use Rattle.ldpc_encode.proofs.add_row.Lts as lts
+use Rattle.ldpc_encode.proofs.add_turned.Reads as add-turned-reads
+use Rattle.ldpc_encode.proofs.turn.Reads as turn-reads
+use Rattle.ldpc_shape.proofs.residue.Reads as residue-reads
+
+abbrev Inv-loop : tie.InvT-loop
+Inv-loop x₀ w row q l i₀ x i = (i ≤ length row) × (length x ≡ 374) × Left x (rowBit q l w (drop i row)) x₀ (rowBit q l w row)
+
+abbrev μ-loop : tie.MeasureT-loop
+μ-loop x₀ w row q l i₀ x i = length row - i
+
+loop-holds : tie.Need-loop-holds Inv-loop μ-loop
+loop-holds c = (omega arith, (c .before .before .before .pre .0), λ j h. refl)
+
+mul-a : tie.Need-mul-a Inv-loop μ-loop
+mul-a c = search needs
+
+shared-slice-read-a : tie.Need-shared-slice-read-a Inv-loop μ-loop
+shared-slice-read-a c = search needs
+
+residue-requires : tie.Need-residue-requires Inv-loop μ-loop
+residue-requires c κs = search needs
+
+turn-requires : tie.Need-turn-requires Inv-loop μ-loop
+turn-requires c κs = search needs
+
+add-turned-requires : tie.Need-add-turned-requires Inv-loop μ-loop
+add-turned-requires c κs = ((c .before .before .before .before .before .before .loop .inv .1), (c .before .before .before .before .before .before .before .before .before .before .pre .1), (c .turn .ensures .1))
+
+add-i : tie.Need-add-i Inv-loop μ-loop
+add-i c = search needs
+
+loop-less : tie.Need-loop-less Inv-loop μ-loop
+loop-less c = search needs
+
+loop-again : tie.Need-loop-again Inv-loop μ-loop
+loop-again c =
+    ⊎-elim
+    (λ w. (
+      omega arith,
+      ap length (w .6) ∙ w .3 .ensures .long,
+      row-hit (c .before .before .before .before .before .before .before .before .args .q) (c .before .before .before .before .before .before .before .before .args .l) (c .before .before .before .before .before .before .before .before .args .w .now) (c .before .before .before .before .before .before .before .before .args .row .now) (c .before .before .before .before .loop .i) (c .before .before .before .before .loop .x) _ (c .before .before .before .before .before .before .before .before .args .x .now) (c .before .residue .result) (w .2 .result) (search needs) (c .before .residue .ensures .0) (w .0 .taken)
+          (w .2 .ensures .0) (subst (λ y. Added (c .before .before .before .before .loop .x) y (turnedBit (c .before .before .before .before .before .before .before .before .args .w .now) (w .2 .result))) (sym (w .6)) (w .3 .ensures)) (c .before .before .before .before .loop .inv .2),
+    ))
+    (λ w. (
+      omega arith,
+      ap length (w .1) ∙ (c .before .before .before .before .loop .inv .1),
+      row-miss (c .before .before .before .before .before .before .before .before .args .q) (c .before .before .before .before .before .before .before .before .args .l) (c .before .before .before .before .before .before .before .before .args .w .now) (c .before .before .before .before .before .before .before .before .args .row .now) (c .before .before .before .before .loop .i) (c .before .before .before .before .loop .x) _ (c .before .before .before .before .before .before .before .before .args .x .now) (c .before .residue .result) (search needs) (c .before .residue .ensures .0) (w .0 .left) (w .1) (c .before .before .before .before .loop .inv .2),
+    ))
+    (c .if1 .came)
+
+same-length : tie.Need-same-length Inv-loop μ-loop
+same-length c = (c .before .loop .inv .1) ∙ sym (c .before .before .before .before .before .pre .0)
+
+returns : tie.Need-returns Inv-loop μ-loop
+returns c = row-end (c .before .before .before .before .before .args .q) (c .before .before .before .before .before .args .l) (c .before .before .before .before .before .args .w .now) (c .before .before .before .before .before .args .row .now) (c .before .loop .i) (c .before .loop .x) (c .before .before .before .before .before .args .x .now) (c .before .loop .inv .1) (search needs) (c .before .loop .inv .2)
+
+pub add-row-spec : {M : Type 1} → statement M
+add-row-spec =
+    tie.close
+    (tie.spec
+    Inv-loop
+    μ-loop
+    loop-holds
+    mul-a
+    shared-slice-read-a
+    residue-requires
+    turn-requires
+    add-turned-requires
+    add-i
+    loop-less
+    loop-again
+    same-length
+    returns)

@@ -1,0 +1,60 @@
+use Rattle.ldpc_encode.proofs.Bytes.{copied, copied-rest, copied-all}
+use lib.ListN.{length, take, drop, length-set}
+use Prim.Native.Nat.{_≤_, _-_}
+use mathlib.Core.Path.{_≡_, refl, ap, sym, _∙_}
+use borrow.Author.Needs.{needs}
+use native.Mathlib.Omega.{arith}
+use Rattle.ldpc_encode.proofs.copy.Statement.{statement}
+use Rattle.ldpc_encode.proofs.copy.Tie as tie
+use Rattle.ldpc_encode.proofs.copy.Reads as reads
+use Rattle.ldpc_encode.proofs.copy.Lts as lts
+
+abbrev Inv-loop : tie.InvT-loop
+Inv-loop out₀ w i₀ out i = (i ≤ length w) × (length out ≡ length out₀) × (take i out ≡ take i w) × (drop i out ≡ drop i out₀)
+
+abbrev μ-loop : tie.MeasureT-loop
+μ-loop out₀ w i₀ out i = length w - i
+
+loop-holds : tie.Need-loop-holds Inv-loop μ-loop
+loop-holds c = (omega arith, refl, refl, refl)
+
+shared-slice-read-out : tie.Need-shared-slice-read-out Inv-loop μ-loop
+shared-slice-read-out c = search needs
+
+slice-write-out : tie.Need-slice-write-out Inv-loop μ-loop
+slice-write-out c = search needs
+
+add-i : tie.Need-add-i Inv-loop μ-loop
+add-i c = search needs
+
+loop-less : tie.Need-loop-less Inv-loop μ-loop
+loop-less c = search needs
+
+loop-again : tie.Need-loop-again Inv-loop μ-loop
+loop-again c = (
+  omega arith,
+  length-set (c .before .before .loop .out) _ _ ∙ (c .before .before .loop .inv .1),
+  copied (c .before .before .loop .out) (c .before .before .before .args .w .now) (c .before .before .loop .i) (omega (arith, (c .before .before .loop .inv .1), (c .before .before .before .pre))) (search needs) (c .before .before .loop .inv .2),
+  copied-rest (c .before .before .loop .out) (c .before .before .before .args .out .now) (c .before .before .loop .i) _ (c .before .before .loop .inv .3),
+)
+
+same-length : tie.Need-same-length Inv-loop μ-loop
+same-length c = search needs
+
+returns : tie.Need-returns Inv-loop μ-loop
+returns c = copied-all (c .before .loop .out) (c .before .before .args .w .now) (c .before .before .args .out .now) (c .before .loop .i) (search needs) (c .before .loop .inv .0) (c .before .loop .inv .2) (c .before .loop .inv .3)
+
+pub copy-spec : {M : Type 1} → statement M
+copy-spec =
+    tie.close
+    (tie.spec
+    Inv-loop
+    μ-loop
+    loop-holds
+    shared-slice-read-out
+    slice-write-out
+    add-i
+    loop-less
+    loop-again
+    same-length
+    returns)

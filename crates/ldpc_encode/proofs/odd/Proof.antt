@@ -1,0 +1,18 @@
+use Rattle.laws.specs.Modulo.{xor-parity}
+use native.Mathlib.Nat.{mod-lt}
+use mathlib.Core.Path.{_≡_, refl}
+use native.Mathlib.Omega.{arith}
+use borrow.Author.Needs.{needs}
+use Rattle.ldpc_encode.proofs.odd.Statement.{statement}
+use Rattle.ldpc_encode.proofs.odd.Tie as tie
+use Rattle.ldpc_encode.proofs.odd.Reads as reads
+use Rattle.ldpc_encode.proofs.odd.Lts as lts
+
+cast-result : tie.Need-cast-result
+cast-result c = search needs
+
+returns : tie.Need-returns
+returns c = (xor-parity (c .args .x) (c .args .y), omega (arith, xor-parity (c .args .x) (c .args .y)))
+
+pub odd-spec : {M : Type 1} → statement M
+odd-spec = tie.close (tie.spec cast-result returns)

@@ -1,0 +1,73 @@
+use Rattle.ldpc_encode.proofs.Residue.{at-next, at-fits, count-next}
+use Rattle.ldpc_encode.specs.Sums.{unmetAt}
+use Rattle.laws.specs.Modulo.{sumTo, sum-none}
+use Prim.Native.Nat.{ℕ, _+_, _*_, _≤_, _-_}
+use mathlib.Core.Path.{_≡_, refl, sym, ap, _∙_}
+use borrow.Author.Needs.{needs}
+use native.Mathlib.Omega.{arith}
+use Rattle.ldpc_encode.proofs.odd_checks.Statement.{statement}
+use Rattle.ldpc_encode.proofs.odd_checks.Tie as tie
+use Rattle.ldpc_encode.proofs.odd_checks.Reads as reads
+use Rattle.ldpc_encode.proofs.odd_checks.Lts as lts
+use Rattle.ldpc_encode.proofs.odd.Reads as odd-reads
+use Rattle.ldpc_encode.proofs.stair_bit.Reads as stair-bit-reads
+
+abbrev Inv-loop : tie.InvT-loop
+Inv-loop x p q l s₀ c₀ i₀ s c i = (i ≤ 374) × (c ≡ l + i * q) × (s ≤ i) × (s ≡ sumTo i (unmetAt q l x p))
+
+abbrev μ-loop : tie.MeasureT-loop
+μ-loop x p q l s₀ c₀ i₀ s c i = 374 - i
+
+loop-holds : tie.Need-loop-holds Inv-loop μ-loop
+loop-holds c = (omega arith, omega arith, omega arith, sum-none _)
+
+element-copy-out-odd : tie.Need-element-copy-out-odd Inv-loop μ-loop
+element-copy-out-odd c = search needs
+
+stair-bit-requires : tie.Need-stair-bit-requires Inv-loop μ-loop
+stair-bit-requires c κs = omega (arith, at-fits (c .before .before .before .before .args .q) (c .before .before .before .before .args .l) (c .before .before .loop .i) (c .before .before .loop .c) (c .before .before .before .before .pre .1) (c .before .before .before .before .pre .2) (search needs) (c .before .before .loop .inv .1), (c .before .before .before .before .pre .0))
+
+odd-requires : tie.Need-odd-requires Inv-loop μ-loop
+odd-requires c κs = search needs
+
+add-s : tie.Need-add-s Inv-loop μ-loop
+add-s c = omega (arith, (c .odd .ensures .1))
+
+add-c : tie.Need-add-c Inv-loop μ-loop
+add-c c = omega (arith, at-fits (c .before .before .before .before .before .before .args .q) (c .before .before .before .before .before .before .args .l) (c .before .before .before .before .loop .i) (c .before .before .before .before .loop .c) (c .before .before .before .before .before .before .pre .1) (c .before .before .before .before .before .before .pre .2) (search needs) (c .before .before .before .before .loop .inv .1))
+
+add-i : tie.Need-add-i Inv-loop μ-loop
+add-i c = search needs
+
+loop-less : tie.Need-loop-less Inv-loop μ-loop
+loop-less c = search needs
+
+loop-again : tie.Need-loop-again Inv-loop μ-loop
+loop-again c = (
+  omega arith,
+  at-next (c .before .before .before .before .before .before .args .q) (c .before .before .before .before .before .before .args .l) (c .before .before .before .before .loop .i) (c .before .before .before .before .loop .c) (c .before .before .before .before .loop .inv .1),
+  omega (arith, (c .odd .ensures .1)),
+  count-next (c .before .before .before .before .before .before .args .q) (c .before .before .before .before .before .before .args .l) (c .before .before .before .before .before .before .args .x .now) (c .before .before .before .before .before .before .args .p .now) (c .before .before .before .before .loop .i) (c .before .before .before .before .loop .c) (c .before .before .before .before .loop .s) (c .odd .result) (c .before .stair-bit .result) (c .before .before .before .before .loop .inv .1) (c .before .before .before .before .loop .inv .3) (c .before .stair-bit .ensures) (c .odd .ensures .0),
+)
+
+returns : tie.Need-returns Inv-loop μ-loop
+returns c =
+    let e : (c .before .loop .i) ≡ 374 = omega arith in
+    ((c .before .loop .inv .3) ∙ ap (λ (z : ℕ). sumTo z (unmetAt (c .before .before .before .args .q) (c .before .before .before .args .l) (c .before .before .before .args .x .now) (c .before .before .before .args .p .now))) e, omega arith)
+
+pub odd-checks-spec : {M : Type 1} → statement M
+odd-checks-spec =
+    tie.close
+    (tie.spec
+    Inv-loop
+    μ-loop
+    loop-holds
+    element-copy-out-odd
+    stair-bit-requires
+    odd-requires
+    add-s
+    add-c
+    add-i
+    loop-less
+    loop-again
+    returns)

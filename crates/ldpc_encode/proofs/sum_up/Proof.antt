@@ -1,0 +1,57 @@
+use Rattle.ldpc_encode.proofs.Bytes.{sums-again, sums-end}
+use Rattle.ldpc_edges.specs.Code.{sums}
+use lib.ListN.{length, take, drop, length-set}
+use Prim.Native.Nat.{_≤_, _-_}
+use mathlib.Core.List.{_++_}
+use mathlib.Core.Path.{_≡_, refl, ap, sym, _∙_}
+use borrow.Author.Needs.{needs}
+use native.Mathlib.Omega.{arith}
+use Rattle.ldpc_encode.proofs.sum_up.Statement.{statement}
+use Rattle.ldpc_encode.proofs.sum_up.Tie as tie
+use Rattle.ldpc_encode.proofs.sum_up.Reads as reads
+use Rattle.ldpc_encode.proofs.sum_up.Lts as lts
+
+abbrev Inv-loop : tie.InvT-loop
+Inv-loop p₀ b₀ c₀ p b c = (c ≤ length p₀) × (length p ≡ length p₀) × (take c p ++ sums b (drop c p) ≡ sums 0 p₀)
+
+abbrev μ-loop : tie.MeasureT-loop
+μ-loop p₀ b₀ c₀ p b c = length p₀ - c
+
+loop-holds : tie.Need-loop-holds Inv-loop μ-loop
+loop-holds c = (omega arith, refl, refl)
+
+slice-read-b : tie.Need-slice-read-b Inv-loop μ-loop
+slice-read-b c = search needs
+
+slice-write-p : tie.Need-slice-write-p Inv-loop μ-loop
+slice-write-p c = search needs
+
+add-c : tie.Need-add-c Inv-loop μ-loop
+add-c c = search needs
+
+loop-less : tie.Need-loop-less Inv-loop μ-loop
+loop-less c = search needs
+
+loop-again : tie.Need-loop-again Inv-loop μ-loop
+loop-again c = (omega (arith, (c .before .before .loop .inv .1)), length-set (c .before .before .loop .p) _ _ ∙ (c .before .before .loop .inv .1), sums-again (c .before .before .loop .p) _ (c .before .before .loop .c) (c .before .before .loop .b) (search needs) (c .before .before .loop .inv .2))
+
+same-length : tie.Need-same-length Inv-loop μ-loop
+same-length c = search needs
+
+returns : tie.Need-returns Inv-loop μ-loop
+returns c = sums-end (c .before .loop .p) _ (c .before .loop .c) (c .before .loop .b) (search needs) (omega (arith, (c .before .loop .inv .0), (c .before .loop .inv .1))) (c .before .loop .inv .2)
+
+pub sum-up-spec : {M : Type 1} → statement M
+sum-up-spec =
+    tie.close
+    (tie.spec
+    Inv-loop
+    μ-loop
+    loop-holds
+    slice-read-b
+    slice-write-p
+    add-c
+    loop-less
+    loop-again
+    same-length
+    returns)

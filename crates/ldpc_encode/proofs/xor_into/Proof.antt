@@ -1,0 +1,61 @@
+use Rattle.ldpc_encode.proofs.Bytes.{xors-again, xors-end}
+use Rattle.ldpc_encode.specs.Sums.{xors}
+use lib.ListN.{length, take, drop, length-set}
+use Prim.Native.Nat.{_≤_, _-_}
+use mathlib.Core.List.{_++_}
+use mathlib.Core.Path.{_≡_, refl, ap, sym, _∙_}
+use borrow.Author.Needs.{needs}
+use native.Mathlib.Omega.{arith}
+use Rattle.ldpc_encode.proofs.xor_into.Statement.{statement}
+use Rattle.ldpc_encode.proofs.xor_into.Tie as tie
+use Rattle.ldpc_encode.proofs.xor_into.Reads as reads
+use Rattle.ldpc_encode.proofs.xor_into.Lts as lts
+
+abbrev Inv-loop : tie.InvT-loop
+Inv-loop x₀ w i₀ x i = (i ≤ length x₀) × (length x ≡ length x₀) × (take i x ++ xors (drop i x) (drop i w) ≡ xors x₀ w)
+
+abbrev μ-loop : tie.MeasureT-loop
+μ-loop x₀ w i₀ x i = length x₀ - i
+
+loop-holds : tie.Need-loop-holds Inv-loop μ-loop
+loop-holds c = (omega arith, refl, refl)
+
+slice-read-x : tie.Need-slice-read-x Inv-loop μ-loop
+slice-read-x c = search needs
+
+shared-slice-read-x : tie.Need-shared-slice-read-x Inv-loop μ-loop
+shared-slice-read-x c = search needs
+
+slice-write-x : tie.Need-slice-write-x Inv-loop μ-loop
+slice-write-x c = search needs
+
+add-i : tie.Need-add-i Inv-loop μ-loop
+add-i c = search needs
+
+loop-less : tie.Need-loop-less Inv-loop μ-loop
+loop-less c = search needs
+
+loop-again : tie.Need-loop-again Inv-loop μ-loop
+loop-again c = (omega (arith, (c .before .before .before .loop .inv .1)), length-set (c .before .before .before .loop .x) _ _ ∙ (c .before .before .before .loop .inv .1), xors-again (c .before .before .before .loop .x) (c .before .before .before .before .args .w .now) _ (c .before .before .before .loop .i) (search needs) (omega (arith, (c .before .before .before .loop .inv .1), (c .before .before .before .before .pre))) (c .before .before .before .loop .inv .2))
+
+same-length : tie.Need-same-length Inv-loop μ-loop
+same-length c = search needs
+
+returns : tie.Need-returns Inv-loop μ-loop
+returns c = xors-end (c .before .loop .x) _ _ (c .before .loop .i) (search needs) (omega (arith, (c .before .loop .inv .0), (c .before .loop .inv .1))) (c .before .loop .inv .2)
+
+pub xor-into-spec : {M : Type 1} → statement M
+xor-into-spec =
+    tie.close
+    (tie.spec
+    Inv-loop
+    μ-loop
+    loop-holds
+    slice-read-x
+    shared-slice-read-x
+    slice-write-x
+    add-i
+    loop-less
+    loop-again
+    same-length
+    returns)

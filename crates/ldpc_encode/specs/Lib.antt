@@ -1,0 +1,2 @@
+-- The sums that the code keeps on its way.
+pub mod Sums

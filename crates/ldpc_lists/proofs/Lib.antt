@@ -1,0 +1,4 @@
+pub mod One
+pub mod Loops
+pub mod Stairs
+pub mod Built

@@ -1,0 +1,24 @@
+use Prim.Native.Nat.{_+_}
+use native.Mathlib.Nat.{mod-lt}
+use mathlib.Core.Path.{refl}
+use native.Mathlib.Omega.{arith}
+use borrow.Author.Needs.{needs}
+use Rattle.ldpc_lists.proofs.meets.Statement.{statement}
+use Rattle.ldpc_lists.proofs.meets.Tie as tie
+use Rattle.ldpc_lists.proofs.meets.Reads as reads
+use Rattle.ldpc_lists.proofs.meets.Lts as lts
+
+add-result : tie.Need-add-result
+add-result c = search needs
+
+rem-result : tie.Need-rem-result
+rem-result c = search needs
+
+cast-result : tie.Need-cast-result
+cast-result c = omega (arith, mod-lt ((c .args .a) + (c .args .s)) (c .pre .0), (c .fits .checks))
+
+returns : tie.Need-returns
+returns c = search needs
+
+pub meets-spec : {M : Type 1} → statement M
+meets-spec = tie.close (tie.spec add-result rem-result cast-result returns)

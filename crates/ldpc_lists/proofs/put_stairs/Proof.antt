@@ -1,0 +1,64 @@
+use Rattle.ldpc_lists.proofs.Stairs.{stairs-start, stairs-room, stairs-again, stairs-end}
+use Rattle.ldpc_lists.proofs.Loops.{same-parts}
+use Rattle.ldpc_lists.specs.Build.{parts, putAll}
+use Rattle.ldpc_edges.specs.Count.{toStairs}
+use lib.ListN.{length}
+use Prim.Native.Nat.{_+_, _≤_, _-_}
+use mathlib.Core.Path.{_≡_}
+use borrow.Author.Needs.{needs}
+use native.Mathlib.Omega.{arith}
+use Rattle.ldpc_lists.proofs.put_stairs.Statement.{statement}
+use Rattle.ldpc_lists.proofs.put_stairs.Tie as tie
+use Rattle.ldpc_lists.proofs.put_stairs.Reads as reads
+use Rattle.ldpc_lists.proofs.put_stairs.Lts as lts
+use Rattle.ldpc_lists.proofs.put_stair.Reads as put-stair-reads
+
+abbrev Inv-loop : tie.InvT-loop
+Inv-loop lists₀ base k checks n c₀ v₀ lists c v = (c ≤ checks) × (v ≡ k + c) × (base ≤ length lists) × (parts base lists ≡ putAll (toStairs k c (checks - c)) (parts base lists₀))
+
+abbrev μ-loop : tie.MeasureT-loop
+μ-loop lists₀ base k checks n c₀ v₀ lists c v = c
+
+loop-holds : tie.Need-loop-holds Inv-loop μ-loop
+loop-holds c = (omega arith, (c .before .pre .1), (c .before .pre .0), stairs-start _ _ _)
+
+sub-c : tie.Need-sub-c Inv-loop μ-loop
+sub-c c = search needs
+
+sub-v : tie.Need-sub-v Inv-loop μ-loop
+sub-v c = search needs
+
+put-stair-requires : tie.Need-put-stair-requires Inv-loop μ-loop
+put-stair-requires c κs = ((c .before .before .loop .inv .2), omega arith, stairs-room (c .before .before .before .before .args .k) (c .before .before .before .before .args .checks) (c .before .before .loop .c) (parts (c .before .before .before .before .args .base) (c .before .before .loop .lists)) (parts (c .before .before .before .before .args .base) (c .before .before .before .before .args .lists .now)) (search needs) (c .before .before .loop .inv .0) (c .before .before .before .before .pre .2) (c .before .before .loop .inv .3))
+
+loop-less : tie.Need-loop-less Inv-loop μ-loop
+loop-less c = search needs
+
+loop-again : tie.Need-loop-again Inv-loop μ-loop
+loop-again c = (
+  omega arith,
+  omega arith,
+  omega arith,
+  stairs-again (c .before .before .before .before .before .before .before .args .k) (c .before .before .before .before .before .before .before .args .checks) (c .before .before .before .before .before .loop .c) (parts (c .before .before .before .before .before .before .before .args .base) (c .before .before .before .before .before .loop .lists)) _ (parts (c .before .before .before .before .before .before .before .args .base) (c .before .before .before .before .before .before .before .args .lists .now)) (search needs) (c .before .before .before .before .before .loop .inv .0) (c .before .before .before .before .before .loop .inv .3) (c .before .before .put-stair .ensures),
+)
+
+same-length : tie.Need-same-length Inv-loop μ-loop
+same-length c = same-parts (c .before .before .before .args .base) _ (c .before .loop .lists) _ (c .before .loop .inv .3)
+
+returns : tie.Need-returns Inv-loop μ-loop
+returns c = stairs-end _ _ (c .before .loop .c) _ _ (search needs) (c .before .loop .inv .3)
+
+pub put-stairs-spec : {M : Type 1} → statement M
+put-stairs-spec =
+    tie.close
+    (tie.spec
+    Inv-loop
+    μ-loop
+    loop-holds
+    sub-c
+    sub-v
+    put-stair-requires
+    loop-less
+    loop-again
+    same-length
+    returns)

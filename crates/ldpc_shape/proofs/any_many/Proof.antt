@@ -1,0 +1,61 @@
+use Rattle.ldpc_shape.proofs.Loops.{tops-hit, tops-miss, tops-end}
+use Rattle.ldpc_shape.specs.Counts.{tops}
+use Rattle.ldpc_shape.specs.Shape.{anyOver}
+use Prim.Native.Nat.{ℕ, _≤_}
+use mathlib.Core.Path.{_≡_, refl, ap, sym, _∙_}
+use borrow.Author.Needs.{needs}
+use native.Mathlib.Omega.{arith}
+use Rattle.ldpc_shape.proofs.any_many.Statement.{statement}
+use Rattle.ldpc_shape.proofs.any_many.Tie as tie
+use Rattle.ldpc_shape.proofs.any_many.Reads as reads
+use Rattle.ldpc_shape.proofs.any_many.Lts as lts
+use Rattle.ldpc_shape.proofs.wide.Reads as wide-reads
+
+abbrev Inv-loop : tie.InvT-loop
+Inv-loop counts q l₀ l = (l ≤ q) × (anyOver 126 (tops counts q) ≡ anyOver 126 (tops counts l))
+
+abbrev μ-loop : tie.MeasureT-loop
+μ-loop counts q l₀ l = l
+
+wide-requires : tie.Need-wide-requires Inv-loop μ-loop
+wide-requires c κs = search needs
+
+loop-holds : tie.Need-loop-holds Inv-loop μ-loop
+loop-holds c = (omega (arith, (c .wide .ensures)), ap (λ (z : ℕ). anyOver 126 (tops (c .before .args .counts .now) z)) (sym (c .wide .ensures)))
+
+sub-l : tie.Need-sub-l Inv-loop μ-loop
+sub-l c = search needs
+
+mul-if1 : tie.Need-mul-if1 Inv-loop μ-loop
+mul-if1 c = search needs
+
+element-copy-out-if1 : tie.Need-element-copy-out-if1 Inv-loop μ-loop
+element-copy-out-if1 c = search needs
+
+returns : tie.Need-returns Inv-loop μ-loop
+returns c = tops-hit 126 (c .before .before .before .before .before .args .counts .now) (c .before .before .before .before .before .args .q) (c .before .before .before .loop .l) (search needs) (c .if1 .taken) (c .before .before .before .loop .inv .1)
+
+loop-less : tie.Need-loop-less Inv-loop μ-loop
+loop-less c = search needs
+
+loop-again : tie.Need-loop-again Inv-loop μ-loop
+loop-again c = (omega arith, tops-miss 126 (c .before .before .before .before .before .args .counts .now) (c .before .before .before .before .before .args .q) (c .before .before .before .loop .l) (search needs) (c .if1 .left) (c .before .before .before .loop .inv .1))
+
+returns-2 : tie.Need-returns-2 Inv-loop μ-loop
+returns-2 c = tops-end 126 (c .before .before .before .args .counts .now) (c .before .before .before .args .q) (c .before .loop .l) (search needs) (c .before .loop .inv .1)
+
+pub any-many-spec : {M : Type 1} → statement M
+any-many-spec =
+    tie.close
+    (tie.spec
+    Inv-loop
+    μ-loop
+    wide-requires
+    loop-holds
+    sub-l
+    mul-if1
+    element-copy-out-if1
+    returns
+    loop-less
+    loop-again
+    returns-2)

@@ -1,0 +1,90 @@
+use Rattle.ldpc_shape.proofs.Loops.{sum-fits, small, refuse-length, refuse-rows, refuse-over, refuse-sum, refuse-many, refuse-none}
+use lib.ListN.{length}
+use Prim.Native.Nat.{ℕ, _≤_, _<_}
+use mathlib.Core.Path.{_≡_, refl, sym, _∙_, subst}
+use native.Mathlib.Omega.{arith}
+use borrow.Author.Needs.{needs}
+use Rattle.ldpc_shape.proofs.refusal.Statement.{statement}
+use Rattle.ldpc_shape.proofs.refusal.Tie as tie
+use Rattle.ldpc_shape.proofs.refusal.Reads as reads
+use Rattle.ldpc_shape.proofs.refusal.Lts as lts
+use Rattle.ldpc_shape.proofs.any_long.Reads as any-long-reads
+use Rattle.ldpc_shape.proofs.any_many.Reads as any-many-reads
+use Rattle.ldpc_shape.proofs.bad_length.Reads as bad-length-reads
+use Rattle.ldpc_shape.proofs.counts.Reads as counts-reads
+use Rattle.ldpc_shape.proofs.sum_of.Reads as sum-of-reads
+use Rattle.ldpc_shape.proofs.wide.Reads as wide-reads
+
+bad-length-requires : tie.Need-bad-length-requires
+bad-length-requires c κs = search needs
+
+returns : tie.Need-returns
+returns c = refuse-length _ _ _ (sym (c .if1 .taken) ∙ (c .before .bad-length .ensures))
+
+wide-requires : tie.Need-wide-requires
+wide-requires c κs = search needs
+
+returns-2 : tie.Need-returns-2
+returns-2 c = refuse-rows _ _ _ (sym (c .before .before .if1 .left) ∙ (c .before .before .before .bad-length .ensures)) (subst (λ (z : ℕ). z ≤ length (c .before .before .before .before .before .before .args .lens .now)) (c .before .wide .ensures) (c .if2 .taken))
+
+any-long-requires : tie.Need-any-long-requires
+any-long-requires c κs = search needs
+
+returns-3 : tie.Need-returns-3
+returns-3 c =
+    refuse-over _ _ _ (sym (c .before .before .before .before .if1 .left) ∙ (c .before .before .before .before .before .bad-length .ensures)) (subst (λ (z : ℕ). length (c .before .before .before .before .before .before .before .before .args .lens .now) < z) (c .before .before .before .wide .ensures) (c .before .before .if2 .left))
+    (sym (c .if3 .taken) ∙ (c .before .any-long .ensures))
+
+sum-of-requires : tie.Need-sum-of-requires
+sum-of-requires c κs =
+    let s = small _ (sym (c .before .before .before .before .if1 .left) ∙ (c .before .before .before .before .before .bad-length .ensures)) in
+    (omega (arith, s, (c .before .before .before .wide .ensures), (c .before .before .if2 .left)), sym (c .before .any-long .ensures) ∙ (c .if3 .left))
+
+returns-4 : tie.Need-returns-4
+returns-4 c =
+    refuse-sum _ _ _ (sym (c .before .before .before .before .before .before .if1 .left) ∙ (c .before .before .before .before .before .before .before .bad-length .ensures)) (subst (λ (z : ℕ). length (c .before .before .before .before .before .before .before .before .before .before .args .lens .now) < z) (c .before .before .before .before .before .wide .ensures) (c .before .before .before .before .if2 .left))
+    (sym (c .before .before .if3 .left) ∙ (c .before .before .before .any-long .ensures)) (λ e. (c .if4 .taken) ((c .before .sum-of .ensures) ∙ e))
+
+cast-q : tie.Need-cast-q
+cast-q c = omega (arith, small _ (sym (c .before .before .before .before .before .before .if1 .left) ∙ (c .before .before .before .before .before .before .before .bad-length .ensures)), (c .before .before .before .before .before .wide .ensures), (c .before .before .before .before .if2 .left))
+
+sub-q : tie.Need-sub-q
+sub-q c = omega (arith, small _ (sym (c .before .before .before .before .before .before .if1 .left) ∙ (c .before .before .before .before .before .before .before .bad-length .ensures)), (c .before .before .before .before .before .wide .ensures), (c .before .before .before .before .if2 .left))
+
+counts-requires : tie.Need-counts-requires
+counts-requires c κs =
+    let s = small _ (sym (c .before .before .before .before .before .before .if1 .left) ∙ (c .before .before .before .before .before .before .before .bad-length .ensures)) in
+    let f = sum-fits _ (omega (arith, s, (c .before .before .before .before .before .wide .ensures), (c .before .before .before .before .if2 .left))) (sym (c .before .before .before .any-long .ensures) ∙ (c .before .before .if3 .left)) in
+    (omega (arith, (c .before .before .before .before .before .wide .ensures), (c .before .before .before .before .if2 .left)), omega (arith, s), omega (arith, f, (c .before .sum-of .ensures), (c .if4 .left)))
+
+any-many-requires : tie.Need-any-many-requires
+any-many-requires c κs = omega (arith, small _ (sym (c .before .before .before .before .before .before .before .before .if1 .left) ∙ (c .before .before .before .before .before .before .before .before .before .bad-length .ensures)))
+
+returns-5 : tie.Need-returns-5
+returns-5 c =
+    refuse-many _ _ _ (sym (c .before .before .before .before .before .before .before .before .before .before .if1 .left) ∙ (c .before .before .before .before .before .before .before .before .before .before .before .bad-length .ensures)) (subst (λ (z : ℕ). length (c .before .before .before .before .before .before .before .before .before .before .before .before .before .before .args .lens .now) < z) (c .before .before .before .before .before .before .before .before .before .wide .ensures) (c .before .before .before .before .before .before .before .before .if2 .left))
+    (sym (c .before .before .before .before .before .before .if3 .left) ∙ (c .before .before .before .before .before .before .before .any-long .ensures)) (sym (c .before .before .before .before .before .sum-of .ensures) ∙ (c .before .before .before .before .if4 .left)) _ _ refl (c .before .before .before .counts .ensures) (sym (c .if5 .taken) ∙ (c .before .any-many .ensures))
+
+returns-6 : tie.Need-returns-6
+returns-6 c =
+    refuse-none _ _ _ (sym (c .before .before .before .before .before .before .before .before .before .before .if1 .left) ∙ (c .before .before .before .before .before .before .before .before .before .before .before .bad-length .ensures)) (subst (λ (z : ℕ). length (c .before .before .before .before .before .before .before .before .before .before .before .before .before .before .args .lens .now) < z) (c .before .before .before .before .before .before .before .before .before .wide .ensures) (c .before .before .before .before .before .before .before .before .if2 .left))
+    (sym (c .before .before .before .before .before .before .if3 .left) ∙ (c .before .before .before .before .before .before .before .any-long .ensures)) (sym (c .before .before .before .before .before .sum-of .ensures) ∙ (c .before .before .before .before .if4 .left)) _ _ refl (c .before .before .before .counts .ensures) (sym (c .if5 .left) ∙ (c .before .any-many .ensures))
+
+pub refusal-spec : {M : Type 1} → statement M
+refusal-spec =
+    tie.close
+    (tie.spec
+    bad-length-requires
+    returns
+    wide-requires
+    returns-2
+    any-long-requires
+    returns-3
+    sum-of-requires
+    returns-4
+    cast-q
+    sub-q
+    counts-requires
+    any-many-requires
+    returns-5
+    returns-6)

@@ -1,0 +1,124 @@
+// The shape of a code, lent as n, the rows' lengths and their addresses, and the refusals 2 to 6.
+ghost use mathlib.Core.Path.{_≡_};
+ghost use mathlib.Core.Bool.{true, false};
+ghost use Prim.Native.Nat.{_%_, _<_, _≤_};
+ghost use lib.ListN.{length};
+ghost use Rattle.ldpc_shape.specs.Shape.{kOf, total, anyOver, badLength, refusalOf};
+ghost use Rattle.ldpc_shape.specs.Counts.{Counted, tops};
+
+pub fn wide(x: u32) -> usize
+    ensures { λ r. ⌜ r ≡ x ⌝ }
+{
+    x as usize
+}
+
+// The address's residue modulo q.
+pub fn residue(a: u16, q: u32) -> usize
+    requires { ⌜ 0 < q ⌝ }
+    ensures { λ r. ⌜ (r ≡ a % q) × (r < q) ⌝ }
+{
+    ((a as u32) % q) as usize
+}
+
+// Whether n is no length of a code.
+fn bad_length(n: u32) -> bool
+    ensures { λ r. ⌜ r ≡ badLength n ⌝ }
+{
+    if n == 0 {
+        return true;
+    }
+    if n % 374 != 0 {
+        return true;
+    }
+    44880 < n
+}
+
+// Whether a row has more than 128 addresses.
+fn any_long(lens: &[u32]) -> bool
+    ensures { λ r. ⌜ r ≡ anyOver 128 (now (lens .entry)) ⌝ }
+{
+    let mut i: usize = 0;
+    while i < lens.len() {
+        if 128 < lens[i] {
+            return true;
+        }
+        i += 1;
+    }
+    false
+}
+
+// What the row lengths add up to.
+fn sum_of(lens: &[u32]) -> usize
+    requires { ⌜ (length (now lens) ≤ 119) × (anyOver 128 (now lens) ≡ false) ⌝ }
+    ensures { λ r. ⌜ r ≡ total (now (lens .entry)) ⌝ }
+{
+    let mut s: usize = 0;
+    let mut i: usize = 0;
+    while i < lens.len() {
+        s = s + wide(lens[i]);
+        i += 1;
+    }
+    s
+}
+
+// How many addresses are l modulo q, for each l below q.
+pub fn counts(addrs: &[u16], q: u32) -> [u32; 120]
+    requires { ⌜ (0 < q) × (q ≤ 120) × (length (now addrs) ≤ 15360) ⌝ }
+    ensures { λ r. ⌜ Counted r q (now (addrs .entry)) ⌝ }
+{
+    let mut r = [0u32; 120];
+    let mut i: usize = 0;
+    while i < addrs.len() {
+        let l = residue(addrs[i], q);
+        r[l] = r[l] + 1;
+        i += 1;
+    }
+    r
+}
+
+// Whether one of the first q counts is above 126.
+fn any_many(counts: &[u32; 120], q: u32) -> bool
+    requires { ⌜ q ≤ 120 ⌝ }
+    ensures { λ r. ⌜ r ≡ anyOver 126 (tops (now (counts .entry)) q) ⌝ }
+{
+    let mut l = wide(q);
+    while 0 < l {
+        l -= 1;
+        if 126 < counts[l] {
+            return true;
+        }
+    }
+    false
+}
+
+// The first of the refusals 2 to 6 that applies, 0 for none.
+pub fn refusal(n: u32, lens: &[u32], addrs: &[u16]) -> u32
+    ensures { λ r. ⌜ r ≡ refusalOf n (now (lens .entry)) (now (addrs .entry)) ⌝ }
+{
+    if bad_length(n) {
+        return 2;
+    }
+    if wide(n / 374) <= lens.len() {
+        return 3;
+    }
+    if any_long(lens) {
+        return 4;
+    }
+    if sum_of(lens) != addrs.len() {
+        return 5;
+    }
+    let q = n / 374 - (lens.len() as u32);
+    let r = counts(addrs, q);
+    if any_many(&r, q) {
+        return 6;
+    }
+    0
+}
+
+// k, of a code with fewer than 120 rows.
+pub fn info_bits(lens: &[u32]) -> usize
+    requires { ⌜ length (now lens) ≤ 119 ⌝ }
+    ensures { λ r. ⌜ r ≡ kOf (now (lens .entry)) ⌝ }
+{
+    lens.len() * 374
+}

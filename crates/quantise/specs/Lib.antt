@@ -1,0 +1,3 @@
+-- The soft word, and a float's bits as a number.
+pub mod Soft
+pub mod Bits

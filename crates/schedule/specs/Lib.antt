@@ -1,0 +1,19 @@
+-- The schedule of a run over any words, in reading order. What a reader must believe: the run as the scope tells it, a word alone, what a result
+-- says of each word, and the demand that joins them.
+pub mod Run
+pub mod Alone
+pub mod Status
+pub mod Demand
+-- why it holds of every run; two runs, computed; the same run when lanes are refilled in passes
+pub mod Sums
+pub mod Rounds
+pub mod Places
+pub mod Theorem
+pub mod Example
+pub mod Together
+-- what the loops of a run over real memory cite
+pub mod Lanes
+pub mod Refill
+pub mod Round
+pub mod Loop
+pub mod Close

@@ -1,0 +1,1 @@
+// The round rule, a word alone, and demand 3 as a theorem that joins them: the laws stand in specs/.

@@ -1,0 +1,100 @@
+use borrow.Author.Needs.{needs}
+use native.Mathlib.Omega.{arith}
+use mathlib.Core.Path.{_≡_, refl}
+use Prim.Native.Nat.{ℕ, _+_, _*_, _-_, _≤_, _<_}
+use lib.ListN.{length, getD-replicate}
+use lib.IntN.{pos}
+use Rattle.lane_memory.specs.Room.{var, load-room, value-row, row-fits}
+use Rattle.simd.specs.Pass.{Scan, scan-start, scan-again, scan-end}
+use Rattle.simd.proofs.scan.Statement.{statement}
+use Rattle.simd.proofs.scan.Tie as tie
+
+abbrev Inv-loop : tie.InvT-loop
+Inv-loop rows s d a t₀ n lanes at st₀ k₀ t st k = (k ≤ d) × ((length t ≡ length t₀) × Scan (var rows) s n lanes at a k t (st .min1) (st .min2) (st .sign))
+
+abbrev μ-loop : tie.MeasureT-loop
+μ-loop rows s d a t₀ n lanes at st₀ k₀ t st k = d - k
+
+loop-holds : tie.Need-loop-holds Inv-loop μ-loop
+loop-holds c =
+    let a = c .before .args in (
+      search needs,
+      (
+        refl,
+        scan-start (var (a .rows .now)) (a .s) (a .n) (a .lanes) (a .at) (a .a .now) (a .t .now) _ _ _
+            (λ k q. getD-replicate 16 k 127 0 q) (λ k q. getD-replicate 16 k 127 0 q) (λ k q. getD-replicate 16 k (pos 0) (pos 0) q),
+      ),
+    )
+
+add-e : tie.Need-add-e Inv-loop μ-loop
+add-e c = search needs
+
+variable-requires : tie.Need-variable-requires Inv-loop μ-loop
+variable-requires c κs = search needs
+
+load-requires : tie.Need-load-requires Inv-loop μ-loop
+load-requires c κs =
+    let s = c .before .before .before .before in
+    let v : c .variable .result < s .args .n = omega (arith, c .variable .ensures, value-row (s .pre .0) (c .before .before .loop .k) (c .before .loop-test .taken)) in
+    load-room (s .pre .0) (c .variable .result) (s .args .at) (omega arith) (s .pre .1 .0)
+
+add-u : tie.Need-add-u Inv-loop μ-loop
+add-u c =
+    let s = c .before .before .before .before .before in
+    record { fits = omega (arith, row-fits (s .pre .0) (s .args .n + (s .args .s + c .before .before .before .loop .k)) (omega (arith, s .pre .0 .edges, c .before .before .loop-test .taken)), s .good) }
+
+load-requires-2 : tie.Need-load-requires-2 Inv-loop μ-loop
+load-requires-2 c κs =
+    let s = c .before .before .before .before .before in
+    load-room (s .pre .0) (s .args .n + (s .args .s + c .before .before .before .loop .k)) (s .args .at) (omega (arith, s .pre .0 .edges, c .before .before .loop-test .taken)) (s .pre .1 .0)
+
+scan-requires : tie.Need-scan-requires Inv-loop μ-loop
+scan-requires c κs = search needs
+
+store-requires : tie.Need-store-requires Inv-loop μ-loop
+store-requires c κs =
+    let s = c .before .before .before .before .before .before .before .before .before in
+    let h = c .before .before .before .before .before .before .before in
+    (omega (arith, h .loop .inv .1 .0, s .pre .1 .1, s .pre .0 .degree, c .before .before .before .before .before .before .loop-test .taken), (omega arith, omega arith))
+
+add-k : tie.Need-add-k Inv-loop μ-loop
+add-k c = search needs
+
+loop-less : tie.Need-loop-less Inv-loop μ-loop
+loop-less c = search needs
+
+loop-again : tie.Need-loop-again Inv-loop μ-loop
+loop-again c =
+    let h = c .before .before .before .before .before .before .before .before .before in (
+      omega (arith, c .before .before .before .before .before .before .before .before .loop-test .taken),
+      (
+        omega (arith, c .before .store .kept, h .loop .inv .1 .0),
+        scan-again (h .loop .inv .1 .1) (c .before .before .before .before .before .before .before .variable .ensures) (c .before .before .before .before .before .before .load .ensures) (c .before .before .before .before .before .load2 .ensures) (c .before .before .before .before .scan .ensures) (c .before .store .ensures),
+      ),
+    )
+
+same-length : tie.Need-same-length Inv-loop μ-loop
+same-length c = search needs
+
+returns : tie.Need-returns Inv-loop μ-loop
+returns c = scan-end (omega arith) (c .before .loop .inv .1 .1)
+
+pub scan-spec : {M : Type 1} → statement M
+scan-spec =
+    tie.close
+    (tie.spec
+    Inv-loop
+    μ-loop
+    loop-holds
+    add-e
+    variable-requires
+    load-requires
+    add-u
+    load-requires-2
+    scan-requires
+    store-requires
+    add-k
+    loop-less
+    loop-again
+    same-length
+    returns)

@@ -1,0 +1,261 @@
+-- The two passes over a check's edges, of the lanes from at, by columns.
+use mathlib.Core.Path.{_≡_, refl, sym, ap, subst, _∙_}
+use mathlib.Core.List.{List}
+use Prim.Native.Nat.{ℕ, zero, suc, _+_, _*_, _≤_, _<_, min, max}
+use native.Mathlib.Omega.{arith}
+use native.Mathlib.Numerals.{add-one}
+use mathlib.Core.Bool.{Bool, true, false}
+use borrow.Author.Count.{below-more}
+use lib.ListN.{length, set, length-set}
+use lib.Seq.{getD-set-same, getD-set-other}
+use lib.IntN.{ℤ, pos, _+ℤ_, _-ℤ_}
+use Rattle.laws.specs.Signed.{negative, times, times-assoc}
+use Rattle.lane_math.specs.Value.{satZ, magnitude, reduced, replied}
+use Rattle.lane_math.specs.Check.{min1, min2, message, put, tOf}
+use Rattle.lane_math.specs.Laws.{min1-small, min2-small, min2-step, parity, reply-is, put-same, put-other, last-or}
+use Rattle.lane16.specs.Lanes.{z, n, Scanned, Reduced, Answered}
+use Rattle.lane_memory.specs.Column.{column, Off, Stored, Part}
+
+-- t of a check's edges in a column whose messages start at row base
+abbrev pub tAt : (ℕ → ℕ) → ℕ → ℕ → (ℕ → ℤ) → ℕ → ℤ
+tAt v s base f = tOf v s f (λ e. f (base + e))
+
+-- ---- the first pass, after d edges: edge k's t is row k of t, which has 16 lanes
+pub record Scan (v : ℕ → ℕ) (s base lanes at : ℕ) (a : List ℤ) (d : ℕ) (t : List ℤ) (m1 m2 : List ℕ) (g : List ℤ) : Type 0 where
+  pub t-is : (k : ℕ) → k < 16 → (e : ℕ) → e < d → column 16 t (0 + k) e ≡ tAt v s base (column lanes a (at + k)) e
+  pub min1-is : (k : ℕ) → k < 16 → n m1 k ≡ min1 (tAt v s base (column lanes a (at + k))) d
+  pub min2-is : (k : ℕ) → k < 16 → n m2 k ≡ min2 (tAt v s base (column lanes a (at + k))) d
+  pub sign-is : (k : ℕ) → k < 16 → negative (z g k) ≡ parity (tAt v s base (column lanes a (at + k))) d
+
+pub scan-start : (v : ℕ → ℕ) (s base lanes at : ℕ) (a t : List ℤ) (m1 m2 : List ℕ) (g : List ℤ) → ((k : ℕ) → k < 16 → n m1 k ≡ 127) → ((k : ℕ) → k < 16 → n m2 k ≡ 127) → ((k : ℕ) → k < 16 → z g k ≡ pos 0) → Scan v s base lanes at a 0 t m1 m2 g
+unfolding min1 min2 parity
+scan-start v s base lanes at a t m1 m2 g h1 h2 h3 =
+    record { t-is = λ k q e h. absurd (omega (arith, h)); min1-is = h1; min2-is = h2; sign-is = λ k q. ap negative (h3 k q) }
+
+module _ {v : ℕ → ℕ} {s base lanes at : ℕ} {a : List ℤ} {d : ℕ} where
+  pub scan-again : {t t′ : List ℤ} {m1 m2 m1′ m2′ : List ℕ} {g g′ x lv rv : List ℤ} {u : ℕ} → Scan v s base lanes at a d t m1 m2 g → u ≡ v (s + d)
+      → ((k : ℕ) → k < 16 → z lv k ≡ column lanes a (at + k) u)
+      → ((k : ℕ) → k < 16 → z rv k ≡ column lanes a (at + k) (base + (s + d)))
+      → Scanned lv rv m1 m2 g m1′ m2′ g′ x → Stored 16 16 d 0 x t t′ → Scan v s base lanes at a (d + 1) t′ m1′ m2′ g′
+  unfolding min1 parity tOf
+  scan-again {t} {t′} {m1} {m2} {m1′} {m2′} {g} {g′} {x} {lv} {rv} {u} c edge hl hr e st =
+      subst (λ (j : ℕ). Scan v s base lanes at a j t′ m1′ m2′ g′) (sym (add-one d))
+      (record {
+        t-is =
+            λ k q. last-or {P = λ j. column 16 t′ (0 + k) j ≡ f k j} d
+            (λ j p. ap (λ (h : ℕ → ℤ). h j) (st .inside k q) ∙ put-other (column 16 t (0 + k)) d (z x k) j (λ y. omega arith) ∙ c .t-is k q j p)
+            (ap (λ (h : ℕ → ℤ). h d) (st .inside k q) ∙ put-same (column 16 t (0 + k)) d (z x k) ∙ e .t-is k q ∙ y-is k q);
+        min1-is = λ k q. e .min1-is k q ∙ (λ i. min (c .min1-is k q i) (magnitude (y-is k q i)));
+        min2-is = λ k q. e .min2-is k q ∙ (λ i. max (c .min1-is k q i) (min (c .min2-is k q i) (magnitude (y-is k q i)))) ∙ min2-step (f k) d;
+        sign-is = λ k q. e .sign-is k q ∙ (λ i. times (c .sign-is k q i) (negative (y-is k q i)));
+      })
+    where
+      f : ℕ → ℕ → ℤ
+      f k = tAt v s base (column lanes a (at + k))
+
+      y-is : (k : ℕ) → k < 16 → satZ (z lv k -ℤ z rv k) ≡ f k d
+      y-is k q = λ i. satZ ((hl k q ∙ ap (column lanes a (at + k)) edge) i -ℤ hr k q i)
+
+pub scan-end : {v : ℕ → ℕ} {s base lanes at : ℕ} {a : List ℤ} {i d : ℕ} {t g : List ℤ} {m1 m2 : List ℕ} → i ≡ d → Scan v s base lanes at a i t m1 m2 g → Scan v s base lanes at a d t m1 m2 g
+scan-end {v} {s} {base} {lanes} {at} {a} {i} {d} {t} {g} {m1} {m2} e c = subst (λ (j : ℕ). Scan v s base lanes at a j t m1 m2 g) e c
+
+-- ---- the second pass: lane k's reply to edge e
+abbrev pub answer : List ℤ → List ℤ → List ℕ → List ℤ → List ℤ → ℕ → ℕ → ℤ
+answer t g least m1 m2 k e = replied (column 16 t (0 + k) e) (z g k) (n least k) (z m1 k) (z m2 k)
+
+-- the answer is the message of the definition
+small : (x y : ℕ) → x ≡ y → y ≤ 127 → min x 127 ≡ y
+small x y e h = omega arith
+
+module _ {v : ℕ → ℕ} {s d base lanes at : ℕ} {a t g : List ℤ} {m1 m2 : List ℕ} {o : ℤ} {r1 r2 : List ℤ} (c : Scan v s base lanes at a d t m1 m2 g) (h1 : Reduced o m1 r1) (h2 : Reduced o m2 r2) where
+  pub answer-is : (k : ℕ) → k < 16 → (e : ℕ) → e < d → answer t g m1 r1 r2 k e ≡ message o (tAt v s base (column lanes a (at + k))) d e
+  answer-is k q e h =
+      (λ i. replied (c .t-is k q e h i) (z g k) (c .min1-is k q i) ((h1 .is k q ∙ ap (reduced o) (small (n m1 k) _ (c .min1-is k q) (min1-small f d))) i) ((h2 .is k q ∙ ap (reduced o) (small (n m2 k) _ (c .min2-is k q) (min2-small f d))) i))
+      ∙ reply-is o f d e (z g k) h (c .sign-is k q)
+    where
+      f : ℕ → ℤ
+      f = tAt v s base (column lanes a (at + k))
+
+-- ---- a column after d edges have their messages m and their values y, in order
+unfoldable pub written : ℕ → (ℕ → ℕ) → ℕ → (ℕ → ℤ) → (ℕ → ℤ) → (ℕ → ℤ) → ℕ → ℕ → ℤ
+written base v s m y f zero = f
+written base v s m y f (suc d) = put (put (written base v s m y f d) (base + (s + d)) (m d)) (v (s + d)) (y d)
+
+pub written-same : (base : ℕ) (v : ℕ → ℕ) (s : ℕ) (m m′ y y′ f : ℕ → ℤ) (d : ℕ) → ((k : ℕ) → k < d → m k ≡ m′ k) → ((k : ℕ) → k < d → y k ≡ y′ k) → written base v s m y f d ≡ written base v s m′ y′ f d
+unfolding written
+written-same base v s m m′ y y′ f zero h g = refl
+written-same base v s m m′ y y′ f (suc d) h g =
+    λ i. put (put (written-same base v s m m′ y y′ f d (λ k q. h k (omega arith)) (λ k q. g k (omega arith)) i) (base + (s + d)) (h d (omega arith) i)) (v (s + d)) (g d (omega arith) i)
+
+-- a check on a column
+unfoldable pub checkColumn : ℤ → (ℕ → ℕ) → ℕ → ℕ → ℕ → (ℕ → ℤ) → ℕ → ℤ
+checkColumn o v s d base f =
+    written base v s (message o (tAt v s base f) d) (λ e. satZ (tAt v s base f e +ℤ message o (tAt v s base f) d e)) f d
+
+pub record Replied (w : ℕ) (v : ℕ → ℕ) (s base lanes at : ℕ) (t g : List ℤ) (least : List ℕ) (m1 m2 a : List ℤ) (d : ℕ) (a′ : List ℤ) : Type 0 where
+  pub inside : (k : ℕ) → k < w → column lanes a′ (at + k) ≡ written base v s (answer t g least m1 m2 k) (λ e. satZ (column 16 t (0 + k) e +ℤ answer t g least m1 m2 k e)) (column lanes a (at + k)) d
+  pub outside : (i : ℕ) → i < lanes → Off at w i → column lanes a′ i ≡ column lanes a i
+
+pub replied-start : (w : ℕ) (v : ℕ → ℕ) (s base lanes at : ℕ) (t g : List ℤ) (least : List ℕ) (m1 m2 a : List ℤ) → Replied w v s base lanes at t g least m1 m2 a 0 a
+unfolding written
+replied-start w v s base lanes at t g least m1 m2 a = record { inside = λ k q. refl; outside = λ i q f. refl }
+
+module _ {w : ℕ} {v : ℕ → ℕ} {s base lanes at : ℕ} {t g : List ℤ} {least : List ℕ} {m1 m2 a : List ℤ} {d : ℕ} {a′ a″ a‴ x m y : List ℤ} {u : ℕ} where
+  pub replied-again : w ≤ 16 → Replied w v s base lanes at t g least m1 m2 a d a′ → u ≡ v (s + d)
+      → ((k : ℕ) → k < 16 → z x k ≡ column 16 t (0 + k) d) → Answered x g least m1 m2 m y
+      → Stored w lanes (base + (s + d)) at m a′ a″ → Stored w lanes u at y a″ a‴
+      → Replied w v s base lanes at t g least m1 m2 a (d + 1) a‴
+  unfolding written
+  replied-again narrow c edge hx e sm sy =
+      subst (λ (j : ℕ). Replied w v s base lanes at t g least m1 m2 a j a‴) (sym (add-one d))
+      (record {
+        inside =
+            λ k q. sy .inside k q
+            ∙ (λ i. put ((sm .inside k q ∙ (λ j. put (c .inside k q j) (base + (s + d)) ((e .message-is k (omega arith) ∙ q-is k q) j))) i) (edge i)
+            ((e .value-is k (omega arith) ∙ (λ j. satZ (hx k (omega arith) j +ℤ q-is k q j))) i));
+        outside = λ i q f. sy .outside i q f ∙ sm .outside i q f ∙ c .outside i q f;
+      })
+    where
+      q-is : (k : ℕ) → k < w → replied (z x k) (z g k) (n least k) (z m1 k) (z m2 k) ≡ answer t g least m1 m2 k d
+      q-is k q = λ i. replied (hx k (omega arith) i) (z g k) (n least k) (z m1 k) (z m2 k)
+
+pub replied-end : {w : ℕ} {v : ℕ → ℕ} {s base lanes at : ℕ} {t g : List ℤ} {least : List ℕ} {m1 m2 a : List ℤ} {i d : ℕ} {a′ : List ℤ} → i ≡ d → Replied w v s base lanes at t g least m1 m2 a i a′ → Replied w v s base lanes at t g least m1 m2 a d a′
+replied-end {w} {v} {s} {base} {lanes} {at} {t} {g} {least} {m1} {m2} {a} {i} {d} {a′} e c = subst (λ (j : ℕ). Replied w v s base lanes at t g least m1 m2 a j a′) e c
+
+pub chunk-is : {w : ℕ} {v : ℕ → ℕ} {s d base lanes at : ℕ} {a a′ t g : List ℤ} {m1 m2 : List ℕ} {o : ℤ} {r1 r2 : List ℤ} → w ≤ 16 → Scan v s base lanes at a d t m1 m2 g → Reduced o m1 r1 → Reduced o m2 r2
+    → Replied w v s base lanes at t g m1 r1 r2 a d a′ → Part (checkColumn o v s d base) w lanes at a a′
+unfolding checkColumn
+chunk-is {w} {v} {s} {d} {base} {lanes} {at} {a} {a′} {t} {g} {m1} {m2} {o} {r1} {r2} narrow c h1 h2 p =
+    record {
+      inside =
+          λ k q. p .inside k q
+          ∙ written-same base v s _ _ _ _ (column lanes a (at + k)) d (λ e h. answer-is c h1 h2 k (omega arith) e h)
+          (λ e h. λ i. satZ (c .t-is k (omega arith) e h i +ℤ answer-is c h1 h2 k (omega arith) e h i));
+      outside = p .outside;
+    }
+
+-- ---- the layered schedule: a column after d edges have their t and their old messages in the rows of the run's edges from place p on, and their new
+-- messages m in their own rows
+unfoldable pub messaged : ℕ → ℕ → ℕ → ℕ → (ℕ → ℤ) → (ℕ → ℤ) → (ℕ → ℤ) → ℕ → ℕ → ℤ
+messaged base E s p t m f zero = f
+messaged base E s p t m f (suc d) =
+    put (put (put (messaged base E s p t m f d) (base + E + (p + d)) (t d)) (base + 2 * E + (p + d)) (f (base + (s + d)))) (base + (s + d)) (m d)
+
+pub messaged-same : (base E s p : ℕ) (t t′ m m′ f : ℕ → ℤ) (d : ℕ) → ((k : ℕ) → k < d → t k ≡ t′ k) → ((k : ℕ) → k < d → m k ≡ m′ k) → messaged base E s p t m f d ≡ messaged base E s p t′ m′ f d
+unfolding messaged
+messaged-same base E s p t t′ m m′ f zero h g = refl
+messaged-same base E s p t t′ m m′ f (suc d) h g =
+    λ i. put (put (put (messaged-same base E s p t t′ m m′ f d (λ k q. h k (omega arith)) (λ k q. g k (omega arith)) i) (base + E + (p + d)) (h d (omega arith) i)) (base + 2 * E + (p + d)) (f (base + (s + d)))) (base + (s + d)) (g d (omega arith) i)
+
+-- a message that is not yet replaced
+messaged-next : (base E s p : ℕ) (t m f : ℕ → ℤ) (d e : ℕ) → s + d ≤ e → e < E → messaged base E s p t m f d (base + e) ≡ f (base + e)
+unfolding messaged
+messaged-next base E s p t m f zero e h q = refl
+messaged-next base E s p t m f (suc d) e h q =
+    put-other (put (put (messaged base E s p t m f d) (base + E + (p + d)) (t d)) (base + 2 * E + (p + d)) (f (base + (s + d)))) (base + (s + d)) (m d) (base + e) (λ k. omega arith)
+    ∙ put-other (put (messaged base E s p t m f d) (base + E + (p + d)) (t d)) (base + 2 * E + (p + d)) (f (base + (s + d))) (base + e) (λ k. omega arith)
+    ∙ put-other (messaged base E s p t m f d) (base + E + (p + d)) (t d) (base + e) (λ k. omega arith)
+    ∙ messaged-next base E s p t m f d e (omega arith) q
+
+unfoldable pub messagesColumn : ℤ → (ℕ → ℕ) → ℕ → ℕ → ℕ → ℕ → ℕ → (ℕ → ℤ) → ℕ → ℤ
+messagesColumn o v s d base E p f = messaged base E s p (tAt v s base f) (message o (tAt v s base f) d) f d
+
+pub record Kept (w s base E p lanes at : ℕ) (t g : List ℤ) (least : List ℕ) (m1 m2 a : List ℤ) (d : ℕ) (a′ : List ℤ) : Type 0 where
+  pub inside : (k : ℕ) → k < w → column lanes a′ (at + k) ≡ messaged base E s p (column 16 t (0 + k)) (answer t g least m1 m2 k) (column lanes a (at + k)) d
+  pub outside : (i : ℕ) → i < lanes → Off at w i → column lanes a′ i ≡ column lanes a i
+
+pub kept-start : (w s base E p lanes at : ℕ) (t g : List ℤ) (least : List ℕ) (m1 m2 a : List ℤ) → Kept w s base E p lanes at t g least m1 m2 a 0 a
+unfolding messaged
+kept-start w s base E p lanes at t g least m1 m2 a = record { inside = λ k q. refl; outside = λ i q f. refl }
+
+module _ {w s base E p lanes at : ℕ} {t g : List ℤ} {least : List ℕ} {m1 m2 a : List ℤ} {d : ℕ} {a′ b b′ a″ x old m y : List ℤ} where
+  pub kept-again : w ≤ 16 → s + d < E → Kept w s base E p lanes at t g least m1 m2 a d a′
+      → ((k : ℕ) → k < 16 → z x k ≡ column 16 t (0 + k) d) → ((k : ℕ) → k < 16 → z old k ≡ column lanes a′ (at + k) (base + (s + d)))
+      → Answered x g least m1 m2 m y
+      → Stored w lanes (base + E + (p + d)) at x a′ b → Stored w lanes (base + 2 * E + (p + d)) at old b b′ → Stored w lanes (base + (s + d)) at m b′ a″
+      → Kept w s base E p lanes at t g least m1 m2 a (d + 1) a″
+  unfolding messaged
+  kept-again narrow inside c hx ho e st so sm =
+      subst (λ (j : ℕ). Kept w s base E p lanes at t g least m1 m2 a j a″) (sym (add-one d))
+      (record {
+        inside =
+            λ k q. sm .inside k q
+            ∙ (λ i. put ((so .inside k q ∙ (λ j. put ((st .inside k q ∙ (λ l. put (c .inside k q l) (base + E + (p + d)) (hx k (omega arith) l))) j) (base + 2 * E + (p + d)) (old-is k q j))) i) (base + (s + d))
+            ((e .message-is k (omega arith) ∙ (λ j. replied (hx k (omega arith) j) (z g k) (n least k) (z m1 k) (z m2 k))) i));
+        outside = λ i q f. sm .outside i q f ∙ so .outside i q f ∙ st .outside i q f ∙ c .outside i q f;
+      })
+    where
+      old-is : (k : ℕ) → k < w → z old k ≡ column lanes a (at + k) (base + (s + d))
+      old-is k q =
+          ho k (omega arith)
+          ∙ ap (λ (f : ℕ → ℤ). f (base + (s + d))) (c .inside k q)
+          ∙ messaged-next base E s p (column 16 t (0 + k)) (answer t g least m1 m2 k) (column lanes a (at + k)) d (s + d) (omega arith) (omega arith)
+
+pub kept-end : {w s base E p lanes at : ℕ} {t g : List ℤ} {least : List ℕ} {m1 m2 a : List ℤ} {i d : ℕ} {a′ : List ℤ} → i ≡ d → Kept w s base E p lanes at t g least m1 m2 a i a′ → Kept w s base E p lanes at t g least m1 m2 a d a′
+kept-end {w} {s} {base} {E} {p} {lanes} {at} {t} {g} {least} {m1} {m2} {a} {i} {d} {a′} e c = subst (λ (j : ℕ). Kept w s base E p lanes at t g least m1 m2 a j a′) e c
+
+pub messages-chunk-is : {w : ℕ} {v : ℕ → ℕ} {s d base E p lanes at : ℕ} {a a′ t g : List ℤ} {m1 m2 : List ℕ} {o : ℤ} {r1 r2 : List ℤ} → w ≤ 16 → Scan v s base lanes at a d t m1 m2 g → Reduced o m1 r1 → Reduced o m2 r2
+    → Kept w s base E p lanes at t g m1 r1 r2 a d a′ → Part (messagesColumn o v s d base E p) w lanes at a a′
+unfolding messagesColumn
+messages-chunk-is {w} {v} {s} {d} {base} {E} {p} {lanes} {at} {a} {a′} {t} {g} {m1} {m2} {o} {r1} {r2} narrow c h1 h2 b =
+    record {
+      inside =
+          λ k q. b .inside k q
+          ∙ messaged-same base E s p _ _ _ _ (column lanes a (at + k)) d (λ e h. c .t-is k (omega arith) e h) (λ e h. answer-is c h1 h2 k (omega arith) e h);
+      outside = b .outside;
+    }
+
+-- ---- signs alone: a row's signs multiplied into the first i of the sixteen lanes from at
+pub record Flipped (u lanes at : ℕ) (a g : List ℤ) (i : ℕ) (g′ : List ℤ) : Type 0 where
+  pub long : length g′ ≡ length g
+  pub inside : (k : ℕ) → k < i → negative (z g′ (at + k)) ≡ times (negative (z g (at + k))) (negative (column lanes a (at + k) u))
+  pub outside : (p : ℕ) → Off at i p → z g′ p ≡ z g p
+
+pub flipped-start : (u lanes at : ℕ) (a g : List ℤ) → Flipped u lanes at a g 0 g
+flipped-start u lanes at a g = record { long = refl; inside = λ k q. absurd (omega (arith, q)); outside = λ p off. refl }
+
+pub flipped-again : {u lanes at : ℕ} {a g : List ℤ} {i : ℕ} {g′ : List ℤ} (y : ℤ) → Flipped u lanes at a g i g′ → at + i < length g → negative y ≡ times (negative (z g′ (at + i))) (negative (column lanes a (at + i) u)) → Flipped u lanes at a g (i + 1) (set g′ (at + i) y)
+flipped-again {u} {lanes} {at} {a} {g} {i} {g′} y c room e =
+    record {
+      long = simp length-set (c .long);
+      inside =
+          below-more (λ (k : ℕ). negative (z (set g′ (at + i) y) (at + k)) ≡ times (negative (z g (at + k))) (negative (column lanes a (at + k) u))) i
+          (λ k q. ap negative (getD-set-other g′ (at + i) (at + k) y (pos 0) (λ r. omega arith)) ∙ c .inside k q)
+          (ap negative (getD-set-same g′ (at + i) y (pos 0) (omega (arith, c .long)))
+          ∙ e
+          ∙ ap (λ (x : ℤ). times (negative x) (negative (column lanes a (at + i) u))) (c .outside (at + i) (λ k q r. omega arith)));
+      outside = λ p off. getD-set-other g′ (at + i) p y (pos 0) (λ r. off i (omega arith) r) ∙ c .outside p (λ k q r. off k (omega arith) r);
+    }
+
+pub flipped-end : {u lanes at : ℕ} {a g : List ℤ} {i j : ℕ} {g′ : List ℤ} → i ≡ j → Flipped u lanes at a g i g′ → Flipped u lanes at a g j g′
+flipped-end {u} {lanes} {at} {a} {g} {i} {j} {g′} e c = subst (λ (l : ℕ). Flipped u lanes at a g l g′) e c
+
+-- of d edges
+pub record Signs (v : ℕ → ℕ) (s lanes at : ℕ) (a g : List ℤ) (d : ℕ) (g′ : List ℤ) : Type 0 where
+  pub long : length g′ ≡ length g
+  pub inside : (k : ℕ) → k < 16 → negative (z g′ (at + k)) ≡ times (negative (z g (at + k))) (parity (λ e. column lanes a (at + k) (v (s + e))) d)
+  pub outside : (p : ℕ) → Off at 16 p → z g′ p ≡ z g p
+
+times-false : (b : Bool) → b ≡ times b false
+times-false true = refl
+times-false false = refl
+
+pub signs-start : (v : ℕ → ℕ) (s lanes at : ℕ) (a g : List ℤ) → Signs v s lanes at a g 0 g
+unfolding parity
+signs-start v s lanes at a g = record { long = refl; inside = λ k q. times-false (negative (z g (at + k))); outside = λ p off. refl }
+
+pub signs-again : {v : ℕ → ℕ} {s lanes at : ℕ} {a g : List ℤ} {d : ℕ} {g′ g″ : List ℤ} {u : ℕ} → Signs v s lanes at a g d g′ → u ≡ v (s + d) → Flipped u lanes at a g′ 16 g″ → Signs v s lanes at a g (d + 1) g″
+unfolding parity
+signs-again {v} {s} {lanes} {at} {a} {g} {d} {g′} {g″} {u} c edge f =
+    subst (λ (j : ℕ). Signs v s lanes at a g j g″) (sym (add-one d))
+    (record {
+      long = f .long ∙ c .long;
+      inside =
+          λ k q. f .inside k q
+          ∙ (λ i. times (c .inside k q i) (negative (column lanes a (at + k) (edge i))))
+          ∙ times-assoc (negative (z g (at + k))) (parity (λ e. column lanes a (at + k) (v (s + e))) d) (negative (column lanes a (at + k) (v (s + d))));
+      outside = λ p off. f .outside p off ∙ c .outside p off;
+    })
+
+pub signs-end : {v : ℕ → ℕ} {s lanes at : ℕ} {a g : List ℤ} {i d : ℕ} {g′ : List ℤ} → i ≡ d → Signs v s lanes at a g i g′ → Signs v s lanes at a g d g′
+signs-end {v} {s} {lanes} {at} {a} {g} {i} {d} {g′} e c = subst (λ (j : ℕ). Signs v s lanes at a g j g′) e c
