@@ -1,16 +1,16 @@
 -- Decimal numbers as bytes, and what makes a text that begins with one readable in one way only.
 use mathlib.Core.Path.{_≡_, refl, sym, ap, ap₂, _∙_, subst}
-use mathlib.Core.Bool.{Bool, true, false, cond}
-use mathlib.Core.List.{List, [], _∷_, _++_, append-assoc}
+use mathlib.Core.Bool.{Bool, false, cond}
+use mathlib.Core.List.{List, [], _∷_, _++_}
 use Prim.Native.Nat.{ℕ, zero, suc, _+_, _-_, _*_, _/_, _%_, _^_, _≤_, _<_}
 use native.Mathlib.Nat.{not-suc-le-zero, mod-lt, div-add-mod', div-lt-iff-lt-mul, pow-suc}
 use native.Mathlib.Decide.{decLt}
 use native.Mathlib.Omega.{arith}
-use borrow.Author.Tests.{lt-ltb, le-ltb, leb-true, le-leb}
+use borrow.Author.Tests.{lt-ltb, le-ltb, le-leb}
 use lib.Dec.{T, ltb, leb}
 use lib.IntN.{ℤ, pos, negsuc}
 use lib.ListN.{length, getD, length-append}
-use Rattle.laws.specs.Tests.{both, both-l, both-r}
+use Rattle.laws.specs.Tests.{both}
 
 -- the decimal digits of n as bytes, highest first, for n below k: one digit below ten, otherwise those of n / 10 and then n % 10
 unfoldable pub digits : ℕ → ℕ → List ℕ

@@ -1,4 +1,4 @@
--- Laws that the kit lacks, one home for each: xor on numbers, computed tests, polynomials over two elements, signed numbers, lists, remainders, choices, decimal numbers.
+-- Laws that the kit lacks, one home for each: xor on numbers, computed tests, polynomials over two elements, signed numbers, lists, remainders, choices, decimal numbers, runs of stores.
 pub mod Xor
 pub mod Tests
 pub mod Poly
@@ -7,3 +7,4 @@ pub mod Lists
 pub mod Modulo
 pub mod Choice
 pub mod Decimal
+pub mod Stores

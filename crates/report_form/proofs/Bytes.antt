@@ -1,8 +1,8 @@
 -- A byte at a place of a text, and what is left of the text there.
-use mathlib.Core.Path.{_≡_, refl, sym, ap, _∙_, subst}
-use mathlib.Core.Bool.{Bool, true, false}
-use mathlib.Core.List.{List, [], _∷_, _++_}
-use Prim.Native.Nat.{ℕ, zero, suc, _+_, _≤_, _<_}
+use mathlib.Core.Path.{_≡_, sym, ap, _∙_, subst}
+use mathlib.Core.Bool.{Bool, false}
+use mathlib.Core.List.{List, _∷_}
+use Prim.Native.Nat.{ℕ, suc, _+_, _≤_, _<_}
 use native.Mathlib.Nat.{add-zero}
 use native.Mathlib.Numerals.{add-one}
 use native.Mathlib.Decide.{decLt}
@@ -13,7 +13,7 @@ use lib.ListN.{length, drop, getD, List·getD-eq-default}
 use lib.Seq.{drop-cons, getD-drop}
 use Rattle.laws.specs.Decimal.{digit}
 use Rattle.laws.specs.Tests.{both}
-use Rattle.report_form.specs.Form.{Form, Found, Missing, Reads, byte}
+use Rattle.report_form.specs.Form.{Found, Missing, byte}
 
 pub head-at : (t : List ℕ) (at : ℕ) → getD (drop at t) 0 0 ≡ getD t at 0
 head-at t at = getD-drop at t 0 0 ∙ ap (λ (i : ℕ). getD t i 0) (add-zero at)

@@ -1,23 +1,23 @@
 -- The words' soft values, stored from a text that was read before.
 use mathlib.Core.Path.{_≡_, refl, sym, ap, ap₂, _∙_, subst}
-use mathlib.Core.Bool.{Bool, true, false}
+use mathlib.Core.Bool.{Bool, true}
 use mathlib.Core.Logic.{_⊎_, inl, inr}
-use mathlib.Core.List.{List, [], _∷_, _++_, append-assoc, append-nil}
-use Prim.Native.Nat.{ℕ, zero, suc, _+_, _-_, _*_, _≤_, _<_}
+use mathlib.Core.List.{List, [], _∷_, _++_, append-assoc}
+use Prim.Native.Nat.{ℕ, suc, _+_, _-_, _*_, _≤_, _<_}
 use native.Mathlib.Nat.{zero-add}
-use native.Mathlib.Numerals.{add-one}
 use native.Mathlib.Omega.{arith}
 use lib.IntN.{ℤ}
 use lib.ListN.{length, drop, getD, set, replicate, length-set, length-replicate}
 use lib.Seq.{sets, length-sets}
 use Rattle.laws.specs.Decimal.{Stops, signed}
-use Rattle.report_form.specs.Description.{Pair, Word, Small, Ascending, All, each}
-use Rattle.report_form.specs.Form.{Form, Reads, must-find, lead, one-byte}
-use Rattle.report_form.specs.Forms.{smalls, pairForm, pairFrom, pairText, PairWithin, PairsWithin, pairs-fine, wordForm, LineWithin, WordsWithin, lines-fine}
+use Rattle.report_form.specs.Description.{Pair, Word, Ascending, All, each}
+use Rattle.report_form.specs.Form.{Reads, must-find, lead, one-byte}
+use Rattle.report_form.specs.Forms.{smalls, pairForm, pairFrom, pairText, PairWithin, pairs-fine, wordForm, LineWithin, lines-fine}
 use Rattle.report_form.specs.Reading.{stored, softWord, softWords}
+use Rattle.report_form.specs.Accepted.{soft-word-length}
 use Rattle.report_form.specs.Places.{PairsAt, PairsHere, WordAt, WordHere, WordsAt, WordsHere, Filled}
 use Rattle.report_form.proofs.Bytes.{head-at, byte-here}
-use Rattle.report_form.proofs.Stores.{sets-append, replicate-snoc, set-sets}
+use Rattle.laws.specs.Stores.{sets-append, replicate-snoc, set-sets}
 
 -- ---- the default
 
@@ -151,13 +151,6 @@ filled-here text i rest h =
 
 -- ---- a word
 
-length-stored : (base : ℕ) (ps : List Pair) (l : List ℤ) → length (stored base ps l) ≡ length l
-length-stored base [] l = refl
-length-stored base (p ∷ ps) l = length-stored base ps (set l (base + p .position) (p .value)) ∙ length-set l (base + p .position) (p .value)
-
-pub soft-length : (n : ℕ) (w : Word) → length (softWord n w) ≡ n
-soft-length n w = length-stored 0 (w .pairs) (replicate n (w .default)) ∙ length-replicate n (w .default)
-
 stored-sets : (n least base : ℕ) (ps : List Pair) (l vs : List ℤ) → Ascending n least ps → length vs ≡ n → base + n ≤ length l → stored base ps (sets l base vs) ≡ sets l base (stored 0 ps vs)
 stored-sets n least base [] l vs r e h = refl
 stored-sets n least base (p ∷ ps) l vs r e h =
@@ -239,7 +232,7 @@ module _ {n : ℕ} {goal : List ℤ} where
         all = x .all;
         few = omega (arith, x .few);
         here = g .next;
-        stores = ap₂ (λ (y : List ℤ) (k : ℕ). sets y (base + k) (softWords n (x .more))) (g .stores) (sym (soft-length n (x .word)))
+        stores = ap₂ (λ (y : List ℤ) (k : ℕ). sets y (base + k) (softWords n (x .more))) (g .stores) (sym (soft-word-length n (x .word)))
             ∙ sym (sets-append l base (softWord n (x .word)) (softWords n (x .more)))
             ∙ x .stores;
       }

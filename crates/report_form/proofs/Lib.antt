@@ -6,6 +6,5 @@ mod Lists
 mod Pairs
 mod Words
 mod RowLists
-mod Stores
 mod Fill
 mod Whole

@@ -1,13 +1,13 @@
 -- A schedule, read as `S` or by way of a number.
-use mathlib.Core.Path.{_≡_, refl, sym, ap, _∙_, subst}
+use mathlib.Core.Path.{_≡_, refl, sym, ap, _∙_}
 use mathlib.Core.Bool.{true, false}
-use mathlib.Core.List.{List, [], _∷_, _++_}
-use Prim.Native.Nat.{ℕ, _≤_, _<_}
+use mathlib.Core.List.{List, _∷_, _++_}
+use Prim.Native.Nat.{ℕ}
 use native.Mathlib.Omega.{arith}
 use lib.ListN.{getD}
 use Rattle.laws.specs.Decimal.{decimal, digit, Stops, decimal-leads}
 use Rattle.report_form.specs.Description.{Schedule, sequential, layered, ScheduleWithin, scheduleText}
-use Rattle.report_form.specs.Form.{Form, Found, Missing, right-wrong}
+use Rattle.report_form.specs.Form.{Found, Missing, right-wrong}
 use Rattle.report_form.specs.Forms.{numbers, schedules, OrderSo}
 
 pub s-found : (t u : List ℕ) → t ≡ 83 ∷ u → Stops u → Found schedules (OrderSo false 0) t u

@@ -1,6 +1,6 @@
 -- A word's pairs, read one by one.
-use mathlib.Core.Path.{_≡_, refl, sym, ap, _∙_, subst}
-use mathlib.Core.Bool.{Bool, true, false}
+use mathlib.Core.Path.{_≡_, refl, sym, ap, _∙_}
+use mathlib.Core.Bool.{Bool, false}
 use mathlib.Core.Logic.{_⊎_, inl, inr}
 use mathlib.Core.List.{List, [], _∷_, _++_}
 use Prim.Native.Nat.{ℕ, suc, _+_, _≤_, _<_}
@@ -9,7 +9,7 @@ use native.Mathlib.Omega.{arith}
 use lib.IntN.{ℤ}
 use lib.ListN.{length, getD}
 use Rattle.report_form.specs.Description.{Pair, Small, Ascending}
-use Rattle.report_form.specs.Form.{Form, Found, Missing, Reads, reads-any, byte, Ongoing, Hopeless, Ends, going-start, going-more, going-missing, going-wrong, chain-reads, chain-missing}
+use Rattle.report_form.specs.Form.{Found, Missing, Reads, reads-any, byte, Ongoing, Hopeless, Ends, going-start, going-more, going-missing, going-wrong, chain-reads, chain-missing}
 use Rattle.report_form.specs.Forms.{pairForm, pairFrom, pairs, PairsWithin, pairs-within, pairs-apart, pair-chain}
 use Rattle.report_form.proofs.Lists.{too-many, length-snoc}
 

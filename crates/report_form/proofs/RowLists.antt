@@ -1,6 +1,6 @@
 -- A row's addresses and the rows, read one by one and laid into arrays.
-use mathlib.Core.Path.{_≡_, refl, sym, ap, ap₂, _∙_, subst}
-use mathlib.Core.Bool.{Bool, true, false}
+use mathlib.Core.Path.{_≡_, refl, sym, ap, ap₂, _∙_}
+use mathlib.Core.Bool.{Bool, false}
 use mathlib.Core.Logic.{_⊎_, inl, inr}
 use mathlib.Core.List.{List, [], _∷_, _++_, map, append-assoc, append-nil}
 use Prim.Native.Nat.{ℕ, suc, _+_, _*_, _≤_, _<_}
@@ -9,10 +9,11 @@ use native.Mathlib.Numerals.{add-one}
 use native.Mathlib.Omega.{arith}
 use lib.ListN.{length, getD, set, replicate, length-append, length-map}
 use lib.Seq.{sets}
-use Rattle.report_form.specs.Description.{RowWithin, All}
-use Rattle.report_form.specs.Form.{Form, Found, Missing, Reads, reads-both, byte, lead, lead-reads, via-reads, Ongoing, Hopeless, Ends, Listed, listed, not-listed, going-start, going-more, going-missing, chain-reads, chain-missing}
-use Rattle.report_form.specs.Forms.{numbers, addresses, newline-apart, row-chain, rowForm, rows, RowsWithin, rows-within, RowsSo, flat}
-use Rattle.report_form.proofs.Stores.{sets-append}
+use Rattle.report_form.specs.Description.{RowWithin, flat}
+use Rattle.report_form.specs.Accepted.{flat-few}
+use Rattle.report_form.specs.Form.{Found, Missing, Reads, byte, lead, lead-reads, via-reads, Ongoing, Ends, Listed, listed, not-listed, going-start, going-more, going-missing, chain-reads, chain-missing}
+use Rattle.report_form.specs.Forms.{numbers, addresses, newline-apart, row-chain, rowForm, rows, RowsWithin, rows-within, RowsSo}
+use Rattle.laws.specs.Stores.{sets-append}
 use Rattle.report_form.proofs.Lists.{too-many, length-snoc, all-snoc}
 
 -- ---- a row
@@ -75,10 +76,6 @@ map-snoc : (rs : List (List ℕ)) (r : List ℕ) → map length (rs ++ r ∷ [])
 map-snoc [] r = refl
 map-snoc (q ∷ rs) r = ap (λ (l : List ℕ). length q ∷ l) (map-snoc rs r)
 
-pub flat-length : (rs : List (List ℕ)) → All RowWithin rs → length (flat rs) ≤ length rs * 4
-flat-length [] w = omega arith
-flat-length (r ∷ rs) w = omega (arith, length-append r (flat rs), w .0 .few, flat-length rs (w .1))
-
 abbrev pub RowsSoFar : ℕ → List ℕ → ℕ → List ℕ → List ℕ → List ℕ → Type 0
 RowsSoFar count lengths total places t now = Ongoing rows RowsWithin rows-within (RowsSo count lengths total places) t now
 
@@ -88,7 +85,7 @@ rows-start t =
     (record { count-is = refl; lengths-are = refl; total-is = refl; places-are = refl })
 
 pub rows-total : (count : ℕ) (lengths : List ℕ) (total : ℕ) (places : List ℕ) {t now : List ℕ} → RowsSoFar count lengths total places t now → total ≤ count * 4
-rows-total count lengths total places o = omega (arith, o .says .count-is, o .says .total-is, flat-length (o .done) (o .ok .all))
+rows-total count lengths total places o = omega (arith, o .says .count-is, o .says .total-is, flat-few (o .done) (o .ok .all))
 
 pub rows-again : (count : ℕ) (lengths : List ℕ) (total : ℕ) (places : List ℕ) (size : ℕ) (places′ : List ℕ) {t now next : List ℕ} → RowsSoFar count lengths total places t now → Found rowForm (λ row. (length row ≡ size) × (places′ ≡ sets places total row)) now next → count < 3 → RowsSoFar (count + 1) (set lengths count size) (total + size) places′ t next
 rows-again count lengths total places size places′ {t} {now} {next} o f c =

@@ -1,19 +1,19 @@
 -- A number with its sign, read by way of a number without.
-use mathlib.Core.Path.{_≡_, refl, sym, ap, _∙_, subst}
+use mathlib.Core.Path.{_≡_, sym, ap, _∙_, subst}
 use mathlib.Core.Bool.{Bool, cond}
-use mathlib.Core.List.{List, [], _∷_, _++_}
+use mathlib.Core.List.{List, _∷_, _++_}
 use Prim.Native.Nat.{ℕ, zero, suc, _+_, _-_, _≤_, _<_}
 use native.Mathlib.Nat.{not-suc-le-zero}
 use native.Mathlib.Omega.{arith}
 use borrow.Author.Tests.{le-leb}
 use lib.IntN.{ℤ, pos, negsuc, _-ℤ_}
-use lib.ListN.{length, getD}
+use lib.ListN.{getD}
 use mir.Syntax.{w8, w32}
 use mir.Val.{SFits, toZ, ofZ}
 use mir.ValLaws.{toZ-pos, toZ-ofZ}
 use Rattle.laws.specs.Decimal.{decimal, signed, decimal-leads}
 use Rattle.report_form.specs.Description.{Small}
-use Rattle.report_form.specs.Form.{Form, Found, Missing}
+use Rattle.report_form.specs.Form.{Found, Missing}
 use Rattle.report_form.specs.Forms.{numbers, smalls}
 
 pub plus-found : (t u : List ℕ) (value : ℕ) (z : ℤ) → pos value ≡ z → Found (numbers 127) (λ v. v ≡ value) t u → Found smalls (λ v. v ≡ z) t u

@@ -1,17 +1,17 @@
 -- Digits read one by one: the number that they spell so far.
 use mathlib.Core.Path.{_≡_, refl, sym, ap, ap₂, _∙_, subst}
-use mathlib.Core.Bool.{Bool, true, false}
+use mathlib.Core.Bool.{true, false}
 use mathlib.Core.List.{List, [], _∷_, _++_, append-assoc}
-use Prim.Native.Nat.{ℕ, suc, _+_, _-_, _*_, _≤_, _<_}
+use Prim.Native.Nat.{ℕ, _+_, _-_, _*_, _≤_, _<_}
 use native.Mathlib.Omega.{arith}
 use borrow.Author.Tests.{le-leb}
 use lib.Dec.{T, leb, leb→le}
-use lib.ListN.{length, drop, getD}
+use lib.ListN.{drop, getD}
 use Rattle.laws.specs.Tests.{both, both-l, both-r}
-use Rattle.laws.specs.Decimal.{decimal, digit, Stops, decimal-small, decimal-snoc, decimal-digits, decimal-prefix, decimal-leads, decimal-unique, span-prefix}
-use Rattle.report_form.specs.Form.{Form, Found, Missing, Reads}
+use Rattle.laws.specs.Decimal.{decimal, digit, decimal-small, decimal-snoc, decimal-digits, decimal-prefix, decimal-leads, span-prefix}
+use Rattle.report_form.specs.Form.{Found, Missing}
 use Rattle.report_form.specs.Forms.{numbers}
-use Rattle.report_form.proofs.Bytes.{head-at, byte-here, inside}
+use Rattle.report_form.proofs.Bytes.{head-at, byte-here}
 
 pub digit-bounds : (b : ℕ) → digit b ≡ true → (48 ≤ b) × (b ≤ 57)
 digit-bounds b e =

@@ -1,23 +1,21 @@
 -- A whole text: the first line, the rows, the settings and the words.
 use mathlib.Core.Path.{_≡_, refl, sym, ap, ap₂, _∙_, subst}
 use mathlib.Core.Bool.{Bool, true, false}
-use mathlib.Core.Logic.{_⊎_, inl, inr}
-use mathlib.Core.List.{List, [], _∷_, _++_, map, append-assoc, append-nil}
-use Prim.Native.Nat.{ℕ, zero, suc, _+_, _-_, _*_, _≤_, _<_}
+use mathlib.Core.List.{List, [], _++_, map, append-assoc, append-nil}
+use Prim.Native.Nat.{ℕ, zero, suc, _+_, _-_, _≤_}
 use native.Mathlib.Nat.{zero-add, mul-le-mul-right}
 use native.Mathlib.Omega.{arith}
 use lib.IntN.{ℤ}
-use lib.ListN.{length, take, drop, replicate, length-append, length-replicate, length-map}
+use lib.ListN.{length, drop, replicate, length-replicate, length-map}
 use lib.Seq.{sets, sets-eq}
-use Rattle.report_form.specs.Description.{Settings, Word, Description, Within, each, render}
-use Rattle.report_form.specs.Form.{Form, Found, Missing, Reads, found-there, missing-there, right-before, byte, end, lead, lead-reads, seq-reads, Ongoing, Listed, listed-reads, listed-there}
-use Rattle.report_form.specs.Forms.{numbers, rows, RowsWithin, rows-within, RowsSo, flat, settingsForm, SettingsSo, settingsThen, settings-apart, wordForm, wordsForm, WordsWithin, Body, bodyForm, headForm}
+use Rattle.report_form.specs.Description.{Settings, Word, Description, Within, each, render, flat}
+use Rattle.report_form.specs.Form.{Found, Missing, Reads, missing-there, byte, lead, lead-reads, seq-reads, Ongoing, Listed, listed-reads}
+use Rattle.report_form.specs.Forms.{numbers, rows, RowsWithin, rows-within, RowsSo, settingsForm, SettingsSo, settingsThen, settings-apart, wordForm, wordsForm, Body, bodyForm, headForm}
 use Rattle.report_form.specs.Unique.{bodyOf, descriptionOf, body-within, description-within, render-is, render-injective}
-use Rattle.report_form.specs.Reading.{padded, readingOf, refusedReading, softWord, softWords, overlaid, NoDescription, OneDescription, RightReading}
+use Rattle.report_form.specs.Reading.{padded, readingOf, softWords, overlaid, OneDescription}
+use Rattle.report_form.specs.Accepted.{flat-few, soft-words-length}
 use Rattle.report_form.specs.Places.{WordsAt, WordsHere}
 use Rattle.report_form.specs.declared.Reading.{Reading}
-use Rattle.report_form.proofs.RowLists.{flat-length}
-use Rattle.report_form.proofs.Fill.{soft-length}
 
 pub head-reads : {n : ℕ} {l l′ l″ l‴ : Bool} {t u v w : List ℕ} → Reads (byte 78) (λ _. Unit) l l′ t u → Reads (lead 9 (numbers 1122)) (λ v. v ≡ n) l′ l″ u v → Reads (byte 10) (λ _. Unit) l″ l‴ v w → Reads headForm (λ x. (x .0 ≡ n) × Unit) l l‴ t w
 head-reads h n e = lead-reads 78 _ h (seq-reads (lead 9 (numbers 1122)) (byte 10) (λ _ _ _ _. refl) n e)
@@ -82,12 +80,8 @@ sets-padded k xs h =
 pub rows-padded : {count : ℕ} {lengths : List ℕ} {total : ℕ} {places : List ℕ} (rs : List (List ℕ)) → RowsWithin rs → RowsSo count lengths total places rs → (lengths ≡ padded 3 (map length rs)) × (places ≡ padded 12 (flat rs))
 rows-padded rs w s = (
   s .lengths-are ∙ sets-padded 3 (map length rs) (omega (arith, length-map rs length, w .three)),
-  s .places-are ∙ sets-padded 12 (flat rs) (omega (arith, flat-length rs (w .all), w .three)),
+  s .places-are ∙ sets-padded 12 (flat rs) (omega (arith, flat-few rs (w .all), w .three)),
 )
-
-soft-words-length : (n : ℕ) (ws : List Word) → length (softWords n ws) ≡ length ws * n
-soft-words-length n [] = omega arith
-soft-words-length n (w ∷ ws) = omega (arith, length-append (softWord n w) (softWords n ws), soft-length n w, soft-words-length n ws)
 
 laid-over : (xs ys : List ℤ) → length xs ≤ length ys → sets ys 0 xs ≡ overlaid xs ys
 laid-over xs ys h = sets-eq xs ys 0 (omega arith) ∙ ap (λ (i : ℕ). xs ++ drop i ys) (zero-add (length xs))

@@ -1,15 +1,15 @@
 -- The words' lines, read one by one.
-use mathlib.Core.Path.{_≡_, refl, sym, ap, _∙_, subst}
-use mathlib.Core.Bool.{Bool, true, false}
+use mathlib.Core.Path.{_≡_, refl, sym, ap, _∙_}
+use mathlib.Core.Bool.{Bool, false}
 use mathlib.Core.Logic.{_⊎_, inl, inr}
-use mathlib.Core.List.{List, [], _∷_, _++_}
+use mathlib.Core.List.{List, [], _∷_}
 use Prim.Native.Nat.{ℕ, suc, _+_, _≤_, _<_}
 use native.Mathlib.Numerals.{add-one}
 use native.Mathlib.Omega.{arith}
 use lib.ListN.{length, drop, getD, drop-of-length-le}
 use lib.Seq.{drop-cons}
-use Rattle.report_form.specs.Description.{Word, WordWithin, All}
-use Rattle.report_form.specs.Form.{Form, Found, Missing, Reads, reads-both, reads-none, reads-one, end, Ongoing, Hopeless, Ends, going-start, going-more, going-missing, chain-reads, chain-missing}
+use Rattle.report_form.specs.Description.{Word, WordWithin}
+use Rattle.report_form.specs.Form.{Found, Missing, Reads, reads-both, reads-none, reads-one, end, Ongoing, Ends, going-start, going-more, going-missing, chain-reads, chain-missing}
 use Rattle.report_form.specs.Forms.{wordForm, words, WordsWithin, words-within, end-apart, wordsForm}
 use Rattle.report_form.proofs.Lists.{too-many, length-snoc, all-snoc}
 

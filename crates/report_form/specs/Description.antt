@@ -1,6 +1,7 @@
 -- What the report is told, and how it is written: 01's "Report text". A text of the form is the rendering of a description within the limits.
+use mathlib.Core.Bool.{Bool, true, false}
 use mathlib.Core.List.{List, [], _∷_, _++_, map}
-use Prim.Native.Nat.{ℕ, suc, _≤_, _<_, _^_}
+use Prim.Native.Nat.{ℕ, suc, _≤_, _<_}
 use lib.IntN.{ℤ, pos, negsuc}
 use lib.ListN.{length}
 use Rattle.laws.specs.Decimal.{decimal, signed}
@@ -10,7 +11,7 @@ pub data Schedule : Type 0 where
   sequential : Schedule
   layered : ℕ → Schedule
 
--- "lanes, iterations, offset, `S` or step, round limit, first, length"
+-- "lanes, iterations, offset, `S` or step, round limit, first, length": rounds is the round limit, and bits the BCH part's length
 pub record Settings : Type 0 where
   pub lanes : ℕ
   pub iterations : ℕ
@@ -36,6 +37,21 @@ pub record Description : Type 0 where
   pub rows : List (List ℕ)
   pub settings : Settings
   pub words : List Word
+
+-- whether a schedule is layered
+abbrev pub isLayered : Schedule → Bool
+isLayered sequential = false
+isLayered (layered step) = true
+
+-- a layered schedule's step, 0 for a sequential one
+abbrev pub stepOf : Schedule → ℕ
+stepOf sequential = 0
+stepOf (layered step) = step
+
+-- rows one after another
+abbrev pub flat : List (List ℕ) → List ℕ
+flat [] = []
+flat (r ∷ rs) = r ++ flat rs
 
 -- every element of a list
 abbrev pub All : {A : Type 0} → (A → Type 0) → List A → Type 0

@@ -2,12 +2,11 @@
 -- Reading one at a place of a text, several one after another, and a list of them.
 use mathlib.Core.Path.{_≡_, refl, sym, ap, ap₂, _∙_, subst}
 use mathlib.Core.Bool.{Bool, true, false}
-use mathlib.Core.Logic.{_⊎_, inl, inr, ⊎-elim}
+use mathlib.Core.Logic.{_⊎_, inl, inr}
 use mathlib.Core.List.{List, [], _∷_, _++_, append-assoc, append-nil}
-use Prim.Native.Nat.{ℕ, zero, suc, _+_, _≤_, _<_}
-use native.Mathlib.Omega.{arith}
+use Prim.Native.Nat.{ℕ, _+_}
 use lib.Dec.{T}
-use lib.ListN.{length, getD, length-append}
+use lib.ListN.{getD}
 use Rattle.report_form.specs.Description.{All, each}
 
 pub record Form (A : Type 0) : Type 1 where

@@ -2,13 +2,13 @@
 use mathlib.Core.Path.{_≡_, refl, sym, ap, _∙_, subst}
 use mathlib.Core.Bool.{Bool, true, false}
 use mathlib.Core.List.{List, [], _∷_, _++_, map}
-use Prim.Native.Nat.{ℕ, zero, suc, _+_, _≤_, _<_}
+use Prim.Native.Nat.{ℕ, suc, _+_, _≤_}
 use native.Mathlib.Omega.{arith}
-use lib.IntN.{ℤ, pos, negsuc}
-use lib.ListN.{length, getD, replicate}
+use lib.IntN.{ℤ}
+use lib.ListN.{length, replicate}
 use lib.Seq.{sets}
 use Rattle.laws.specs.Decimal.{decimal, signed, Stops, decimal-unique, signed-unique, decimal-leads}
-use Rattle.report_form.specs.Description.{Schedule, sequential, layered, Settings, Pair, Word, Description, All, Wide, Small, Ascending, RowWithin, ScheduleWithin, SettingsWithin, WordWithin, Within, each, scheduleText}
+use Rattle.report_form.specs.Description.{flat, isLayered, stepOf, Schedule, sequential, layered, Settings, Pair, Word, All, Wide, Small, Ascending, RowWithin, ScheduleWithin, SettingsWithin, WordWithin, Within, each, scheduleText}
 use Rattle.report_form.specs.Form.{Form, Reads, byte, end, seq, seq-reads, via, via-reads, lead, lead-reads, Items, Apart, chain}
 
 -- a number of at most `most`
@@ -52,15 +52,6 @@ schedules =
       Follow = Stops;
       unique = λ a b r s _ _ p q e. schedule-unique a b r s p q e;
     }
-
-abbrev pub isLayered : Schedule → Bool
-isLayered sequential = false
-isLayered (layered step) = true
-
--- a layered schedule's step, 0 for a sequential one
-abbrev pub stepOf : Schedule → ℕ
-stepOf sequential = 0
-stepOf (layered step) = step
 
 pub record OrderSo (steps : Bool) (step : ℕ) (s : Schedule) : Type 0 where
   pub layered-is : isLayered s ≡ steps
@@ -248,11 +239,6 @@ pub record RowsWithin (rs : List (List ℕ)) : Type 0 where
 
 abbrev pub rows-within : (rs : List (List ℕ)) → RowsWithin rs → All RowWithin rs
 rows-within rs w = w .all
-
--- rows one after another
-abbrev pub flat : List (List ℕ) → List ℕ
-flat [] = []
-flat (r ∷ rs) = r ++ flat rs
 
 -- rows in arrays: their number and lengths, the number of their addresses and the addresses
 pub record RowsSo (count : ℕ) (lengths : List ℕ) (total : ℕ) (places : List ℕ) (rs : List (List ℕ)) : Type 0 where

@@ -1,14 +1,13 @@
 -- No text of the form is longer than 10,501 bytes.
-use mathlib.Core.Path.{_≡_, refl, sym, ap, _∙_, subst}
+use mathlib.Core.Path.{_≡_, sym, ap, subst}
 use mathlib.Core.List.{List, [], _∷_, _++_}
-use Prim.Native.Nat.{ℕ, zero, suc, _+_, _*_, _≤_, _<_}
+use Prim.Native.Nat.{ℕ, suc, _+_, _*_, _≤_, _<_}
 use native.Mathlib.Nat.{mul-le-mul-right}
 use native.Mathlib.Omega.{arith}
 use lib.IntN.{ℤ, pos, negsuc}
 use lib.ListN.{length, length-append}
 use Rattle.laws.specs.Decimal.{decimal, signed, decimal-length}
-use Rattle.report_form.specs.Description.{Schedule, sequential, layered, Settings, Pair, Word, Description, All, Wide, Small, Ascending, RowWithin, ScheduleWithin, SettingsWithin, WordWithin, Within, each, line, rowLine, scheduleText, settingsLine, pairFields, wordLine, render}
-use Rattle.report_form.specs.Form.{Form}
+use Rattle.report_form.specs.Description.{Schedule, sequential, layered, Settings, Pair, Word, Description, All, Small, Ascending, RowWithin, ScheduleWithin, SettingsWithin, WordWithin, Within, each, line, rowLine, scheduleText, settingsLine, wordLine, render}
 use Rattle.report_form.specs.Forms.{rowForm, wordForm, pairText, address}
 use Rattle.report_form.specs.Unique.{row-line, word-line}
 
@@ -75,3 +74,7 @@ render-length d w =
   where
     whole : (k r s t : List ℕ) → length k ≤ 4 → length r ≤ 78 → length s ≤ 64 → length t ≤ 10352 → length (line 78 (k ∷ []) ++ r ++ s ++ t) ≤ 10501
     whole k r s t h i j l = simp length-append (omega arith)
+
+-- so a longer text has none: one byte more than 10,501 is enough to see that
+pub too-long : (text : List ℕ) → 10501 < length text → (d : Description) → Within d → render d ≡ text → ⊥
+too-long text h d w e = omega (arith, render-length d w, ap length e)

@@ -1,10 +1,9 @@
 -- A word's pairs, a word and all words at a place of a text that was read before.
 use mathlib.Core.Path.{_≡_}
-use mathlib.Core.List.{List, [], _∷_, _++_}
-use Prim.Native.Nat.{ℕ, _≤_}
+use mathlib.Core.List.{List, _∷_, _++_}
+use Prim.Native.Nat.{ℕ}
 use lib.IntN.{ℤ}
 use Rattle.report_form.specs.Description.{Pair, Word, each}
-use Rattle.report_form.specs.Form.{Form}
 use Rattle.report_form.specs.Forms.{pairText, PairsWithin, wordForm, LineWithin, WordsWithin}
 
 pub record PairsAt (n : ℕ) (t : List ℕ) (ps : List Pair) (rest : List ℕ) : Type 0 where

@@ -1,13 +1,12 @@
 -- What reading a text answers: the description that the text is the rendering of, or refusal 1, and the words' soft values.
 use mathlib.Core.Path.{_≡_}
-use mathlib.Core.Bool.{Bool, true, false}
+use mathlib.Core.Bool.{false}
 use mathlib.Core.Logic.{_⊎_}
 use mathlib.Core.List.{List, [], _∷_, _++_, map}
-use Prim.Native.Nat.{ℕ, _+_, _-_, _≤_}
+use Prim.Native.Nat.{ℕ, _+_, _-_}
 use lib.IntN.{ℤ, pos}
 use lib.ListN.{length, drop, set, replicate}
-use Rattle.report_form.specs.Description.{Pair, Word, Description, Within, render}
-use Rattle.report_form.specs.Forms.{flat, isLayered, stepOf}
+use Rattle.report_form.specs.Description.{Pair, Word, Description, Within, render, flat, isLayered, stepOf}
 use Rattle.report_form.specs.declared.Reading.{Reading}
 
 -- a list with zeros behind it, k long

@@ -4,7 +4,6 @@ use mathlib.Core.List.{List, [], _∷_, _++_, map, append-assoc, append-nil}
 use Prim.Native.Nat.{ℕ, _≤_}
 use Rattle.laws.specs.Decimal.{decimal, signed}
 use Rattle.report_form.specs.Description.{Settings, Pair, Word, Description, Within, each, line, pairFields, rowLine, settingsLine, wordLine, render}
-use Rattle.report_form.specs.Form.{Form}
 use Rattle.report_form.specs.Forms.{Body, bodyForm, headForm, rowForm, settingsForm, wordForm, pairText}
 
 abbrev pub bodyOf : Description → Body

@@ -16,7 +16,7 @@ ghost use Rattle.report_form.specs.Form.{Reads, Listed, byte, lead};
 ghost use Rattle.report_form.specs.Forms.{numbers, smalls, rowForm, rows, RowsWithin, rows-within, RowsSo, pair-chain, wordForm, wordsForm, schedules, OrderSo, settingsForm, SettingsSo, pairForm, pairFrom};
 
 // What a text says: refusal 1 and zeros, or refusal 0 and a description's numbers: the code's n, the number of rows, their lengths and
-// their addresses one after another, the settings, and the number of words.
+// their addresses one after another, the settings (rounds is the round limit, bits the BCH part's length), and the number of words.
 pub struct Reading {
     pub refusal: u32,
     pub n: u32,
@@ -115,7 +115,7 @@ fn digit_at(text: &[u8], at: usize) -> bool
     ensures { λ r. ⌜ r ≡ digit (getD (now (text .entry)) at 0) ⌝ }
 {
     let b = byte_at(text, at);
-    if b < 48 { false } else { b <= 57 }
+    if b < b'0' { false } else { b <= b'9' }
 }
 
 // One byte that has to stand at a place; 0 never does.
@@ -142,7 +142,7 @@ fn read_digits(text: &[u8], at: usize, most: u32) -> Number
     requires { ⌜ (48 < getD (now text) at 0) × (getD (now text) at 0 ≤ 57) ⌝ }
     ensures { λ r. ⌜ Reads (numbers most) (λ v. v ≡ r .value) true (r .right) (drop at (now (text .entry))) (drop (r .next) (now (text .entry))) ⌝ }
 {
-    let mut value: u64 = (byte_at(text, at) - 48) as u64;
+    let mut value: u64 = (byte_at(text, at) - b'0') as u64;
     let mut i = at + 1;
     while digit_at(text, i) {
         if (most as u64) < value {
@@ -152,7 +152,7 @@ fn read_digits(text: &[u8], at: usize, most: u32) -> Number
                 next: 0,
             };
         }
-        value = value * 10 + (byte_at(text, i) - 48) as u64;
+        value = value * 10 + (byte_at(text, i) - b'0') as u64;
         i += 1;
     }
     if (most as u64) < value {
@@ -175,7 +175,7 @@ fn read_number(text: &[u8], right: bool, at: usize, most: u32) -> Number
 {
     if right {
         if digit_at(text, at) {
-            if byte_at(text, at) != 48 {
+            if byte_at(text, at) != b'0' {
                 return read_digits(text, at, most);
             }
             let next = at + 1;
@@ -199,7 +199,7 @@ fn read_number(text: &[u8], right: bool, at: usize, most: u32) -> Number
 fn read_field(text: &[u8], right: bool, at: usize, most: u32) -> Number
     ensures { λ r. ⌜ Reads (lead 9 (numbers most)) (λ v. v ≡ r .value) right (r .right) (drop at (now (text .entry))) (drop (r .next) (now (text .entry))) ⌝ }
 {
-    let tab = expect(text, right, at, 9);
+    let tab = expect(text, right, at, b'\t');
     read_number(text, tab.right, tab.next, most)
 }
 
@@ -215,7 +215,7 @@ fn minus(value: u32) -> i8
 fn read_small(text: &[u8], right: bool, at: usize) -> Small
     ensures { λ r. ⌜ Reads smalls (λ v. v ≡ r .value) right (r .right) (drop at (now (text .entry))) (drop (r .next) (now (text .entry))) ⌝ }
 {
-    if byte_at(text, at) != 45 {
+    if byte_at(text, at) != b'-' {
         let v = read_number(text, right, at, 127);
         let value = v.value;
         if v.right {
@@ -249,7 +249,7 @@ fn read_small(text: &[u8], right: bool, at: usize) -> Small
 fn read_small_field(text: &[u8], right: bool, at: usize) -> Small
     ensures { λ r. ⌜ Reads (lead 9 smalls) (λ v. v ≡ r .value) right (r .right) (drop at (now (text .entry))) (drop (r .next) (now (text .entry))) ⌝ }
 {
-    let tab = expect(text, right, at, 9);
+    let tab = expect(text, right, at, b'\t');
     read_small(text, tab.right, tab.next)
 }
 
@@ -257,7 +257,7 @@ fn read_small_field(text: &[u8], right: bool, at: usize) -> Small
 fn read_order(text: &[u8], right: bool, at: usize) -> Order
     ensures { λ r. ⌜ Reads schedules (OrderSo (r .layered) (r .step)) right (r .right) (drop at (now (text .entry))) (drop (r .next) (now (text .entry))) ⌝ }
 {
-    if byte_at(text, at) == 83 {
+    if byte_at(text, at) == b'S' {
         let next = at + 1;
         if digit_at(text, next) {
             return Order {
@@ -287,7 +287,7 @@ fn read_order(text: &[u8], right: bool, at: usize) -> Order
 fn read_order_field(text: &[u8], right: bool, at: usize) -> Order
     ensures { λ r. ⌜ Reads (lead 9 schedules) (OrderSo (r .layered) (r .step)) right (r .right) (drop at (now (text .entry))) (drop (r .next) (now (text .entry))) ⌝ }
 {
-    let tab = expect(text, right, at, 9);
+    let tab = expect(text, right, at, b'\t');
     read_order(text, tab.right, tab.next)
 }
 
@@ -295,7 +295,7 @@ fn read_order_field(text: &[u8], right: bool, at: usize) -> Order
 fn read_settings(text: &[u8], right: bool, at: usize) -> Line
     ensures { λ r. ⌜ Reads settingsForm (SettingsSo (r .lanes) (r .iterations) (r .offset) (r .layered) (r .step) (r .rounds) (r .first) (r .bits)) right (r .right) (drop at (now (text .entry))) (drop (r .next) (now (text .entry))) ⌝ }
 {
-    let letter = expect(text, right, at, 80);
+    let letter = expect(text, right, at, b'P');
     let lanes = read_field(text, letter.right, letter.next, 4);
     let iterations = read_field(text, lanes.right, lanes.next, 4294967295);
     let offset = read_small_field(text, iterations.right, iterations.next);
@@ -303,7 +303,7 @@ fn read_settings(text: &[u8], right: bool, at: usize) -> Line
     let rounds = read_field(text, order.right, order.next, 4294967295);
     let first = read_field(text, rounds.right, rounds.next, 4294967295);
     let bits = read_field(text, first.right, first.next, 4294967295);
-    let end = expect(text, bits.right, bits.next, 10);
+    let end = expect(text, bits.right, bits.next, b'\n');
     Line {
         right: end.right,
         lanes: lanes.value,
@@ -351,7 +351,7 @@ fn read_pairs(text: &[u8], right: bool, at: usize, n: u32) -> Place
     let mut i = at;
     let mut least: u32 = 0;
     let mut count: u32 = 0;
-    while goes_on(text, i, 9, count, 64) {
+    while goes_on(text, i, b'\t', count, 64) {
         let p = read_pair(text, i);
         let position = p.position;
         if !p.right {
@@ -376,7 +376,7 @@ fn read_pairs(text: &[u8], right: bool, at: usize, n: u32) -> Place
         i = p.next;
         count += 1;
     }
-    expect(text, right, i, 10)
+    expect(text, right, i, b'\n')
 }
 
 // A word's line, of n soft values.
@@ -384,7 +384,7 @@ fn read_word(text: &[u8], at: usize, n: u32) -> Place
     requires { ⌜ n ≤ 1122 ⌝ }
     ensures { λ r. ⌜ Reads (wordForm n) (λ _. Unit) true (r .right) (drop at (now (text .entry))) (drop (r .next) (now (text .entry))) ⌝ }
 {
-    let letter = expect(text, true, at, 87);
+    let letter = expect(text, true, at, b'W');
     let value = read_small_field(text, letter.right, letter.next);
     read_pairs(text, value.right, value.next, n)
 }
@@ -396,7 +396,7 @@ fn read_words(text: &[u8], right: bool, at: usize, n: u32) -> Number
 {
     let mut i = at;
     let mut count: u32 = 0;
-    while goes_on(text, i, 87, count, 16) {
+    while goes_on(text, i, b'W', count, 16) {
         let w = read_word(text, i, n);
         if !w.right {
             return Number {
@@ -427,11 +427,11 @@ fn read_row(text: &[u8], at: usize, into: [u16; 12], from: u32) -> Row
     requires { ⌜ from ≤ 8 ⌝ }
     ensures { λ r. ⌜ Reads rowForm (λ row. (length row ≡ r .count) × (r .addresses ≡ sets into from row)) true (r .right) (drop at (now (text .entry))) (drop (r .next) (now (text .entry))) ⌝ }
 {
-    let letter = expect(text, true, at, 82);
+    let letter = expect(text, true, at, b'R');
     let mut addresses = into;
     let mut i = letter.next;
     let mut count: u32 = 0;
-    while goes_on(text, i, 9, count, 4) {
+    while goes_on(text, i, b'\t', count, 4) {
         let a = read_field(text, true, i, 65535);
         let value = a.value;
         if !a.right {
@@ -447,7 +447,7 @@ fn read_row(text: &[u8], at: usize, into: [u16; 12], from: u32) -> Row
         count += 1;
         i = a.next;
     }
-    let end = expect(text, letter.right, i, 10);
+    let end = expect(text, letter.right, i, b'\n');
     Row {
         right: end.right,
         addresses,
@@ -465,7 +465,7 @@ fn read_rows(text: &[u8], right: bool, at: usize) -> Rows
     let mut count: u32 = 0;
     let mut total: u32 = 0;
     let mut i = at;
-    while goes_on(text, i, 82, count, 3) {
+    while goes_on(text, i, b'R', count, 3) {
         let row = read_row(text, i, addresses, total);
         let size = row.count;
         if !row.right {
@@ -515,7 +515,7 @@ fn fill_pairs(text: &[u8], at: usize, n: u32, words: &mut [i8], base: usize) -> 
 {
     let mut i = at;
     let mut count: u32 = 0;
-    while goes_on(text, i, 9, count, 64) {
+    while goes_on(text, i, b'\t', count, 64) {
         let p = read_pair(text, i);
         let place = base + (p.position as usize);
         let value = p.value;
@@ -545,7 +545,7 @@ fn fill_words(text: &[u8], at: usize, n: u32, words: &mut [i8])
     let mut count: u32 = 0;
     let mut base: usize = 0;
     let size = n as usize;
-    while goes_on(text, i, 87, count, 16) {
+    while goes_on(text, i, b'W', count, 16) {
         i = fill_word(text, i, n, words, base);
         base += size;
         count += 1;
@@ -580,9 +580,9 @@ pub fn read(text: &[u8], words: &mut [i8]) -> Reading
     requires { ⌜ 17952 ≤ length (now words) ⌝ }
     ensures { λ r. ⌜ RightReading (now (text .entry)) (now (words .entry)) r (now (words .exit)) ⌝ }
 {
-    let letter = expect(text, true, 0, 78);
+    let letter = expect(text, true, 0, b'N');
     let size = read_field(text, letter.right, letter.next, 1122);
-    let line = expect(text, size.right, size.next, 10);
+    let line = expect(text, size.right, size.next, b'\n');
     let n = size.value;
     if !line.right {
         return refused();

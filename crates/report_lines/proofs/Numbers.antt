@@ -1,14 +1,14 @@
 -- A number written digit by digit, and a text byte by byte.
-use mathlib.Core.Path.{_≡_, refl, sym, ap, ap₂, _∙_, subst}
-use mathlib.Core.List.{List, [], _∷_, _++_, append-nil}
-use Prim.Native.Nat.{ℕ, zero, suc, _+_, _-_, _/_, _%_, _≤_, _<_}
-use native.Mathlib.Nat.{add-zero}
+use mathlib.Core.Path.{_≡_, refl, sym, ap, _∙_, subst}
+use mathlib.Core.List.{List, [], _∷_}
+use Prim.Native.Nat.{ℕ, _+_, _-_, _/_, _%_, _≤_, _<_}
 use native.Mathlib.Numerals.{add-one}
 use native.Mathlib.Omega.{arith}
 use lib.ListN.{length, take, getD, set, length-append}
 use lib.Seq.{sets, length-sets, take-suc, take-all, length-take-le}
+use Rattle.laws.specs.Stores.{sets-append}
 use Rattle.laws.specs.Decimal.{decimal, decimal-small, decimal-more}
-use Rattle.report_lines.specs.Wrote.{Wrote, wrote-then, sets-append}
+use Rattle.report_lines.specs.Wrote.{Wrote, wrote-then}
 
 pub small-length : (v : ℕ) → v < 10 → length (decimal v) ≡ 1
 small-length v h = ap length (decimal-small v h)

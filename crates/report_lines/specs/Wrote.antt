@@ -1,21 +1,16 @@
 -- A text stored at a place of a slice, and texts stored one after another.
-use mathlib.Core.Path.{_≡_, refl, sym, ap, ap₂, _∙_, subst}
+use mathlib.Core.Path.{_≡_, sym, ap, ap₂, _∙_, subst}
 use mathlib.Core.List.{List, [], _∷_, _++_}
-use Prim.Native.Nat.{ℕ, suc, _+_, _≤_, _<_}
-use native.Mathlib.Nat.{add-zero, add-suc, suc-add, add-assoc}
-use lib.ListN.{length, set, length-append}
+use Prim.Native.Nat.{ℕ, _+_}
+use native.Mathlib.Nat.{add-assoc}
+use lib.ListN.{length, length-append}
+use Rattle.laws.specs.Stores.{sets-append}
 use lib.Seq.{sets, length-sets, append-snoc}
 
 -- the text's bytes stand from `at` on, the rest is unchanged, and r is the place behind them
 pub record Wrote (text : List ℕ) (at : ℕ) (out : List ℕ) (r : ℕ) (out′ : List ℕ) : Type 0 where
   pub next : r ≡ at + length text
   pub bytes : out′ ≡ sets out at text
-
-pub sets-append : (l : List ℕ) (i : ℕ) (xs ys : List ℕ) → sets l i (xs ++ ys) ≡ sets (sets l i xs) (i + length xs) ys
-sets-append l i [] ys = ap (λ (k : ℕ). sets l k ys) (sym (add-zero i))
-sets-append l i (x ∷ xs) ys =
-    sets-append (set l i x) (suc i) xs ys
-    ∙ ap (λ (k : ℕ). sets (sets (set l i x) (suc i) xs) k ys) (suc-add i (length xs) ∙ sym (add-suc i (length xs)))
 
 pub wrote-then : {xs ys : List ℕ} {at r r′ : ℕ} {out out′ out″ : List ℕ} → Wrote xs at out r out′ → Wrote ys r out′ r′ out″ → Wrote (xs ++ ys) at out r′ out″
 wrote-then {xs} {ys} {at} {r} {r′} {out} h g =

@@ -35,10 +35,10 @@ fn put_number(out: &mut [u8], at: usize, value: u32) -> usize
     ensures { λ r. ⌜ Wrote (decimal value) at (now (out .entry)) r (now (out .exit)) ⌝ }
 {
     if value < 10 {
-        return put_byte(out, at, 48 + value as u8);
+        return put_byte(out, at, b'0' + value as u8);
     }
     let next = put_number(out, at, value / 10);
-    put_byte(out, next, 48 + (value % 10) as u8)
+    put_byte(out, next, b'0' + (value % 10) as u8)
 }
 
 // A number and the byte behind it.
@@ -87,7 +87,7 @@ fn put_bch(out: &mut [u8], at: usize, lost: bool, corrected: u32) -> usize
     if lost {
         put_text(out, at, b"-\n")
     } else {
-        put_field(out, at, corrected, 10)
+        put_field(out, at, corrected, b'\n')
     }
 }
 
@@ -97,7 +97,7 @@ pub fn write_first(out: &mut [u8], at: usize, stopped: bool, rounds: u32) -> usi
     ensures { λ r. ⌜ Wrote (firstLine stopped rounds) at (now (out .entry)) r (now (out .exit)) ⌝ }
 {
     let next = put_ending(out, at, stopped);
-    put_field(out, next, rounds, 10)
+    put_field(out, next, rounds, b'\n')
 }
 
 // A word's line: at most 52 bytes.
@@ -114,10 +114,10 @@ pub fn write_word(
     requires { ⌜ (at + 52 ≤ length (now out)) × (state < 4) ⌝ }
     ensures { λ r. ⌜ Wrote (wordLine word (resultOf state iterations unsatisfied lost corrected)) at (now (out .entry)) r (now (out .exit)) ⌝ }
 {
-    let a = put_field(out, at, word, 9);
+    let a = put_field(out, at, word, b'\t');
     let b = put_state(out, a, state);
-    let c = put_field(out, b, iterations, 9);
-    let d = put_field(out, c, unsatisfied, 9);
+    let c = put_field(out, b, iterations, b'\t');
+    let d = put_field(out, c, unsatisfied, b'\t');
     put_bch(out, d, lost, corrected)
 }
 
@@ -127,5 +127,5 @@ pub fn write_refused(out: &mut [u8], at: usize, number: u32) -> usize
     ensures { λ r. ⌜ Wrote (refusedLine number) at (now (out .entry)) r (now (out .exit)) ⌝ }
 {
     let next = put_text(out, at, b"refused\t");
-    put_field(out, next, number, 10)
+    put_field(out, next, number, b'\n')
 }

@@ -1,11 +1,11 @@
 -- `report_form::expect` meets its contract.
 -- Assumes nothing.
-use mathlib.Core.Path.{sym, ap, _∙_}
+use mathlib.Core.Path.{sym, _∙_}
 use native.Mathlib.Omega.{arith}
 use borrow.Author.Needs.{needs}
 use Prim.Native.Nat.{_<_}
 use lib.ListN.{getD}
-use Rattle.report_form.specs.Form.{byte, reads-right, reads-wrong}
+use Rattle.report_form.specs.Form.{reads-right, reads-wrong}
 use Rattle.report_form.proofs.Bytes.{inside, byte-found, byte-missing}
 use Rattle.report_form.proofs.expect.Statement.{statement}
 use Rattle.report_form.proofs.expect.Tie as tie

@@ -1,8 +1,8 @@
 -- `report_form::fill_pairs` meets its contract. The loop's invariant: the pairs that are left lead to what all of them lead to.
 -- Assumes nothing.
-use mathlib.Core.Path.{_≡_, sym, ap, _∙_, subst}
-use mathlib.Core.List.{List, _∷_}
-use Prim.Native.Nat.{ℕ, _+_, _-_, _<_}
+use mathlib.Core.Path.{_≡_, sym, ap, _∙_}
+use mathlib.Core.List.{List}
+use Prim.Native.Nat.{ℕ, _-_, _<_}
 use borrow.Author.Needs.{needs}
 use native.Mathlib.Omega.{arith}
 use lib.ListN.{drop, getD}
@@ -11,7 +11,7 @@ use mir.Val.{toZ, ofZ}
 use mir.ValLaws.{toZ-ofZ}
 use Rattle.report_form.specs.Form.{reads-as}
 use Rattle.report_form.specs.Forms.{pairFrom}
-use Rattle.report_form.proofs.Bytes.{head-at, inside, byte-here}
+use Rattle.report_form.proofs.Bytes.{head-at, inside}
 use Rattle.report_form.proofs.Lists.{goes-mark, goes-room, goes-end}
 use Rattle.report_form.proofs.Fill.{Filling, filling-start, filling-again, filling-below, no-pair, filled-here}
 use Rattle.report_form.proofs.fill_pairs.Statement.{statement}

@@ -1,6 +1,5 @@
 -- `report_form::fill_words` meets its contract. The loop's invariant: the words that are left lead to what all of them lead to.
 -- Assumes nothing.
-use mathlib.Core.Path.{_≡_, sym, ap, _∙_}
 use Prim.Native.Nat.{_-_}
 use borrow.Author.Needs.{needs}
 use native.Mathlib.Omega.{arith}

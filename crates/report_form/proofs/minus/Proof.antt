@@ -1,7 +1,6 @@
 -- `report_form::minus` meets its contract.
 -- Assumes nothing.
 use borrow.Author.Needs.{needs}
-use native.Mathlib.Omega.{arith}
 use Rattle.report_form.proofs.Smalls.{wide-fits, small-fits, small-minus}
 use Rattle.report_form.proofs.minus.Statement.{statement}
 use Rattle.report_form.proofs.minus.Tie as tie

@@ -1,11 +1,10 @@
 -- `report_form::read_digits` meets its contract. The loop's invariant: the number spells the bytes so far, and is at most one digit over the bound.
 -- Assumes nothing.
-use mathlib.Core.Path.{_≡_, sym, ap, _∙_, subst}
-use Prim.Native.Nat.{ℕ, _+_, _-_, _*_, _≤_, _<_}
+use mathlib.Core.Path.{sym, _∙_, subst}
+use Prim.Native.Nat.{ℕ, _+_, _-_, _*_}
 use borrow.Author.Needs.{needs}
 use native.Mathlib.Omega.{arith}
 use lib.ListN.{length, getD}
-use Rattle.laws.specs.Decimal.{digit}
 use Rattle.report_form.proofs.Bytes.{inside}
 use Rattle.report_form.proofs.Spell.{Spelled, digit-bounds, spelled-start, spelled-again, spelled-over, spelled-end}
 use Rattle.report_form.proofs.read_digits.Statement.{statement}

@@ -1,11 +1,10 @@
 -- `report_form::read_number` meets its contract: no digit, a 0 alone, a 0 with a digit behind it, or digits from 1 on.
 -- Assumes nothing.
-use mathlib.Core.Path.{_≡_, sym, ap, _∙_, subst}
-use Prim.Native.Nat.{ℕ, _+_, _≤_, _<_}
+use mathlib.Core.Path.{sym, _∙_}
 use borrow.Author.Needs.{needs}
 use borrow.Author.Tests.{not-true, not-false}
 use native.Mathlib.Omega.{arith}
-use lib.ListN.{length, getD}
+use lib.ListN.{getD}
 use Rattle.report_form.specs.Form.{reads-right, reads-wrong}
 use Rattle.report_form.proofs.Bytes.{inside}
 use Rattle.report_form.proofs.Spell.{digit-bounds, digit-missing, zero-found, zero-missing}

@@ -1,7 +1,6 @@
 -- `report_form::read_pair` meets its contract.
 -- Assumes nothing.
-use mathlib.Core.Path.{_≡_, sym}
-use lib.IntN.{ℤ}
+use mathlib.Core.Path.{sym}
 use borrow.Author.Needs.{needs}
 use mir.Syntax.{w8}
 use mir.ValLaws.{toZ-ofZ}

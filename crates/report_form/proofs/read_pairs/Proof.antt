@@ -1,12 +1,11 @@
 -- `report_form::read_pairs` meets its contract. The loop's invariant: the pairs so far, the least position that may come, and their number.
 -- Assumes nothing.
-use mathlib.Core.Path.{_≡_, sym, ap, _∙_}
-use mathlib.Core.Logic.{_⊎_, inl, inr}
-use Prim.Native.Nat.{ℕ, _+_, _-_, _≤_, _<_}
+use mathlib.Core.Logic.{inl, inr}
+use Prim.Native.Nat.{_-_}
 use borrow.Author.Needs.{needs}
 use borrow.Author.Tests.{not-true, not-false}
 use native.Mathlib.Omega.{arith}
-use lib.ListN.{length, drop, getD}
+use lib.ListN.{drop}
 use Rattle.report_form.specs.Form.{found-there, missing-there}
 use Rattle.report_form.proofs.Lists.{goes-mark, goes-room, goes-end}
 use Rattle.report_form.proofs.Pairs.{PairsSoFar, pairs-start, pairs-again, pairs-none, pairs-wrong, pairs-hopeless, pairs-read}

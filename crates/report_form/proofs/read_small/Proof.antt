@@ -1,18 +1,18 @@
 -- `report_form::read_small` meets its contract: without a minus a number of at most 127, with one a number of 1 to 128 behind it.
 -- Assumes nothing.
-use mathlib.Core.Path.{_≡_, refl, sym, ap, _∙_, subst}
+use mathlib.Core.Path.{_≡_, sym, _∙_, subst}
 use mathlib.Core.Bool.{true, false}
-use mathlib.Core.List.{List, _∷_}
-use Prim.Native.Nat.{ℕ, _+_, _≤_, _<_}
+use mathlib.Core.List.{List}
+use Prim.Native.Nat.{ℕ, _+_}
 use borrow.Author.Needs.{needs}
 use native.Mathlib.Omega.{arith}
-use lib.IntN.{pos, negsuc}
-use lib.ListN.{length, drop, getD}
+use lib.IntN.{pos}
+use lib.ListN.{drop}
 use mir.Syntax.{w8}
 use mir.Val.{toZ, ofZ}
 use mir.ValLaws.{toZ-pos, toZ-ofZ}
-use Rattle.report_form.specs.Form.{Form, Found, Missing, Reads, reads-found, reads-missing, reads-spoiled, found-there}
-use Rattle.report_form.specs.Forms.{numbers, smalls}
+use Rattle.report_form.specs.Form.{Reads, reads-found, reads-missing, reads-spoiled, found-there}
+use Rattle.report_form.specs.Forms.{smalls}
 use Rattle.report_form.proofs.Bytes.{inside, head-at, byte-here}
 use Rattle.report_form.proofs.Smalls.{plus-found, plus-missing, minus-found, minus-missing, minus-zero}
 use Rattle.report_form.proofs.read_small.Statement.{statement}

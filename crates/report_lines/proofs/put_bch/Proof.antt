@@ -2,7 +2,7 @@
 -- Assumes nothing.
 use mathlib.Core.Path.{sym, subst}
 use mathlib.Core.Bool.{Bool}
-use mathlib.Core.List.{List, [], _∷_, _++_}
+use mathlib.Core.List.{[], _∷_, _++_}
 use denote.Ref.{now}
 use Rattle.report_lines.specs.Lines.{bchText}
 use Rattle.report_lines.specs.Wrote.{Wrote}

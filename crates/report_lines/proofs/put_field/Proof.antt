@@ -1,7 +1,7 @@
 -- `report_lines::put_field` meets its contract.
 -- Assumes nothing.
-use Rattle.report_lines.specs.Wrote.{Wrote, wrote-then}
-use Rattle.report_lines.proofs.Sizes.{number-length}
+use Rattle.report_lines.specs.Wrote.{wrote-then}
+use Rattle.report_lines.specs.Sizes.{number-length}
 use native.Mathlib.Omega.{arith}
 use borrow.Author.Needs.{needs}
 use Rattle.report_lines.proofs.put_field.Statement.{statement}

@@ -6,7 +6,7 @@ use Prim.Native.Nat.{ℕ}
 use denote.Ref.{now}
 use Rattle.report_lines.specs.Lines.{stateText}
 use Rattle.report_lines.specs.Wrote.{Wrote}
-use Rattle.report_lines.proofs.Sizes.{unmet}
+use Rattle.report_lines.specs.Sizes.{unmet}
 use borrow.Author.Needs.{needs}
 use Rattle.report_lines.proofs.put_state.Statement.{statement}
 use Rattle.report_lines.proofs.put_state.Tie as tie

@@ -2,7 +2,7 @@
 -- Assumes nothing.
 use Rattle.report_lines.specs.Lines.{endingText}
 use Rattle.report_lines.specs.Wrote.{wrote-line}
-use Rattle.report_lines.proofs.Sizes.{ending-length}
+use Rattle.report_lines.specs.Sizes.{ending-length}
 use native.Mathlib.Omega.{arith}
 use borrow.Author.Needs.{needs}
 use Rattle.report_lines.proofs.write_first.Statement.{statement}

@@ -1,6 +1,5 @@
 -- `report_lines::write_refused` meets its contract.
 -- Assumes nothing.
-use mathlib.Core.List.{List, [], _∷_}
 use Rattle.report_lines.specs.Wrote.{wrote-then}
 use native.Mathlib.Omega.{arith}
 use borrow.Author.Needs.{needs}

@@ -1,10 +1,9 @@
 -- `report_lines::write_word` meets its contract.
 -- Assumes nothing.
-use mathlib.Core.List.{List, [], _∷_}
 use Rattle.laws.specs.Decimal.{decimal}
 use Rattle.report_lines.specs.Lines.{stateText}
 use Rattle.report_lines.specs.Wrote.{wrote-line}
-use Rattle.report_lines.proofs.Sizes.{field-length, state-length}
+use Rattle.report_lines.specs.Sizes.{field-length, state-length}
 use native.Mathlib.Omega.{arith}
 use borrow.Author.Needs.{needs}
 use Rattle.report_lines.proofs.write_word.Statement.{statement}

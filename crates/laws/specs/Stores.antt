@@ -1,12 +1,11 @@
 -- Runs of stores into a list.
-use mathlib.Core.Path.{_≡_, refl, sym, ap, ap₂, _∙_, subst}
-use mathlib.Core.List.{List, [], _∷_, _++_, append-assoc, append-nil}
-use Prim.Native.Nat.{ℕ, zero, suc, _+_, _-_, _≤_, _<_}
+use mathlib.Core.Path.{_≡_, sym, ap, _∙_, subst}
+use mathlib.Core.List.{List, [], _∷_, _++_, append-assoc}
+use Prim.Native.Nat.{ℕ, suc, _+_, _-_, _≤_, _<_}
 use native.Mathlib.Nat.{add-zero, add-suc, suc-add, zero-add}
-use native.Mathlib.Numerals.{add-one}
 use native.Mathlib.Omega.{arith}
-use lib.ListN.{length, take, drop, set, replicate, length-set, length-replicate, replicate-append-replicate}
-use lib.Seq.{sets, sets-eq, length-sets, set-append-left, length-take-le}
+use lib.ListN.{length, take, drop, set, replicate, length-set, replicate-append-replicate}
+use lib.Seq.{sets, sets-eq, set-append-left, length-take-le}
 
 module _ {A : Type 0} where
   pub sets-append : (l : List A) (i : ℕ) (xs ys : List A) → sets l i (xs ++ ys) ≡ sets (sets l i xs) (i + length xs) ys
