@@ -26,7 +26,7 @@ pub record Lists (n p : ℕ) (index : List ℕ) : Type 0 where
   pub short : (c : ℕ) → c < p → getD index (c + 1) 0 ≤ getD index c 0 + 128
   pub within : (c : ℕ) → c ≤ p → getD index c 0 ≤ edgesIn p index
   pub variables : (e : ℕ) → e < edgesIn p index → var (rowsIn p index) e < n
-  pub many : 8 ≤ edgesIn p index
+  pub many : 16 ≤ edgesIn p index
 
 -- The memory: n + 3E rows with stride lanes, 1 to 64 of them.
 pub record Memory (n p lanes : ℕ) (index : List ℕ) (a : List ℤ) : Type 0 where

@@ -1,0 +1,2 @@
+-- The eleven rates and the lengths at each.
+pub mod Rates
