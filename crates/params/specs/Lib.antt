@@ -1,2 +1,0 @@
--- The eleven rates and the lengths at each.
-pub mod Rates
