@@ -327,7 +327,7 @@ fn replay(
     }
 }
 
-// The t-th code: the first 64 are short, the others have n 44,880.
+// The t-th code: the first six have no rows, the next 62 have some and n up to 2,244, the last two n 44,880.
 fn one(
     t: u64,
     lens: &mut [u32],
@@ -338,10 +338,14 @@ fn one(
 ) {
     let x = next(next(t % 100 * 7919 + 1));
     let y = next(x);
-    if t < 64 {
-        let units = 1 + draw(x, 6) % 6;
-        let rows = draw(y, units) % 6;
-        let most = 1 + draw(next(y), 9) % 9;
+    if t < 6 {
+        replay(t, t as u32 + 1, 0, t, lens, addrs, info, out, lists);
+        return;
+    }
+    if t < 68 {
+        let units = 2 + draw(x, 5) % 5;
+        let rows = 1 + draw(y, units - 1) % 5;
+        let most = 2 + draw(next(y), 12) % 12;
         replay(
             t,
             units as u32,
@@ -355,13 +359,13 @@ fn one(
         );
         return;
     }
-    let rows = 41 + (t - 64) % 100 * 48;
+    let rows = 41 + (t - 68) % 100 * 48;
     replay(t, 120, rows as usize, 12, lens, addrs, info, out, lists);
 }
 
 fn all(lens: &mut [u32], addrs: &mut [u16], info: &mut [u8], out: &mut [u8], lists: &mut [u32]) {
     let mut t: u64 = 0;
-    while t < 66 {
+    while t < 70 {
         one(t, lens, addrs, info, out, lists);
         t += 1;
     }

@@ -97,16 +97,17 @@ fn replay(seed: u64, units: usize, rows: usize, most: u64) {
 }
 
 fn main() {
-    for t in 0..66u64 {
+    for t in 0..70u64 {
         let x = next(next(t * 7919 + 1));
         let y = next(x);
-        let most = 1 + draw(next(y), 9);
-        if t < 64 {
-            let units = 1 + draw(x, 6);
-            replay(t, units as usize, draw(y, units) as usize, most);
+        if t < 6 {
+            replay(t, t as usize + 1, 0, t);
+        } else if t < 68 {
+            let units = 2 + draw(x, 5);
+            replay(t, units as usize, 1 + draw(y, units - 1) as usize, 2 + draw(next(y), 12));
         } else {
-            replay(t, 120, (41 + (t - 64) * 48) as usize, 12);
+            replay(t, 120, (41 + (t - 68) * 48) as usize, 12);
         }
     }
-    eprintln!("66 codes");
+    eprintln!("70 codes");
 }

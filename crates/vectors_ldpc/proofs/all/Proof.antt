@@ -14,7 +14,7 @@ Inv-loop lens₀ addrs₀ info₀ out₀ lists₀ t₀ lens addrs info out lists
     (length lens ≡ length lens₀) × (length addrs ≡ length addrs₀) × (length info ≡ length info₀) × (length out ≡ length out₀) × (length lists ≡ length lists₀)
 
 abbrev μ-loop : tie.MeasureT-loop
-μ-loop lens₀ addrs₀ info₀ out₀ lists₀ t₀ lens addrs info out lists t = 66 - t
+μ-loop lens₀ addrs₀ info₀ out₀ lists₀ t₀ lens addrs info out lists t = 70 - t
 
 loop-holds : tie.Need-loop-holds Inv-loop μ-loop
 loop-holds c = (refl, refl, refl, refl, refl)
