@@ -1,0 +1,2 @@
+-- The lengths.
+pub mod Lengths

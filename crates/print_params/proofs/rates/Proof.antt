@@ -1,0 +1,37 @@
+use Prim.Native.Nat.{_≤_, _-_}
+use borrow.Author.Needs.{needs}
+use native.Mathlib.Omega.{arith}
+use Rattle.print_params.proofs.rates.Statement.{statement}
+use Rattle.print_params.proofs.rates.Tie as tie
+use Rattle.print_params.proofs.rates.Reads as reads
+use Rattle.print_params.proofs.rates.Lts as lts
+use Rattle.print_params.proofs.line.Reads as line-reads
+
+abbrev Inv-loop : tie.InvT-loop
+Inv-loop i₀ i = i ≤ 11
+
+abbrev μ-loop : tie.MeasureT-loop
+μ-loop i₀ i = 11 - i
+
+loop-holds : tie.Need-loop-holds Inv-loop μ-loop
+loop-holds c = search needs
+
+line-requires : tie.Need-line-requires Inv-loop μ-loop
+line-requires c κs = search needs
+
+add-i : tie.Need-add-i Inv-loop μ-loop
+add-i c = search needs
+
+loop-less : tie.Need-loop-less Inv-loop μ-loop
+loop-less c = search needs
+
+loop-again : tie.Need-loop-again Inv-loop μ-loop
+loop-again c = search needs
+
+returns : tie.Need-returns Inv-loop μ-loop
+returns c = tt
+
+pub rates-spec : {M : Type 1} → statement M
+rates-spec =
+    tie.close
+    (tie.spec Inv-loop μ-loop loop-holds line-requires add-i loop-less loop-again returns)

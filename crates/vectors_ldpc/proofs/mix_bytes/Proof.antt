@@ -1,0 +1,55 @@
+use lib.ListN.{length}
+use Prim.Native.Nat.{_≤_, _-_}
+use borrow.Author.Needs.{needs}
+use native.Mathlib.Omega.{arith}
+use Rattle.vectors_ldpc.proofs.mix_bytes.Statement.{statement}
+use Rattle.vectors_ldpc.proofs.mix_bytes.Tie as tie
+use Rattle.vectors_ldpc.proofs.mix_bytes.Reads as reads
+use Rattle.vectors_ldpc.proofs.mix_bytes.Lts as lts
+use Rattle.vectors_ldpc.proofs.byte.Reads as byte-reads
+use Rattle.vectors_ldpc.proofs.mix.Reads as mix-reads
+
+abbrev Inv-loop : tie.InvT-loop
+Inv-loop h s r₀ i₀ r i = i ≤ length s
+
+abbrev μ-loop : tie.MeasureT-loop
+μ-loop h s r₀ i₀ r i = length s - i
+
+loop-holds : tie.Need-loop-holds Inv-loop μ-loop
+loop-holds c = search needs
+
+shared-slice-read-byte : tie.Need-shared-slice-read-byte Inv-loop μ-loop
+shared-slice-read-byte c = search needs
+
+byte-requires : tie.Need-byte-requires Inv-loop μ-loop
+byte-requires c κs = search needs
+
+mix-requires : tie.Need-mix-requires Inv-loop μ-loop
+mix-requires c κs = search needs
+
+add-i : tie.Need-add-i Inv-loop μ-loop
+add-i c = search needs
+
+loop-less : tie.Need-loop-less Inv-loop μ-loop
+loop-less c = search needs
+
+loop-again : tie.Need-loop-again Inv-loop μ-loop
+loop-again c = search needs
+
+returns : tie.Need-returns Inv-loop μ-loop
+returns c = tt
+
+pub mix-bytes-spec : {M : Type 1} → statement M
+mix-bytes-spec =
+    tie.close
+    (tie.spec
+    Inv-loop
+    μ-loop
+    loop-holds
+    shared-slice-read-byte
+    byte-requires
+    mix-requires
+    add-i
+    loop-less
+    loop-again
+    returns)

@@ -1,0 +1,54 @@
+use lib.ListN.{length}
+use Prim.Native.Nat.{_≤_, _-_}
+use borrow.Author.Needs.{needs}
+use native.Mathlib.Omega.{arith}
+use Rattle.vectors_ldpc.proofs.mix_words.Statement.{statement}
+use Rattle.vectors_ldpc.proofs.mix_words.Tie as tie
+use Rattle.vectors_ldpc.proofs.mix_words.Reads as reads
+use Rattle.vectors_ldpc.proofs.mix_words.Lts as lts
+use Rattle.vectors_ldpc.proofs.mix.Reads as mix-reads
+
+abbrev Inv-loop : tie.InvT-loop
+Inv-loop h s r₀ i₀ r i = i ≤ length s
+
+abbrev μ-loop : tie.MeasureT-loop
+μ-loop h s r₀ i₀ r i = length s - i
+
+loop-holds : tie.Need-loop-holds Inv-loop μ-loop
+loop-holds c = search needs
+
+mul-mix : tie.Need-mul-mix Inv-loop μ-loop
+mul-mix c = search needs
+
+shared-slice-read-mix : tie.Need-shared-slice-read-mix Inv-loop μ-loop
+shared-slice-read-mix c = search needs
+
+mix-requires : tie.Need-mix-requires Inv-loop μ-loop
+mix-requires c κs = search needs
+
+add-i : tie.Need-add-i Inv-loop μ-loop
+add-i c = search needs
+
+loop-less : tie.Need-loop-less Inv-loop μ-loop
+loop-less c = search needs
+
+loop-again : tie.Need-loop-again Inv-loop μ-loop
+loop-again c = search needs
+
+returns : tie.Need-returns Inv-loop μ-loop
+returns c = tt
+
+pub mix-words-spec : {M : Type 1} → statement M
+mix-words-spec =
+    tie.close
+    (tie.spec
+    Inv-loop
+    μ-loop
+    loop-holds
+    mul-mix
+    shared-slice-read-mix
+    mix-requires
+    add-i
+    loop-less
+    loop-again
+    returns)
