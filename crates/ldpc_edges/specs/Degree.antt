@@ -1,4 +1,4 @@
--- The degree law: check c has one edge for each address equal to c modulo q, plus 2 (plus 1 for c = 0). It has at most 128.
+-- The order and the degree law: check c lists its information bits ascending, and has one edge for each address equal to c modulo q, plus 2 (plus 1 for c = 0). It has at most 128.
 use mathlib.Core.Path.{_≡_, refl, sym, ap, ap₂, _∙_, subst}
 use mathlib.Core.Bool.{Bool, true, false, cond}
 use mathlib.Core.List.{List, [], _∷_, _++_}
@@ -11,8 +11,8 @@ use lib.ListN.{length, take, drop, length-drop, length-append}
 use Rattle.ldpc_shape.specs.Shape.{kOf, pOf, qOf, rowsOf, total, countMod}
 use Rattle.ldpc_shape.specs.Accepted.{Accepted, p-is, q-pos, few}
 use Rattle.ldpc_edges.specs.Code.{Edge, ofBits, ofRows, meets, only, stairs, check, met}
-use Rattle.ldpc_edges.specs.Inside.{only-length}
-use Rattle.ldpc_edges.specs.Insert.{insert, insert-length, place, row-cons}
+use Rattle.ldpc_edges.specs.Inside.{only-append, only-length}
+use Rattle.ldpc_edges.specs.Insert.{insert, insert-length, place, row-cons, Rising, bits-rising}
 
 pub bits-none : (P q c d m j : ℕ) → only c (ofBits P q d m j []) ≡ []
 unfolding only ofBits met
@@ -51,6 +51,18 @@ rows-met q c pos h m (l ∷ lens) addrs e =
     let b = bits-count q c pos h m (take l addrs) in
     let s = count-split q (c % q) l addrs in
     only-length c (ofBits (374 * q) q 374 m 0 (take l addrs)) (ofRows (374 * q) q (m + 374) (rowsOf lens (drop l addrs))) ∙ omega arith
+
+-- ---- a check lists its information bits ascending
+pub rows-rising : (P q c m : ℕ) (rows : List (List ℕ)) → Rising m (only c (ofRows P q m rows))
+unfolding ofRows only
+rows-rising P q c m [] = tt
+rows-rising P q c m (row ∷ rows) =
+    subst (Rising m) (sym (only-append c (ofBits P q 374 m 0 row) (ofRows P q (m + 374) rows)))
+    (bits-rising P q c 374 m 0 row (only c (ofRows P q (m + 374) rows)) (rows-rising P q c (m + 374) rows))
+
+pub check-rising : (n : ℕ) (lens addrs : List ℕ) (c : ℕ) → Rising 0 (only c (meets n lens addrs))
+unfolding meets
+check-rising n lens addrs c = rows-rising (pOf n lens) (qOf n lens) c 0 (rowsOf lens addrs)
 
 pub stairs-length : (k c : ℕ) → length (stairs k c) ≡ cond (eqb c 0) 1 2
 unfolding stairs
