@@ -77,31 +77,28 @@ module _ (c : ℕ → El 15) (l : ℕ) where
   unfolding bit _⊕_
   bit-flip = two-cases (λ x. R16 ._⊞_ (bit R16 x) (bit R16 (x ⊕ 1)) ≡ R16 .𝟙) (zero-⊞ R16 _) (R16 .⊞-zero _)
 
-  pub flipped-hit : (w : List ℕ) (p : ℕ) → p < length w → valueAt c l p ≡ R16 .𝟘 → difference w (flipped c l w) p ≡ R16 .𝟙
+  -- at power p it is what the byte there gives
+  at-power : (w : List ℕ) (p : ℕ) (d : El 15) → p < length w → ((a : ℕ) → R16 ._⊞_ (bit R16 (a % 2)) (bit R16 (whereRoot c l p (a ⊕ 1) a % 2)) ≡ d)
+      → difference w (flipped c l w) p ≡ d
   unfolding flipped
-  flipped-hit [] p h z = absurd (not-suc-le-zero h)
-  flipped-hit (a ∷ w) p h z = pick (ℕ-discrete p (length w)) (λ g. flipped-hit w p g z)
+  at-power [] p d h g = absurd (not-suc-le-zero h)
+  at-power (a ∷ w) p d h g = pick (ℕ-discrete p (length w)) (λ k. at-power w p d k g)
     where
       b : ℕ
       b = whereRoot c l (length w) (a ⊕ 1) a
 
-      pick : Dec (p ≡ length w) → (p < length w → difference w (flipped c l w) p ≡ R16 .𝟙) → difference (a ∷ w) (b ∷ flipped c l w) p ≡ R16 .𝟙
+      pick : Dec (p ≡ length w) → (p < length w → difference w (flipped c l w) p ≡ d) → difference (a ∷ w) (b ∷ flipped c l w) p ≡ d
       pick (yes e) r =
           ap (difference (a ∷ w) (b ∷ flipped c l w)) e ∙ difference-top a b w (flipped c l w) (flipped-length w)
-          ∙ ap (λ (x : ℕ). R16 ._⊞_ (bit R16 (a % 2)) (bit R16 (x % 2))) (at-root (length w) (a ⊕ 1) a (ap (valueAt c l) (sym e) ∙ z))
-          ∙ ap (λ (x : ℕ). R16 ._⊞_ (bit R16 (a % 2)) (bit R16 x)) (⊕-odd a 1) ∙ bit-flip (a % 2) (mod-lt a two-pos)
+          ∙ ap (λ (q : ℕ). R16 ._⊞_ (bit R16 (a % 2)) (bit R16 (whereRoot c l q (a ⊕ 1) a % 2))) (sym e) ∙ g a
       pick (no ne) r = difference-low a b w (flipped c l w) (flipped-length w) p (omega arith) ∙ r (omega arith)
+
+  pub flipped-hit : (w : List ℕ) (p : ℕ) → p < length w → valueAt c l p ≡ R16 .𝟘 → difference w (flipped c l w) p ≡ R16 .𝟙
+  flipped-hit w p h z =
+      at-power w p (R16 .𝟙) h
+      (λ a. ap (λ (x : ℕ). R16 ._⊞_ (bit R16 (a % 2)) (bit R16 (x % 2))) (at-root p (a ⊕ 1) a z)
+      ∙ ap (λ (x : ℕ). R16 ._⊞_ (bit R16 (a % 2)) (bit R16 x)) (⊕-odd a 1) ∙ bit-flip (a % 2) (mod-lt a two-pos))
 
   pub flipped-miss : (w : List ℕ) (p : ℕ) → p < length w → valueAt c l p ≢ R16 .𝟘 → difference w (flipped c l w) p ≡ R16 .𝟘
-  unfolding flipped
-  flipped-miss [] p h z = absurd (not-suc-le-zero h)
-  flipped-miss (a ∷ w) p h z = pick (ℕ-discrete p (length w)) (λ g. flipped-miss w p g z)
-    where
-      b : ℕ
-      b = whereRoot c l (length w) (a ⊕ 1) a
-
-      pick : Dec (p ≡ length w) → (p < length w → difference w (flipped c l w) p ≡ R16 .𝟘) → difference (a ∷ w) (b ∷ flipped c l w) p ≡ R16 .𝟘
-      pick (yes e) r =
-          ap (difference (a ∷ w) (b ∷ flipped c l w)) e ∙ difference-top a b w (flipped c l w) (flipped-length w)
-          ∙ ap (λ (x : ℕ). R16 ._⊞_ (bit R16 (a % 2)) (bit R16 (x % 2))) (off-root (length w) (a ⊕ 1) a (λ q. z (ap (valueAt c l) e ∙ q))) ∙ R16 .⊞-self _
-      pick (no ne) r = difference-low a b w (flipped c l w) (flipped-length w) p (omega arith) ∙ r (omega arith)
+  flipped-miss w p h z =
+      at-power w p (R16 .𝟘) h (λ a. ap (λ (x : ℕ). R16 ._⊞_ (bit R16 (a % 2)) (bit R16 (x % 2))) (off-root p (a ⊕ 1) a z) ∙ R16 .⊞-self _)
