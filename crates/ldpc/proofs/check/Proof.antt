@@ -1,3 +1,4 @@
+-- `ldpc::check` meets its contract. Assumes nothing.
 use Rattle.ldpc.proofs.Exits.{fits, check-refused, check-beyond, check-below, check-small, check-short, check-done}
 use lib.ListN.{length}
 use Prim.Native.Nat.{ℕ, _≤_}
@@ -6,11 +7,6 @@ use native.Mathlib.Omega.{arith}
 use borrow.Author.Needs.{needs}
 use Rattle.ldpc.proofs.check.Statement.{statement}
 use Rattle.ldpc.proofs.check.Tie as tie
-use Rattle.ldpc.proofs.check.Reads as reads
-use Rattle.ldpc.proofs.check.Lts as lts
-use Rattle.ldpc_check.proofs.check_of.Reads as check-of-reads
-use Rattle.ldpc_check.proofs.degree_of.Reads as degree-of-reads
-use Rattle.ldpc_shape.proofs.refusal.Reads as refusal-reads
 
 refusal-requires : tie.Need-refusal-requires
 refusal-requires c κs = search needs

@@ -1,3 +1,4 @@
+-- `ldpc::encode` meets its contract. Assumes nothing.
 use Rattle.ldpc.proofs.Exits.{fits, encode-refused, encode-other, encode-short, encode-ready, encode-done}
 use lib.Seq.{length-take-le}
 use mathlib.Core.Path.{_≡_, refl, sym, ap, _∙_}
@@ -5,12 +6,6 @@ use native.Mathlib.Omega.{arith}
 use borrow.Author.Needs.{needs}
 use Rattle.ldpc.proofs.encode.Statement.{statement}
 use Rattle.ldpc.proofs.encode.Tie as tie
-use Rattle.ldpc.proofs.encode.Reads as reads
-use Rattle.ldpc.proofs.encode.Lts as lts
-use Rattle.ldpc_encode.proofs.encode_of.Reads as encode-of-reads
-use Rattle.ldpc_shape.proofs.info_bits.Reads as info-bits-reads
-use Rattle.ldpc_shape.proofs.refusal.Reads as refusal-reads
-use Rattle.ldpc_shape.proofs.wide.Reads as wide-reads
 
 refusal-requires : tie.Need-refusal-requires
 refusal-requires c κs = search needs

@@ -1,3 +1,4 @@
+-- `ldpc::new` meets its contract. Assumes nothing.
 use Rattle.ldpc.proofs.Exits.{fits, new-refused, new-short, new-ready, new-done}
 use lib.Seq.{length-take-le}
 use mathlib.Core.Path.{_≡_, refl, sym, ap, _∙_}
@@ -5,11 +6,6 @@ use native.Mathlib.Omega.{arith}
 use borrow.Author.Needs.{needs}
 use Rattle.ldpc.proofs.new.Statement.{statement}
 use Rattle.ldpc.proofs.new.Tie as tie
-use Rattle.ldpc.proofs.new.Reads as reads
-use Rattle.ldpc.proofs.new.Lts as lts
-use Rattle.ldpc_lists.proofs.build.Reads as build-reads
-use Rattle.ldpc_shape.proofs.refusal.Reads as refusal-reads
-use Rattle.ldpc_shape.proofs.wide.Reads as wide-reads
 
 refusal-requires : tie.Need-refusal-requires
 refusal-requires c κs = search needs

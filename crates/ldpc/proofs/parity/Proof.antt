@@ -1,3 +1,4 @@
+-- `ldpc::parity` meets its contract. Assumes nothing.
 use Rattle.ldpc.proofs.Exits.{fits, parity-refused, parity-other, parity-short, parity-ready, parity-done}
 use lib.Seq.{length-take-le}
 use Prim.Native.Nat.{ℕ, _-_}
@@ -6,12 +7,6 @@ use native.Mathlib.Omega.{arith}
 use borrow.Author.Needs.{needs}
 use Rattle.ldpc.proofs.parity.Statement.{statement}
 use Rattle.ldpc.proofs.parity.Tie as tie
-use Rattle.ldpc.proofs.parity.Reads as reads
-use Rattle.ldpc.proofs.parity.Lts as lts
-use Rattle.ldpc_encode.proofs.parity_of.Reads as parity-of-reads
-use Rattle.ldpc_shape.proofs.info_bits.Reads as info-bits-reads
-use Rattle.ldpc_shape.proofs.refusal.Reads as refusal-reads
-use Rattle.ldpc_shape.proofs.wide.Reads as wide-reads
 
 refusal-requires : tie.Need-refusal-requires
 refusal-requires c κs = search needs

@@ -1,14 +1,10 @@
+-- `ldpc::syndrome_weight` meets its contract. Assumes nothing.
 use Rattle.ldpc.proofs.Exits.{weight-refused, weight-other, weight-done}
 use mathlib.Core.Path.{_≡_, refl, sym, ap, _∙_}
 use native.Mathlib.Omega.{arith}
 use borrow.Author.Needs.{needs}
 use Rattle.ldpc.proofs.syndrome_weight.Statement.{statement}
 use Rattle.ldpc.proofs.syndrome_weight.Tie as tie
-use Rattle.ldpc.proofs.syndrome_weight.Reads as reads
-use Rattle.ldpc.proofs.syndrome_weight.Lts as lts
-use Rattle.ldpc_encode.proofs.weight_of.Reads as weight-of-reads
-use Rattle.ldpc_shape.proofs.refusal.Reads as refusal-reads
-use Rattle.ldpc_shape.proofs.wide.Reads as wide-reads
 
 refusal-requires : tie.Need-refusal-requires
 refusal-requires c κs = search needs

@@ -1,3 +1,4 @@
+-- `ldpc_check::check_of` meets its contract. Assumes nothing.
 use Rattle.ldpc_check.proofs.Loops.{allOf, sizes, c-inside, sum-fits, info-room, stairs-room, check-done}
 use Rattle.ldpc_edges.specs.Code.{check}
 use lib.ListN.{length}
@@ -6,10 +7,6 @@ use native.Mathlib.Omega.{arith}
 use borrow.Author.Needs.{needs}
 use Rattle.ldpc_check.proofs.check_of.Statement.{statement}
 use Rattle.ldpc_check.proofs.check_of.Tie as tie
-use Rattle.ldpc_check.proofs.check_of.Reads as reads
-use Rattle.ldpc_check.proofs.check_of.Lts as lts
-use Rattle.ldpc_check.proofs.check_rows.Reads as check-rows-reads
-use Rattle.ldpc_check.proofs.put_stairs.Reads as put-stairs-reads
 
 cast-k : tie.Need-cast-k
 cast-k c = omega (arith, sizes (c .before .before .before .args .n) (c .before .before .before .args .lens .now) (c .before .before .before .args .addrs .now) (c .before .before .before .pre .0))

@@ -1,3 +1,4 @@
+-- `ldpc_check::check_row` meets its contract. Assumes nothing.
 use Rattle.ldpc_check.proofs.Loops.{found, row-start, row-size, row-room, row-hit, row-miss, row-end, found-fits}
 use native.Mathlib.Nat.{mod-lt}
 use lib.ListN.{length, drop}
@@ -8,12 +9,6 @@ use borrow.Author.Needs.{needs}
 use native.Mathlib.Omega.{arith}
 use Rattle.ldpc_check.proofs.check_row.Statement.{statement}
 use Rattle.ldpc_check.proofs.check_row.Tie as tie
-use Rattle.ldpc_check.proofs.check_row.Reads as reads
-use Rattle.ldpc_check.proofs.check_row.Lts as lts
-use Rattle.ldpc_check.proofs.bit_of.Reads as bit-of-reads
-use Rattle.ldpc_check.proofs.insert_bit.Reads as insert-bit-reads
-use Rattle.ldpc_shape.proofs.residue.Reads as residue-reads
-use Rattle.ldpc_shape.proofs.wide.Reads as wide-reads
 
 abbrev Inv-loop : tie.InvT-loop
 Inv-loop out₀ row q c first l n₀ i₀ out n i = (i ≤ length row) × (n ≡ length (found q c first row i)) × (out ≡ found q c first row i ++ drop n out₀)

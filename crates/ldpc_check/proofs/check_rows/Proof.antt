@@ -1,3 +1,4 @@
+-- `ldpc_check::check_rows` meets its contract. Assumes nothing.
 use Rattle.ldpc_check.proofs.Loops.{allOf, restOf, rest-start, rest-end, rows-end-fits, rest-next, list-fits, rows-size, rows-below, rows-all, rows-kept, rows-done}
 use Rattle.ldpc_edges.specs.Code.{only, ofBits}
 use Rattle.ldpc_shape.specs.Shape.{total}
@@ -9,10 +10,6 @@ use borrow.Author.Needs.{needs}
 use native.Mathlib.Omega.{arith}
 use Rattle.ldpc_check.proofs.check_rows.Statement.{statement}
 use Rattle.ldpc_check.proofs.check_rows.Tie as tie
-use Rattle.ldpc_check.proofs.check_rows.Reads as reads
-use Rattle.ldpc_check.proofs.check_rows.Lts as lts
-use Rattle.ldpc_check.proofs.check_row.Reads as check-row-reads
-use Rattle.ldpc_shape.proofs.wide.Reads as wide-reads
 
 abbrev Inv-loop : tie.InvT-loop
 Inv-loop out₀ lens addrs q c n₀ g₀ from₀ first₀ out n g from first =

@@ -1,3 +1,4 @@
+-- `ldpc_check::degree_of` meets its contract. Assumes nothing.
 use Rattle.ldpc_check.proofs.Loops.{degree-small}
 use Rattle.ldpc_check.proofs.Loops.{sizes, degree-is}
 use borrow.Author.Tests.{eq-eqb, ne-eqb}
@@ -10,10 +11,6 @@ use native.Mathlib.Omega.{arith}
 use borrow.Author.Needs.{needs}
 use Rattle.ldpc_check.proofs.degree_of.Statement.{statement}
 use Rattle.ldpc_check.proofs.degree_of.Tie as tie
-use Rattle.ldpc_check.proofs.degree_of.Reads as reads
-use Rattle.ldpc_check.proofs.degree_of.Lts as lts
-use Rattle.ldpc_shape.proofs.counts.Reads as counts-reads
-use Rattle.ldpc_shape.proofs.wide.Reads as wide-reads
 
 cast-q : tie.Need-cast-q
 cast-q c = omega (arith, sizes (c .before .before .args .n) (c .before .before .args .lens .now) (c .before .before .args .addrs .now) (c .before .before .pre .0))

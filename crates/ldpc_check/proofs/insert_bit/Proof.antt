@@ -1,3 +1,4 @@
+-- `ldpc_check::insert_bit` meets its contract. Assumes nothing.
 use Rattle.ldpc_check.proofs.Loops.{Inserting, insert-start, insert-swap, insert-keep, insert-end}
 use lib.ListN.{length, length-set}
 use Prim.Native.Nat.{_≤_, _-_}
@@ -7,8 +8,6 @@ use borrow.Author.Needs.{needs}
 use native.Mathlib.Omega.{arith}
 use Rattle.ldpc_check.proofs.insert_bit.Statement.{statement}
 use Rattle.ldpc_check.proofs.insert_bit.Tie as tie
-use Rattle.ldpc_check.proofs.insert_bit.Reads as reads
-use Rattle.ldpc_check.proofs.insert_bit.Lts as lts
 
 abbrev Inv-loop : tie.InvT-loop
 Inv-loop out₀ n m v₀ i₀ out v i = (i ≤ n) × (length out ≡ length out₀) × Inserting m n out₀ out v i

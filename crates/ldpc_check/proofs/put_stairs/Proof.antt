@@ -1,3 +1,4 @@
+-- `ldpc_check::put_stairs` meets its contract. Assumes nothing.
 use Rattle.ldpc_check.proofs.Loops.{stair-one, stair-two}
 use lib.ListN.{length-set}
 use mathlib.Core.Path.{_≡_, refl, sym, ap, _∙_}
@@ -5,8 +6,6 @@ use native.Mathlib.Omega.{arith}
 use borrow.Author.Needs.{needs}
 use Rattle.ldpc_check.proofs.put_stairs.Statement.{statement}
 use Rattle.ldpc_check.proofs.put_stairs.Tie as tie
-use Rattle.ldpc_check.proofs.put_stairs.Reads as reads
-use Rattle.ldpc_check.proofs.put_stairs.Lts as lts
 
 mul-out : tie.Need-mul-out
 mul-out c = omega (arith, stair-one (c .before .args .out .now) (c .before .args .n) (c .before .args .k) (c .before .args .c) (c .before .args .v) (c .before .pre .0) (c .if1 .taken) (c .before .pre .1))

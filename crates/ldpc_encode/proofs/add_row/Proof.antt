@@ -1,3 +1,4 @@
+-- `ldpc_encode::add_row` meets its contract. Assumes nothing.
 use Rattle.ldpc_encode.specs.Sums.{Added, turnedBit}
 use mathlib.Core.Path.{subst}
 use Rattle.ldpc_encode.proofs.Bits.{Left, row-hit, row-miss, row-end}
@@ -10,11 +11,6 @@ use borrow.Author.Needs.{needs}
 use native.Mathlib.Omega.{arith}
 use Rattle.ldpc_encode.proofs.add_row.Statement.{statement}
 use Rattle.ldpc_encode.proofs.add_row.Tie as tie
-use Rattle.ldpc_encode.proofs.add_row.Reads as reads
-use Rattle.ldpc_encode.proofs.add_row.Lts as lts
-use Rattle.ldpc_encode.proofs.add_turned.Reads as add-turned-reads
-use Rattle.ldpc_encode.proofs.turn.Reads as turn-reads
-use Rattle.ldpc_shape.proofs.residue.Reads as residue-reads
 
 abbrev Inv-loop : tie.InvT-loop
 Inv-loop x₀ w row q l i₀ x i = (i ≤ length row) × (length x ≡ 374) × Left x (rowBit q l w (drop i row)) x₀ (rowBit q l w row)

@@ -1,3 +1,4 @@
+-- `ldpc_encode::add_rows` meets its contract. Assumes nothing.
 use Rattle.ldpc_encode.proofs.Rows.{infoFrom, rows-end-fits, info-add, info-start, info-end}
 use Rattle.ldpc_encode.proofs.Bits.{Left}
 use Rattle.ldpc_encode.specs.Sums.{infoBit}
@@ -11,10 +12,6 @@ use borrow.Author.Needs.{needs}
 use native.Mathlib.Omega.{arith}
 use Rattle.ldpc_encode.proofs.add_rows.Statement.{statement}
 use Rattle.ldpc_encode.proofs.add_rows.Tie as tie
-use Rattle.ldpc_encode.proofs.add_rows.Reads as reads
-use Rattle.ldpc_encode.proofs.add_rows.Lts as lts
-use Rattle.ldpc_encode.proofs.add_row.Reads as add-row-reads
-use Rattle.ldpc_shape.proofs.wide.Reads as wide-reads
 
 abbrev Inv-loop : tie.InvT-loop
 Inv-loop x₀ w lens addrs q l g₀ from₀ first₀ x g from first =

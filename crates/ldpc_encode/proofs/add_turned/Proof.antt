@@ -1,3 +1,4 @@
+-- `ldpc_encode::add_turned` meets its contract. Assumes nothing.
 use Rattle.ldpc_encode.proofs.Bits.{first-fits, middle-length, second-fits, turned-done}
 use lib.Seq.{length-take-le}
 use mathlib.Core.Path.{_≡_, sym, _∙_}
@@ -5,9 +6,6 @@ use native.Mathlib.Omega.{arith}
 use borrow.Author.Needs.{needs}
 use Rattle.ldpc_encode.proofs.add_turned.Statement.{statement}
 use Rattle.ldpc_encode.proofs.add_turned.Tie as tie
-use Rattle.ldpc_encode.proofs.add_turned.Reads as reads
-use Rattle.ldpc_encode.proofs.add_turned.Lts as lts
-use Rattle.ldpc_encode.proofs.xor_into.Reads as xor-into-reads
 
 sub-r : tie.Need-sub-r
 sub-r c = search needs

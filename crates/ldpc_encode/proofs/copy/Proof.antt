@@ -1,3 +1,4 @@
+-- `ldpc_encode::copy` meets its contract. Assumes nothing.
 use Rattle.ldpc_encode.proofs.Bytes.{copied, copied-rest, copied-all}
 use lib.ListN.{length, take, drop, length-set}
 use Prim.Native.Nat.{_≤_, _-_}
@@ -6,8 +7,6 @@ use borrow.Author.Needs.{needs}
 use native.Mathlib.Omega.{arith}
 use Rattle.ldpc_encode.proofs.copy.Statement.{statement}
 use Rattle.ldpc_encode.proofs.copy.Tie as tie
-use Rattle.ldpc_encode.proofs.copy.Reads as reads
-use Rattle.ldpc_encode.proofs.copy.Lts as lts
 
 abbrev Inv-loop : tie.InvT-loop
 Inv-loop out₀ w i₀ out i = (i ≤ length w) × (length out ≡ length out₀) × (take i out ≡ take i w) × (drop i out ≡ drop i out₀)

@@ -1,3 +1,4 @@
+-- `ldpc_encode::encode_of` meets its contract. Assumes nothing.
 use Rattle.ldpc_encode.proofs.Residue.{n-parts}
 use Rattle.ldpc_encode.proofs.Bytes.{rest-length, put-behind}
 use Rattle.ldpc_edges.specs.Code.{encode}
@@ -9,10 +10,6 @@ use native.Mathlib.Omega.{arith}
 use borrow.Author.Needs.{needs}
 use Rattle.ldpc_encode.proofs.encode_of.Statement.{statement}
 use Rattle.ldpc_encode.proofs.encode_of.Tie as tie
-use Rattle.ldpc_encode.proofs.encode_of.Reads as reads
-use Rattle.ldpc_encode.proofs.encode_of.Lts as lts
-use Rattle.ldpc_encode.proofs.copy.Reads as copy-reads
-use Rattle.ldpc_encode.proofs.parity_of.Reads as parity-of-reads
 
 copy-requires : tie.Need-copy-requires
 copy-requires c κs = omega (arith, n-parts (c .before .before .before .before .before .args .n) (c .before .before .before .before .before .args .lens .now) (c .before .before .before .before .before .args .addrs .now) (c .before .before .before .before .before .pre .0), (c .before .before .before .before .before .pre .1), (c .before .before .before .before .before .pre .2))

@@ -1,3 +1,4 @@
+-- `ldpc_encode::odd_checks` meets its contract. Assumes nothing.
 use Rattle.ldpc_encode.proofs.Residue.{at-next, at-fits, count-next}
 use Rattle.ldpc_encode.specs.Sums.{unmetAt}
 use Rattle.laws.specs.Modulo.{sumTo, sum-none}
@@ -7,10 +8,6 @@ use borrow.Author.Needs.{needs}
 use native.Mathlib.Omega.{arith}
 use Rattle.ldpc_encode.proofs.odd_checks.Statement.{statement}
 use Rattle.ldpc_encode.proofs.odd_checks.Tie as tie
-use Rattle.ldpc_encode.proofs.odd_checks.Reads as reads
-use Rattle.ldpc_encode.proofs.odd_checks.Lts as lts
-use Rattle.ldpc_encode.proofs.odd.Reads as odd-reads
-use Rattle.ldpc_encode.proofs.stair_bit.Reads as stair-bit-reads
 
 abbrev Inv-loop : tie.InvT-loop
 Inv-loop x p q l s₀ c₀ i₀ s c i = (i ≤ 374) × (c ≡ l + i * q) × (s ≤ i) × (s ≡ sumTo i (unmetAt q l x p))

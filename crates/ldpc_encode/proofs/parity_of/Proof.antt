@@ -1,3 +1,4 @@
+-- `ldpc_encode::parity_of` meets its contract. Assumes nothing.
 use Prim.Native.Nat.{_%_}
 use Rattle.ldpc_encode.proofs.Residue.{Done, infoOnes, rows-fit, adds, k-fits, s-fits, info-is, done-start, done-again, parity-done}
 use lib.ListN.{length}
@@ -7,12 +8,6 @@ use borrow.Author.Needs.{needs}
 use native.Mathlib.Omega.{arith}
 use Rattle.ldpc_encode.proofs.parity_of.Statement.{statement}
 use Rattle.ldpc_encode.proofs.parity_of.Tie as tie
-use Rattle.ldpc_encode.proofs.parity_of.Reads as reads
-use Rattle.ldpc_encode.proofs.parity_of.Lts as lts
-use Rattle.ldpc_encode.proofs.scatter.Reads as scatter-reads
-use Rattle.ldpc_encode.proofs.sum_up.Reads as sum-up-reads
-use Rattle.ldpc_encode.proofs.sums_of.Reads as sums-of-reads
-use Rattle.ldpc_shape.proofs.wide.Reads as wide-reads
 
 abbrev Inv-loop : tie.InvT-loop
 Inv-loop n lens addrs info out₀ q s l₀ out l = (l ≤ s) × (length out ≡ length out₀) × Done s l out (infoOnes n lens addrs info)

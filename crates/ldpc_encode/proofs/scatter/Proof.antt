@@ -1,3 +1,4 @@
+-- `ldpc_encode::scatter` meets its contract. Assumes nothing.
 use Rattle.ldpc_encode.proofs.Residue.{at-next, at-fits, scatter-start, scatter-again, scatter-end}
 use Rattle.ldpc_encode.specs.Sums.{Scattered}
 use lib.ListN.{length}
@@ -7,8 +8,6 @@ use borrow.Author.Needs.{needs}
 use native.Mathlib.Omega.{arith}
 use Rattle.ldpc_encode.proofs.scatter.Statement.{statement}
 use Rattle.ldpc_encode.proofs.scatter.Tie as tie
-use Rattle.ldpc_encode.proofs.scatter.Reads as reads
-use Rattle.ldpc_encode.proofs.scatter.Lts as lts
 
 abbrev Inv-loop : tie.InvT-loop
 Inv-loop out₀ x q l c₀ i₀ out c i = (i ≤ 374) × (c ≡ l + i * q) × Scattered i q l x out₀ out

@@ -1,3 +1,4 @@
+-- `ldpc_encode::stair_bit` meets its contract. Assumes nothing.
 use Rattle.ldpc_encode.proofs.Bits.{stair-first, stair-later}
 use Rattle.ldpc_encode.specs.Sums.{stairBit}
 use mathlib.Core.Path.{_≡_, refl, ap, sym, _∙_}
@@ -5,8 +6,6 @@ use native.Mathlib.Omega.{arith}
 use borrow.Author.Needs.{needs}
 use Rattle.ldpc_encode.proofs.stair_bit.Statement.{statement}
 use Rattle.ldpc_encode.proofs.stair_bit.Tie as tie
-use Rattle.ldpc_encode.proofs.stair_bit.Reads as reads
-use Rattle.ldpc_encode.proofs.stair_bit.Lts as lts
 
 shared-slice-read-result : tie.Need-shared-slice-read-result
 shared-slice-read-result c = search needs

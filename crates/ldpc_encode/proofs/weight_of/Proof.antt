@@ -1,3 +1,4 @@
+-- `ldpc_encode::weight_of` meets its contract. Assumes nothing.
 use Rattle.ldpc_encode.proofs.Residue.{unmetBelow, rows-fit, adds, n-fits, s-fits, info-is, below-start, below-next, below-end, parity-part, parity-size}
 use lib.ListN.{length, drop, take}
 use Prim.Native.Nat.{ℕ, _+_, _*_, _%_, _≤_, _-_}
@@ -6,12 +7,6 @@ use borrow.Author.Needs.{needs}
 use native.Mathlib.Omega.{arith}
 use Rattle.ldpc_encode.proofs.weight_of.Statement.{statement}
 use Rattle.ldpc_encode.proofs.weight_of.Tie as tie
-use Rattle.ldpc_encode.proofs.weight_of.Reads as reads
-use Rattle.ldpc_encode.proofs.weight_of.Lts as lts
-use Rattle.ldpc_encode.proofs.odd_checks.Reads as odd-checks-reads
-use Rattle.ldpc_encode.proofs.sums_of.Reads as sums-of-reads
-use Rattle.ldpc_shape.proofs.info_bits.Reads as info-bits-reads
-use Rattle.ldpc_shape.proofs.wide.Reads as wide-reads
 
 abbrev Inv-loop : tie.InvT-loop
 Inv-loop n lens addrs bits k p q s u₀ l₀ u l = (l ≤ s) × (u ≤ 374 * l) × (u ≡ unmetBelow n lens addrs s bits l)

@@ -1,3 +1,4 @@
+-- `ldpc_encode::xor_into` meets its contract. Assumes nothing.
 use Rattle.ldpc_encode.proofs.Bytes.{xors-again, xors-end}
 use Rattle.ldpc_encode.specs.Sums.{xors}
 use lib.ListN.{length, take, drop, length-set}
@@ -8,8 +9,6 @@ use borrow.Author.Needs.{needs}
 use native.Mathlib.Omega.{arith}
 use Rattle.ldpc_encode.proofs.xor_into.Statement.{statement}
 use Rattle.ldpc_encode.proofs.xor_into.Tie as tie
-use Rattle.ldpc_encode.proofs.xor_into.Reads as reads
-use Rattle.ldpc_encode.proofs.xor_into.Lts as lts
 
 abbrev Inv-loop : tie.InvT-loop
 Inv-loop x₀ w i₀ x i = (i ≤ length x₀) × (length x ≡ length x₀) × (take i x ++ xors (drop i x) (drop i w) ≡ xors x₀ w)

@@ -1,3 +1,4 @@
+-- `ldpc_lists::build` meets its contract. Assumes nothing.
 use Rattle.ldpc_lists.proofs.Built.{k-fits, counts-ready, ends-ready, sizes, base-fits, stairs-ready, meets-ready, build-done}
 use Rattle.ldpc_shape.specs.Shape.{pOf, eOf}
 use lib.ListN.{length}
@@ -7,13 +8,6 @@ use native.Mathlib.Omega.{arith}
 use borrow.Author.Needs.{needs}
 use Rattle.ldpc_lists.proofs.build.Statement.{statement}
 use Rattle.ldpc_lists.proofs.build.Tie as tie
-use Rattle.ldpc_lists.proofs.build.Reads as reads
-use Rattle.ldpc_lists.proofs.build.Lts as lts
-use Rattle.ldpc_lists.proofs.ends.Reads as ends-reads
-use Rattle.ldpc_lists.proofs.put_rows.Reads as put-rows-reads
-use Rattle.ldpc_lists.proofs.put_stairs.Reads as put-stairs-reads
-use Rattle.ldpc_shape.proofs.counts.Reads as counts-reads
-use Rattle.ldpc_shape.proofs.wide.Reads as wide-reads
 
 cast-k : tie.Need-cast-k
 cast-k c = omega (arith, k-fits (c .before .before .before .args .n) (c .before .before .before .args .lens .now) (c .before .before .before .args .addrs .now) (c .before .before .before .pre .0))

@@ -1,3 +1,4 @@
+-- `ldpc_lists::ends` meets its contract. Assumes nothing.
 use Rattle.ldpc_lists.specs.Ends.{Few, Ends, ending, ending-le, ending-next, ends-again, ends-last, ends-start, ending-start}
 use lib.Seq.{getD-set-same}
 use lib.ListN.{length, getD, set, length-set}
@@ -8,9 +9,6 @@ use borrow.Author.Needs.{needs}
 use native.Mathlib.Omega.{arith}
 use Rattle.ldpc_lists.proofs.ends.Statement.{statement}
 use Rattle.ldpc_lists.proofs.ends.Tie as tie
-use Rattle.ldpc_lists.proofs.ends.Reads as reads
-use Rattle.ldpc_lists.proofs.ends.Lts as lts
-use Rattle.ldpc_lists.proofs.stair.Reads as stair-reads
 
 abbrev Inv-loop : tie.InvT-loop
 Inv-loop lists₀ counts q checks e₀ i₀ lists e i = (i ≤ checks) × (length lists ≡ length lists₀) × (e ≡ ending counts q i) × Ends counts q lists i

@@ -1,3 +1,4 @@
+-- `ldpc_lists::put_met` meets its contract. Assumes nothing.
 use Rattle.ldpc_lists.proofs.Loops.{shift-fits, same-parts, met-start, met-room, met-again, met-end}
 use Rattle.ldpc_lists.specs.Build.{parts, put, putAll}
 use Rattle.ldpc_edges.specs.Code.{met}
@@ -8,10 +9,6 @@ use borrow.Author.Needs.{needs}
 use native.Mathlib.Omega.{arith}
 use Rattle.ldpc_lists.proofs.put_met.Statement.{statement}
 use Rattle.ldpc_lists.proofs.put_met.Tie as tie
-use Rattle.ldpc_lists.proofs.put_met.Reads as reads
-use Rattle.ldpc_lists.proofs.put_met.Lts as lts
-use Rattle.ldpc_lists.proofs.meets.Reads as meets-reads
-use Rattle.ldpc_lists.proofs.put_one.Reads as put-one-reads
 
 abbrev Inv-loop : tie.InvT-loop
 Inv-loop lists₀ base row checks q m j s i₀ lists i = (i ≤ length row) × (base ≤ length lists) × (parts base lists ≡ putAll (met checks q m j (drop i row)) (parts base lists₀))

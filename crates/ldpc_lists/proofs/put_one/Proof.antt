@@ -1,12 +1,10 @@
+-- `ldpc_lists::put_one` meets its contract. Assumes nothing.
 use lib.ListN.{length-set}
 use Rattle.ldpc_lists.proofs.One.{one-start, one-left, one-place, one-put}
 use native.Mathlib.Omega.{arith}
 use borrow.Author.Needs.{needs}
 use Rattle.ldpc_lists.proofs.put_one.Statement.{statement}
 use Rattle.ldpc_lists.proofs.put_one.Tie as tie
-use Rattle.ldpc_lists.proofs.put_one.Reads as reads
-use Rattle.ldpc_lists.proofs.put_one.Lts as lts
-use Rattle.ldpc_shape.proofs.wide.Reads as wide-reads
 
 mul-s : tie.Need-mul-s
 mul-s c = omega (arith, one-start (c .before .args .lists .now) (c .before .args .base) (c .before .args .p) (c .before .pre))

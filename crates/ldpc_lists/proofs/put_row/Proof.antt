@@ -1,3 +1,4 @@
+-- `ldpc_lists::put_row` meets its contract. Assumes nothing.
 use Rattle.ldpc_lists.proofs.Loops.{same-parts, bits-start, bits-room, bits-again, bits-end}
 use Rattle.ldpc_lists.specs.Build.{parts, putAll}
 use Rattle.ldpc_edges.specs.Code.{ofBits}
@@ -8,9 +9,6 @@ use borrow.Author.Needs.{needs}
 use native.Mathlib.Omega.{arith}
 use Rattle.ldpc_lists.proofs.put_row.Statement.{statement}
 use Rattle.ldpc_lists.proofs.put_row.Tie as tie
-use Rattle.ldpc_lists.proofs.put_row.Reads as reads
-use Rattle.ldpc_lists.proofs.put_row.Lts as lts
-use Rattle.ldpc_lists.proofs.put_met.Reads as put-met-reads
 
 abbrev Inv-loop : tie.InvT-loop
 Inv-loop lists₀ base row checks q first j₀ m₀ lists j m =

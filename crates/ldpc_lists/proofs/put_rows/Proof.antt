@@ -1,3 +1,4 @@
+-- `ldpc_lists::put_rows` meets its contract. Assumes nothing.
 use Rattle.ldpc_lists.proofs.Loops.{before, same-parts, before-all, rows-start, row-fits, part-room, from-before, part-again, rows-end}
 use Rattle.ldpc_lists.specs.Build.{parts, putAll}
 use Rattle.ldpc_edges.specs.Code.{ofRows}
@@ -9,10 +10,6 @@ use borrow.Author.Needs.{needs}
 use native.Mathlib.Omega.{arith}
 use Rattle.ldpc_lists.proofs.put_rows.Statement.{statement}
 use Rattle.ldpc_lists.proofs.put_rows.Tie as tie
-use Rattle.ldpc_lists.proofs.put_rows.Reads as reads
-use Rattle.ldpc_lists.proofs.put_rows.Lts as lts
-use Rattle.ldpc_lists.proofs.put_row.Reads as put-row-reads
-use Rattle.ldpc_shape.proofs.wide.Reads as wide-reads
 
 abbrev Inv-loop : tie.InvT-loop
 Inv-loop lists₀ base lens addrs checks q k g₀ end₀ m₀ lists g end m =

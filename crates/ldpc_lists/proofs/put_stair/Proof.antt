@@ -1,3 +1,4 @@
+-- `ldpc_lists::put_stair` meets its contract. Assumes nothing.
 use Rattle.ldpc_lists.proofs.Stairs.{stair-first, stair-second, stair-one, stair-two}
 use Rattle.ldpc_lists.specs.Build.{parts}
 use native.Mathlib.Decide.{ℕ-discrete}
@@ -5,9 +6,6 @@ use native.Mathlib.Omega.{arith}
 use borrow.Author.Needs.{needs}
 use Rattle.ldpc_lists.proofs.put_stair.Statement.{statement}
 use Rattle.ldpc_lists.proofs.put_stair.Tie as tie
-use Rattle.ldpc_lists.proofs.put_stair.Reads as reads
-use Rattle.ldpc_lists.proofs.put_stair.Lts as lts
-use Rattle.ldpc_lists.proofs.put_one.Reads as put-one-reads
 
 put-one-requires : tie.Need-put-one-requires
 put-one-requires c κs = ((c .before .before .pre .0), stair-first (c .before .before .args .k) (c .before .before .args .c) (c .before .before .args .v) (parts (c .before .before .args .base) (c .before .before .args .lists .now)) (c .before .before .pre .1) (c .before .before .pre .2) (ℕ-discrete (c .before .before .args .c) 0))

@@ -1,3 +1,4 @@
+-- `ldpc_lists::put_stairs` meets its contract. Assumes nothing.
 use Rattle.ldpc_lists.proofs.Stairs.{stairs-start, stairs-room, stairs-again, stairs-end}
 use Rattle.ldpc_lists.proofs.Loops.{same-parts}
 use Rattle.ldpc_lists.specs.Build.{parts, putAll}
@@ -9,9 +10,6 @@ use borrow.Author.Needs.{needs}
 use native.Mathlib.Omega.{arith}
 use Rattle.ldpc_lists.proofs.put_stairs.Statement.{statement}
 use Rattle.ldpc_lists.proofs.put_stairs.Tie as tie
-use Rattle.ldpc_lists.proofs.put_stairs.Reads as reads
-use Rattle.ldpc_lists.proofs.put_stairs.Lts as lts
-use Rattle.ldpc_lists.proofs.put_stair.Reads as put-stair-reads
 
 abbrev Inv-loop : tie.InvT-loop
 Inv-loop lists₀ base k checks n c₀ v₀ lists c v = (c ≤ checks) × (v ≡ k + c) × (base ≤ length lists) × (parts base lists ≡ putAll (toStairs k c (checks - c)) (parts base lists₀))

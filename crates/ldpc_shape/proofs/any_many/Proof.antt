@@ -1,3 +1,4 @@
+-- `ldpc_shape::any_many` meets its contract. Assumes nothing.
 use Rattle.ldpc_shape.proofs.Loops.{tops-hit, tops-miss, tops-end}
 use Rattle.ldpc_shape.specs.Counts.{tops}
 use Rattle.ldpc_shape.specs.Shape.{anyOver}
@@ -7,9 +8,6 @@ use borrow.Author.Needs.{needs}
 use native.Mathlib.Omega.{arith}
 use Rattle.ldpc_shape.proofs.any_many.Statement.{statement}
 use Rattle.ldpc_shape.proofs.any_many.Tie as tie
-use Rattle.ldpc_shape.proofs.any_many.Reads as reads
-use Rattle.ldpc_shape.proofs.any_many.Lts as lts
-use Rattle.ldpc_shape.proofs.wide.Reads as wide-reads
 
 abbrev Inv-loop : tie.InvT-loop
 Inv-loop counts q l₀ l = (l ≤ q) × (anyOver 126 (tops counts q) ≡ anyOver 126 (tops counts l))

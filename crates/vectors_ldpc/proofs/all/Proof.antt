@@ -1,3 +1,4 @@
+-- `vectors_ldpc::all` meets its contract. Assumes nothing.
 use lib.ListN.{length}
 use Prim.Native.Nat.{_≤_, _-_}
 use mathlib.Core.Path.{_≡_, refl, _∙_}
@@ -5,9 +6,6 @@ use borrow.Author.Needs.{needs}
 use native.Mathlib.Omega.{arith}
 use Rattle.vectors_ldpc.proofs.all.Statement.{statement}
 use Rattle.vectors_ldpc.proofs.all.Tie as tie
-use Rattle.vectors_ldpc.proofs.all.Reads as reads
-use Rattle.vectors_ldpc.proofs.all.Lts as lts
-use Rattle.vectors_ldpc.proofs.one.Reads as one-reads
 
 abbrev Inv-loop : tie.InvT-loop
 Inv-loop lens₀ addrs₀ info₀ out₀ lists₀ t₀ lens addrs info out lists t =

@@ -1,3 +1,4 @@
+-- `vectors_ldpc::make_addresses` meets its contract. Assumes nothing.
 use lib.ListN.{length, length-set}
 use Prim.Native.Nat.{_≤_, _-_}
 use mathlib.Core.Path.{_≡_, refl, _∙_}
@@ -5,10 +6,6 @@ use borrow.Author.Needs.{needs}
 use native.Mathlib.Omega.{arith}
 use Rattle.vectors_ldpc.proofs.make_addresses.Statement.{statement}
 use Rattle.vectors_ldpc.proofs.make_addresses.Tie as tie
-use Rattle.vectors_ldpc.proofs.make_addresses.Reads as reads
-use Rattle.vectors_ldpc.proofs.make_addresses.Lts as lts
-use Rattle.vectors_ldpc.proofs.address.Reads as address-reads
-use Rattle.vectors_ldpc.proofs.next.Reads as next-reads
 
 abbrev Inv-loop : tie.InvT-loop
 Inv-loop addrs₀ seed p q x₀ a₀ i₀ addrs x a i = length addrs ≡ length addrs₀

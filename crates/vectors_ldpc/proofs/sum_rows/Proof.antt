@@ -1,3 +1,4 @@
+-- `vectors_ldpc::sum_rows` meets its contract. Assumes nothing.
 use native.Mathlib.Nat.{mod-lt}
 use lib.ListN.{length}
 use Prim.Native.Nat.{_≤_, _<_, _-_}
@@ -5,9 +6,6 @@ use borrow.Author.Needs.{needs}
 use native.Mathlib.Omega.{arith}
 use Rattle.vectors_ldpc.proofs.sum_rows.Statement.{statement}
 use Rattle.vectors_ldpc.proofs.sum_rows.Tie as tie
-use Rattle.vectors_ldpc.proofs.sum_rows.Reads as reads
-use Rattle.vectors_ldpc.proofs.sum_rows.Lts as lts
-use Rattle.ldpc_shape.proofs.wide.Reads as wide-reads
 
 abbrev Inv-loop : tie.InvT-loop
 Inv-loop lens s₀ i₀ s i = (i ≤ length lens) × (s < 65536)
