@@ -11,7 +11,9 @@ shared-slice-read-result : tie.Need-shared-slice-read-result
 shared-slice-read-result c = search needs
 
 returns : tie.Need-returns
-returns c = stair-first (c .before .before .args .p .now) (c .before .before .args .c) (c .before .if1 .taken)
+returns c =
+    let s = c .before .before in
+    stair-first (s .args .p .now) (s .args .c) (c .before .if1 .taken)
 
 sub-result : tie.Need-sub-result
 sub-result c = search needs
@@ -23,7 +25,9 @@ shared-slice-read-result-3 : tie.Need-shared-slice-read-result-3
 shared-slice-read-result-3 c = search needs
 
 returns-2 : tie.Need-returns-2
-returns-2 c = stair-later (c .before .before .before .args .p .now) (c .before .before .before .args .c) (c .before .before .if1 .left)
+returns-2 c =
+    let s = c .before .before .before in
+    stair-later (s .args .p .now) (s .args .c) (c .before .before .if1 .left)
 
 pub stair-bit-spec : {M : Type 1} → statement M
 stair-bit-spec =

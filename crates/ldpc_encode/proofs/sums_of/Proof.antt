@@ -10,7 +10,9 @@ slice-aggregate-add-rows : tie.Need-slice-aggregate-add-rows
 slice-aggregate-add-rows c = search needs
 
 add-rows-requires : tie.Need-add-rows-requires
-add-rows-requires c κs = (refl, (c .before .before .before .before .pre .0), (c .before .before .before .before .pre .1), (c .before .before .before .before .pre .2))
+add-rows-requires c κs =
+    let s = c .before .before .before .before in
+    (refl, (s .pre .0), (s .pre .1), (s .pre .2))
 
 returns : tie.Need-returns
 returns c = from-zeros _ _ (c .before .add-rows .ensures)

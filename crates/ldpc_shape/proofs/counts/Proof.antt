@@ -16,7 +16,9 @@ abbrev μ-loop : tie.MeasureT-loop
 μ-loop addrs q r₀ i₀ r i = length addrs - i
 
 loop-holds : tie.Need-loop-holds Inv-loop μ-loop
-loop-holds c = (omega arith, refl, counted-start (c .before .args .q) (c .before .args .addrs .now) (c .before .pre .1))
+loop-holds c =
+    let s = c .before in
+    (omega arith, refl, counted-start (s .args .q) (s .args .addrs .now) (s .pre .1))
 
 mul-residue : tie.Need-mul-residue Inv-loop μ-loop
 mul-residue c = search needs

@@ -38,7 +38,9 @@ loop-less : tie.Need-loop-less Inv-loop μ-loop
 loop-less c = search needs
 
 loop-again : tie.Need-loop-again Inv-loop μ-loop
-loop-again c = length-set (c .before .before .before .loop .lens) _ _ ∙ (c .before .before .before .loop .inv)
+loop-again c =
+    let l = c .before .before .before .loop in
+    length-set (l .lens) _ _ ∙ (l .inv)
 
 same-length : tie.Need-same-length Inv-loop μ-loop
 same-length c = search needs

@@ -26,7 +26,9 @@ wide-requires : tie.Need-wide-requires Inv-loop μ-loop
 wide-requires c κs = search needs
 
 add-s : tie.Need-add-s Inv-loop μ-loop
-add-s c = omega (arith, (c .wide .ensures), (c .before .before .before .loop .inv .1), (c .before .shared-slice-known2 .given) (c .before .before .before .loop .i))
+add-s c =
+    let l = c .before .before .before .loop in
+    omega (arith, (c .wide .ensures), (l .inv .1), (c .before .shared-slice-known2 .given) (l .i))
 
 add-i : tie.Need-add-i Inv-loop μ-loop
 add-i c = search needs
