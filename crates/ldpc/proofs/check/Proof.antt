@@ -1,3 +1,4 @@
+-- `ldpc::check` meets its contract. Assumes nothing.
 use Rattle.ldpc.proofs.Exits.{fits, check-refused, check-beyond, check-below, check-small, check-short, check-done}
 use lib.ListN.{length}
 use Prim.Native.Nat.{ℕ, _≤_}
@@ -6,47 +7,62 @@ use native.Mathlib.Omega.{arith}
 use borrow.Author.Needs.{needs}
 use Rattle.ldpc.proofs.check.Statement.{statement}
 use Rattle.ldpc.proofs.check.Tie as tie
-use Rattle.ldpc.proofs.check.Reads as reads
-use Rattle.ldpc.proofs.check.Lts as lts
-use Rattle.ldpc_check.proofs.check_of.Reads as check-of-reads
-use Rattle.ldpc_check.proofs.degree_of.Reads as degree-of-reads
-use Rattle.ldpc_shape.proofs.refusal.Reads as refusal-reads
 
 refusal-requires : tie.Need-refusal-requires
 refusal-requires c κs = search needs
 
 returns : tie.Need-returns
-returns c = check-refused (c .before .before .before .before .before .args .n) (c .before .before .before .before .before .args .lens .now) (c .before .before .before .before .before .args .addrs .now) (c .before .before .before .before .before .args .c) (c .before .before .before .before .before .args .out .now) (c .before .refusal .result) (c .before .refusal .ensures) (c .if1 .taken)
+returns c =
+    let s = c .before .before .before .before .before in
+    check-refused (s .args .n) (s .args .lens .now) (s .args .addrs .now) (s .args .c) (s .args .out .now) (c .before .refusal .result) (c .before .refusal .ensures) (c .if1 .taken)
 
 cast-k : tie.Need-cast-k
-cast-k c = omega (arith, fits (c .before .before .before .before .before .args .n) (c .before .before .before .before .before .args .lens .now) (c .before .before .before .before .before .args .addrs .now) (sym (c .before .refusal .ensures) ∙ (c .if1 .left)))
+cast-k c =
+    let s = c .before .before .before .before .before in
+    omega (arith, fits (s .args .n) (s .args .lens .now) (s .args .addrs .now) (sym (c .before .refusal .ensures) ∙ (c .if1 .left)))
 
 mul-k : tie.Need-mul-k
-mul-k c = omega (arith, fits (c .before .before .before .before .before .args .n) (c .before .before .before .before .before .args .lens .now) (c .before .before .before .before .before .args .addrs .now) (sym (c .before .refusal .ensures) ∙ (c .if1 .left)))
+mul-k c =
+    let s = c .before .before .before .before .before in
+    omega (arith, fits (s .args .n) (s .args .lens .now) (s .args .addrs .now) (sym (c .before .refusal .ensures) ∙ (c .if1 .left)))
 
 sub-if2 : tie.Need-sub-if2
-sub-if2 c = omega (arith, fits (c .before .before .before .before .before .args .n) (c .before .before .before .before .before .args .lens .now) (c .before .before .before .before .before .args .addrs .now) (sym (c .before .refusal .ensures) ∙ (c .if1 .left)))
+sub-if2 c =
+    let s = c .before .before .before .before .before in
+    omega (arith, fits (s .args .n) (s .args .lens .now) (s .args .addrs .now) (sym (c .before .refusal .ensures) ∙ (c .if1 .left)))
 
 returns-2 : tie.Need-returns-2
-returns-2 c = check-beyond (c .before .before .before .before .before .before .args .n) (c .before .before .before .before .before .before .args .lens .now) (c .before .before .before .before .before .before .args .addrs .now) (c .before .before .before .before .before .before .args .c) (c .before .before .before .before .before .before .args .out .now) (sym (c .before .before .refusal .ensures) ∙ (c .before .if1 .left)) (c .if2 .taken)
+returns-2 c =
+    let s = c .before .before .before .before .before .before in
+    check-beyond (s .args .n) (s .args .lens .now) (s .args .addrs .now) (s .args .c) (s .args .out .now) (sym (c .before .before .refusal .ensures) ∙ (c .before .if1 .left)) (c .if2 .taken)
 
 degree-of-requires : tie.Need-degree-of-requires
-degree-of-requires c κs = ((sym (c .before .before .refusal .ensures) ∙ (c .before .if1 .left)), check-below (c .before .before .before .before .before .before .args .n) (c .before .before .before .before .before .before .args .lens .now) (c .before .before .before .before .before .before .args .addrs .now) (c .before .before .before .before .before .before .args .c) (c .before .before .before .before .before .before .args .out .now) (sym (c .before .before .refusal .ensures) ∙ (c .before .if1 .left)) (c .if2 .left))
+degree-of-requires c κs =
+    let s = c .before .before .before .before .before .before in
+    ((sym (c .before .before .refusal .ensures) ∙ (c .before .if1 .left)), check-below (s .args .n) (s .args .lens .now) (s .args .addrs .now) (s .args .c) (s .args .out .now) (sym (c .before .before .refusal .ensures) ∙ (c .before .if1 .left)) (c .if2 .left))
 
 returns-3 : tie.Need-returns-3
-returns-3 c = check-short (c .before .before .before .before .before .before .before .before .args .n) (c .before .before .before .before .before .before .before .before .args .lens .now) (c .before .before .before .before .before .before .before .before .args .addrs .now) (c .before .before .before .before .before .before .before .before .args .c) (c .before .before .before .before .before .before .before .before .args .out .now) (sym (c .before .before .before .before .refusal .ensures) ∙ (c .before .before .before .if1 .left)) (c .before .before .if2 .left) (c .before .degree-of .result) (c .before .degree-of .ensures) (c .if3 .taken)
+returns-3 c =
+    let s = c .before .before .before .before .before .before .before .before in
+    check-short (s .args .n) (s .args .lens .now) (s .args .addrs .now) (s .args .c) (s .args .out .now) (sym (c .before .before .before .before .refusal .ensures) ∙ (c .before .before .before .if1 .left)) (c .before .before .if2 .left) (c .before .degree-of .result) (c .before .degree-of .ensures) (c .if3 .taken)
 
 check-of-requires : tie.Need-check-of-requires
-check-of-requires c κs = ((sym (c .before .before .before .before .before .refusal .ensures) ∙ (c .before .before .before .before .if1 .left)), check-below (c .before .before .before .before .before .before .before .before .before .args .n) (c .before .before .before .before .before .before .before .before .before .args .lens .now) (c .before .before .before .before .before .before .before .before .before .args .addrs .now) (c .before .before .before .before .before .before .before .before .before .args .c) (c .before .before .before .before .before .before .before .before .before .args .out .now) (sym (c .before .before .before .before .before .refusal .ensures) ∙ (c .before .before .before .before .if1 .left)) (c .before .before .before .if2 .left), subst (λ (z : ℕ). z ≤ length (c .before .before .before .before .before .before .before .before .before .args .out .now)) (c .before .before .degree-of .ensures) (c .before .if3 .left))
+check-of-requires c κs =
+    let s = c .before .before .before .before .before .before .before .before .before in
+    ((sym (c .before .before .before .before .before .refusal .ensures) ∙ (c .before .before .before .before .if1 .left)), check-below (s .args .n) (s .args .lens .now) (s .args .addrs .now) (s .args .c) (s .args .out .now) (sym (c .before .before .before .before .before .refusal .ensures) ∙ (c .before .before .before .before .if1 .left)) (c .before .before .before .if2 .left), subst (λ (z : ℕ). z ≤ length (s .args .out .now)) (c .before .before .degree-of .ensures) (c .before .if3 .left))
 
 cast-t11 : tie.Need-cast-t11
-cast-t11 c = omega (arith, (c .before .before .check-of .ensures .0), check-small (c .before .before .before .before .before .before .before .before .before .before .before .before .args .n) (c .before .before .before .before .before .before .before .before .before .before .before .before .args .lens .now) (c .before .before .before .before .before .before .before .before .before .before .before .before .args .addrs .now) (c .before .before .before .before .before .before .before .before .before .before .before .before .args .c) (c .before .before .before .before .before .before .before .before .before .before .before .before .args .out .now) (sym (c .before .before .before .before .before .before .before .before .refusal .ensures) ∙ (c .before .before .before .before .before .before .before .if1 .left)) (c .before .before .before .before .before .before .if2 .left))
+cast-t11 c =
+    let s = c .before .before .before .before .before .before .before .before .before .before .before .before in
+    omega (arith, (c .before .before .check-of .ensures .0), check-small (s .args .n) (s .args .lens .now) (s .args .addrs .now) (s .args .c) (s .args .out .now) (sym (c .before .before .before .before .before .before .before .before .refusal .ensures) ∙ (c .before .before .before .before .before .before .before .if1 .left)) (c .before .before .before .before .before .before .if2 .left))
 
 same-length : tie.Need-same-length
 same-length c = search needs
 
 returns-4 : tie.Need-returns-4
-returns-4 c = check-done (c .before .before .before .before .before .before .before .before .before .before .before .before .args .n) (c .before .before .before .before .before .before .before .before .before .before .before .before .args .lens .now) (c .before .before .before .before .before .before .before .before .before .before .before .before .args .addrs .now) (c .before .before .before .before .before .before .before .before .before .before .before .before .args .c) (c .before .before .before .before .before .before .before .before .before .before .before .before .args .out .now) (sym (c .before .before .before .before .before .before .before .before .refusal .ensures) ∙ (c .before .before .before .before .before .before .before .if1 .left)) (c .before .before .before .before .before .before .if2 .left) (c .before .before .before .before .before .degree-of .result) (c .before .before .check-of .result) (c .before .before .before .before .before .degree-of .ensures) (c .before .before .before .before .if3 .left) (c .before .before .check-of .ensures .0) _ (c .before .before .check-of .ensures .1)
+returns-4 c =
+    let s = c .before .before .before .before .before .before .before .before .before .before .before .before in
+    check-done (s .args .n) (s .args .lens .now) (s .args .addrs .now) (s .args .c) (s .args .out .now) (sym (c .before .before .before .before .before .before .before .before .refusal .ensures) ∙ (c .before .before .before .before .before .before .before .if1 .left)) (c .before .before .before .before .before .before .if2 .left) (c .before .before .before .before .before .degree-of .result) (c .before .before .check-of .result) (c .before .before .before .before .before .degree-of .ensures) (c .before .before .before .before .if3 .left) (c .before .before .check-of .ensures .0) _ (c .before .before .check-of .ensures .1)
 
 pub check-spec : {M : Type 1} → statement M
 check-spec =

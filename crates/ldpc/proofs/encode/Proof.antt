@@ -1,3 +1,4 @@
+-- `ldpc::encode` meets its contract. Assumes nothing.
 use Rattle.ldpc.proofs.Exits.{fits, encode-refused, encode-other, encode-short, encode-ready, encode-done}
 use lib.Seq.{length-take-le}
 use mathlib.Core.Path.{_≡_, refl, sym, ap, _∙_}
@@ -5,30 +6,32 @@ use native.Mathlib.Omega.{arith}
 use borrow.Author.Needs.{needs}
 use Rattle.ldpc.proofs.encode.Statement.{statement}
 use Rattle.ldpc.proofs.encode.Tie as tie
-use Rattle.ldpc.proofs.encode.Reads as reads
-use Rattle.ldpc.proofs.encode.Lts as lts
-use Rattle.ldpc_encode.proofs.encode_of.Reads as encode-of-reads
-use Rattle.ldpc_shape.proofs.info_bits.Reads as info-bits-reads
-use Rattle.ldpc_shape.proofs.refusal.Reads as refusal-reads
-use Rattle.ldpc_shape.proofs.wide.Reads as wide-reads
 
 refusal-requires : tie.Need-refusal-requires
 refusal-requires c κs = search needs
 
 returns : tie.Need-returns
-returns c = encode-refused (c .before .before .before .before .before .before .args .n) (c .before .before .before .before .before .before .args .lens .now) (c .before .before .before .before .before .before .args .addrs .now) (c .before .before .before .before .before .before .args .info .now) (c .before .before .before .before .before .before .args .out .now) (c .before .refusal .result) (c .before .refusal .ensures) (c .if1 .taken)
+returns c =
+    let s = c .before .before .before .before .before .before in
+    encode-refused (s .args .n) (s .args .lens .now) (s .args .addrs .now) (s .args .info .now) (s .args .out .now) (c .before .refusal .result) (c .before .refusal .ensures) (c .if1 .taken)
 
 info-bits-requires : tie.Need-info-bits-requires
-info-bits-requires c κs = fits (c .before .before .before .before .before .before .args .n) (c .before .before .before .before .before .before .args .lens .now) (c .before .before .before .before .before .before .args .addrs .now) (sym (c .before .refusal .ensures) ∙ (c .if1 .left)) .0
+info-bits-requires c κs =
+    let s = c .before .before .before .before .before .before in
+    fits (s .args .n) (s .args .lens .now) (s .args .addrs .now) (sym (c .before .refusal .ensures) ∙ (c .if1 .left)) .0
 
 returns-2 : tie.Need-returns-2
-returns-2 c = encode-other (c .before .before .before .before .before .before .before .before .args .n) (c .before .before .before .before .before .before .before .before .args .lens .now) (c .before .before .before .before .before .before .before .before .args .addrs .now) (c .before .before .before .before .before .before .before .before .args .info .now) (c .before .before .before .before .before .before .before .before .args .out .now) (sym (c .before .before .before .refusal .ensures) ∙ (c .before .before .if1 .left)) (c .before .info-bits .result) (c .before .info-bits .ensures) (c .if2 .taken)
+returns-2 c =
+    let s = c .before .before .before .before .before .before .before .before in
+    encode-other (s .args .n) (s .args .lens .now) (s .args .addrs .now) (s .args .info .now) (s .args .out .now) (sym (c .before .before .before .refusal .ensures) ∙ (c .before .before .if1 .left)) (c .before .info-bits .result) (c .before .info-bits .ensures) (c .if2 .taken)
 
 wide-requires : tie.Need-wide-requires
 wide-requires c κs = search needs
 
 returns-3 : tie.Need-returns-3
-returns-3 c = encode-short (c .before .before .before .before .before .before .before .before .before .before .args .n) (c .before .before .before .before .before .before .before .before .before .before .args .lens .now) (c .before .before .before .before .before .before .before .before .before .before .args .addrs .now) (c .before .before .before .before .before .before .before .before .before .before .args .info .now) (c .before .before .before .before .before .before .before .before .before .before .args .out .now) (sym (c .before .before .before .before .before .refusal .ensures) ∙ (c .before .before .before .before .if1 .left)) (c .before .before .before .info-bits .result) (c .before .before .before .info-bits .ensures) (c .before .before .if2 .left) (c .before .wide .result) (c .before .wide .ensures) (c .if3 .taken)
+returns-3 c =
+    let s = c .before .before .before .before .before .before .before .before .before .before in
+    encode-short (s .args .n) (s .args .lens .now) (s .args .addrs .now) (s .args .info .now) (s .args .out .now) (sym (c .before .before .before .before .before .refusal .ensures) ∙ (c .before .before .before .before .if1 .left)) (c .before .before .before .info-bits .result) (c .before .before .before .info-bits .ensures) (c .before .before .if2 .left) (c .before .wide .result) (c .before .wide .ensures) (c .if3 .taken)
 
 slice-relend-prefix-encode-of : tie.Need-slice-relend-prefix-encode-of
 slice-relend-prefix-encode-of c = search needs
@@ -38,14 +41,17 @@ slice-aggregate-encode-of c = sym (length-take-le _ (c .before .before .before .
 
 encode-of-requires : tie.Need-encode-of-requires
 encode-of-requires c κs =
-    let r = encode-ready (c .before .before .before .before .before .before .before .before .before .before .before .args .n) (c .before .before .before .before .before .before .before .before .before .before .before .args .lens .now) (c .before .before .before .before .before .before .before .before .before .before .before .args .addrs .now) (c .before .before .before .before .before .before .before .before .before .before .before .args .info .now) (c .before .before .before .before .before .before .before .before .before .before .before .args .out .now) (sym (c .before .before .before .before .before .before .refusal .ensures) ∙ (c .before .before .before .before .before .if1 .left)) (c .before .before .before .before .info-bits .result) (c .before .before .before .before .info-bits .ensures) (c .before .before .before .if2 .left) (c .before .before .wide .result) (c .before .before .wide .ensures) (c .before .if3 .left) in
+    let s = c .before .before .before .before .before .before .before .before .before .before .before in
+    let r = encode-ready (s .args .n) (s .args .lens .now) (s .args .addrs .now) (s .args .info .now) (s .args .out .now) (sym (c .before .before .before .before .before .before .refusal .ensures) ∙ (c .before .before .before .before .before .if1 .left)) (c .before .before .before .before .info-bits .result) (c .before .before .before .before .info-bits .ensures) (c .before .before .before .if2 .left) (c .before .before .wide .result) (c .before .before .wide .ensures) (c .before .if3 .left) in
     ((sym (c .before .before .before .before .before .before .refusal .ensures) ∙ (c .before .before .before .before .before .if1 .left)), r .0, r .1)
 
 same-length : tie.Need-same-length
 same-length c = search needs
 
 returns-4 : tie.Need-returns-4
-returns-4 c = encode-done (c .before .before .before .before .before .before .before .before .before .before .before .before .before .before .args .n) (c .before .before .before .before .before .before .before .before .before .before .before .before .before .before .args .lens .now) (c .before .before .before .before .before .before .before .before .before .before .before .before .before .before .args .addrs .now) (c .before .before .before .before .before .before .before .before .before .before .before .before .before .before .args .info .now) (c .before .before .before .before .before .before .before .before .before .before .before .before .before .before .args .out .now) (sym (c .before .before .before .before .before .before .before .before .before .refusal .ensures) ∙ (c .before .before .before .before .before .before .before .before .if1 .left)) (c .before .before .before .before .before .before .before .info-bits .result) (c .before .before .before .before .before .before .before .info-bits .ensures) (c .before .before .before .before .before .before .if2 .left) (c .before .before .before .before .before .wide .result) (c .before .before .before .before .before .wide .ensures) (c .before .before .before .before .if3 .left) _ (c .before .before .encode-of .ensures)
+returns-4 c =
+    let s = c .before .before .before .before .before .before .before .before .before .before .before .before .before .before in
+    encode-done (s .args .n) (s .args .lens .now) (s .args .addrs .now) (s .args .info .now) (s .args .out .now) (sym (c .before .before .before .before .before .before .before .before .before .refusal .ensures) ∙ (c .before .before .before .before .before .before .before .before .if1 .left)) (c .before .before .before .before .before .before .before .info-bits .result) (c .before .before .before .before .before .before .before .info-bits .ensures) (c .before .before .before .before .before .before .if2 .left) (c .before .before .before .before .before .wide .result) (c .before .before .before .before .before .wide .ensures) (c .before .before .before .before .if3 .left) _ (c .before .before .encode-of .ensures)
 
 pub encode-spec : {M : Type 1} → statement M
 encode-spec =

@@ -1,3 +1,4 @@
+-- `ldpc::new` meets its contract. Assumes nothing.
 use Rattle.ldpc.proofs.Exits.{fits, new-refused, new-short, new-ready, new-done}
 use lib.Seq.{length-take-le}
 use mathlib.Core.Path.{_≡_, refl, sym, ap, _∙_}
@@ -5,53 +6,72 @@ use native.Mathlib.Omega.{arith}
 use borrow.Author.Needs.{needs}
 use Rattle.ldpc.proofs.new.Statement.{statement}
 use Rattle.ldpc.proofs.new.Tie as tie
-use Rattle.ldpc.proofs.new.Reads as reads
-use Rattle.ldpc.proofs.new.Lts as lts
-use Rattle.ldpc_lists.proofs.build.Reads as build-reads
-use Rattle.ldpc_shape.proofs.refusal.Reads as refusal-reads
-use Rattle.ldpc_shape.proofs.wide.Reads as wide-reads
 
 refusal-requires : tie.Need-refusal-requires
 refusal-requires c κs = search needs
 
 returns : tie.Need-returns
-returns c = new-refused (c .before .before .before .before .before .args .n) (c .before .before .before .before .before .args .lens .now) (c .before .before .before .before .before .args .addrs .now) (c .before .before .before .before .before .args .lists .now) (c .before .refusal .result) (c .before .refusal .ensures) (c .if1 .taken)
+returns c =
+    let s = c .before .before .before .before .before in
+    new-refused (s .args .n) (s .args .lens .now) (s .args .addrs .now) (s .args .lists .now) (c .before .refusal .result) (c .before .refusal .ensures) (c .if1 .taken)
 
 cast-k : tie.Need-cast-k
-cast-k c = omega (arith, fits (c .before .before .before .before .before .args .n) (c .before .before .before .before .before .args .lens .now) (c .before .before .before .before .before .args .addrs .now) (sym (c .before .refusal .ensures) ∙ (c .if1 .left)))
+cast-k c =
+    let s = c .before .before .before .before .before in
+    omega (arith, fits (s .args .n) (s .args .lens .now) (s .args .addrs .now) (sym (c .before .refusal .ensures) ∙ (c .if1 .left)))
 
 mul-k : tie.Need-mul-k
-mul-k c = omega (arith, fits (c .before .before .before .before .before .args .n) (c .before .before .before .before .before .args .lens .now) (c .before .before .before .before .before .args .addrs .now) (sym (c .before .refusal .ensures) ∙ (c .if1 .left)))
+mul-k c =
+    let s = c .before .before .before .before .before in
+    omega (arith, fits (s .args .n) (s .args .lens .now) (s .args .addrs .now) (sym (c .before .refusal .ensures) ∙ (c .if1 .left)))
 
 sub-p : tie.Need-sub-p
-sub-p c = omega (arith, fits (c .before .before .before .before .before .args .n) (c .before .before .before .before .before .args .lens .now) (c .before .before .before .before .before .args .addrs .now) (sym (c .before .refusal .ensures) ∙ (c .if1 .left)))
+sub-p c =
+    let s = c .before .before .before .before .before in
+    omega (arith, fits (s .args .n) (s .args .lens .now) (s .args .addrs .now) (sym (c .before .refusal .ensures) ∙ (c .if1 .left)))
 
 cast-e : tie.Need-cast-e
-cast-e c = omega (arith, fits (c .before .before .before .before .before .args .n) (c .before .before .before .before .before .args .lens .now) (c .before .before .before .before .before .args .addrs .now) (sym (c .before .refusal .ensures) ∙ (c .if1 .left)))
+cast-e c =
+    let s = c .before .before .before .before .before in
+    omega (arith, fits (s .args .n) (s .args .lens .now) (s .args .addrs .now) (sym (c .before .refusal .ensures) ∙ (c .if1 .left)))
 
 mul-e : tie.Need-mul-e
-mul-e c = omega (arith, fits (c .before .before .before .before .before .args .n) (c .before .before .before .before .before .args .lens .now) (c .before .before .before .before .before .args .addrs .now) (sym (c .before .refusal .ensures) ∙ (c .if1 .left)))
+mul-e c =
+    let s = c .before .before .before .before .before in
+    omega (arith, fits (s .args .n) (s .args .lens .now) (s .args .addrs .now) (sym (c .before .refusal .ensures) ∙ (c .if1 .left)))
 
 mul-e-2 : tie.Need-mul-e-2
-mul-e-2 c = omega (arith, fits (c .before .before .before .before .before .args .n) (c .before .before .before .before .before .args .lens .now) (c .before .before .before .before .before .args .addrs .now) (sym (c .before .refusal .ensures) ∙ (c .if1 .left)))
+mul-e-2 c =
+    let s = c .before .before .before .before .before in
+    omega (arith, fits (s .args .n) (s .args .lens .now) (s .args .addrs .now) (sym (c .before .refusal .ensures) ∙ (c .if1 .left)))
 
 add-e : tie.Need-add-e
-add-e c = omega (arith, fits (c .before .before .before .before .before .args .n) (c .before .before .before .before .before .args .lens .now) (c .before .before .before .before .before .args .addrs .now) (sym (c .before .refusal .ensures) ∙ (c .if1 .left)))
+add-e c =
+    let s = c .before .before .before .before .before in
+    omega (arith, fits (s .args .n) (s .args .lens .now) (s .args .addrs .now) (sym (c .before .refusal .ensures) ∙ (c .if1 .left)))
 
 sub-e : tie.Need-sub-e
-sub-e c = omega (arith, fits (c .before .before .before .before .before .args .n) (c .before .before .before .before .before .args .lens .now) (c .before .before .before .before .before .args .addrs .now) (sym (c .before .refusal .ensures) ∙ (c .if1 .left)))
+sub-e c =
+    let s = c .before .before .before .before .before in
+    omega (arith, fits (s .args .n) (s .args .lens .now) (s .args .addrs .now) (sym (c .before .refusal .ensures) ∙ (c .if1 .left)))
 
 add-wide : tie.Need-add-wide
-add-wide c = omega (arith, fits (c .before .before .before .before .before .args .n) (c .before .before .before .before .before .args .lens .now) (c .before .before .before .before .before .args .addrs .now) (sym (c .before .refusal .ensures) ∙ (c .if1 .left)))
+add-wide c =
+    let s = c .before .before .before .before .before in
+    omega (arith, fits (s .args .n) (s .args .lens .now) (s .args .addrs .now) (sym (c .before .refusal .ensures) ∙ (c .if1 .left)))
 
 add-wide-2 : tie.Need-add-wide-2
-add-wide-2 c = omega (arith, fits (c .before .before .before .before .before .args .n) (c .before .before .before .before .before .args .lens .now) (c .before .before .before .before .before .args .addrs .now) (sym (c .before .refusal .ensures) ∙ (c .if1 .left)))
+add-wide-2 c =
+    let s = c .before .before .before .before .before in
+    omega (arith, fits (s .args .n) (s .args .lens .now) (s .args .addrs .now) (sym (c .before .refusal .ensures) ∙ (c .if1 .left)))
 
 wide-requires : tie.Need-wide-requires
 wide-requires c κs = search needs
 
 returns-2 : tie.Need-returns-2
-returns-2 c = new-short (c .before .before .before .before .before .before .before .args .n) (c .before .before .before .before .before .before .before .args .lens .now) (c .before .before .before .before .before .before .before .args .addrs .now) (c .before .before .before .before .before .before .before .args .lists .now) (sym (c .before .before .before .refusal .ensures) ∙ (c .before .before .if1 .left)) (c .before .wide .result) (c .before .wide .ensures) (c .if2 .taken)
+returns-2 c =
+    let s = c .before .before .before .before .before .before .before in
+    new-short (s .args .n) (s .args .lens .now) (s .args .addrs .now) (s .args .lists .now) (sym (c .before .before .before .refusal .ensures) ∙ (c .before .before .if1 .left)) (c .before .wide .result) (c .before .wide .ensures) (c .if2 .taken)
 
 slice-relend-prefix-build : tie.Need-slice-relend-prefix-build
 slice-relend-prefix-build c = search needs
@@ -60,13 +80,17 @@ slice-aggregate-build : tie.Need-slice-aggregate-build
 slice-aggregate-build c = sym (length-take-le (c .before .before .wide .result) (c .before .before .before .before .before .before .before .before .args .lists .now) (c .before .if2 .left))
 
 build-requires : tie.Need-build-requires
-build-requires c κs = ((sym (c .before .before .before .before .refusal .ensures) ∙ (c .before .before .before .if1 .left)), new-ready (c .before .before .before .before .before .before .before .before .args .n) (c .before .before .before .before .before .before .before .before .args .lens .now) (c .before .before .before .before .before .before .before .before .args .addrs .now) (c .before .before .before .before .before .before .before .before .args .lists .now) (sym (c .before .before .before .before .refusal .ensures) ∙ (c .before .before .before .if1 .left)) (c .before .before .wide .result) (c .before .before .wide .ensures) (c .before .if2 .left))
+build-requires c κs =
+    let s = c .before .before .before .before .before .before .before .before in
+    ((sym (c .before .before .before .before .refusal .ensures) ∙ (c .before .before .before .if1 .left)), new-ready (s .args .n) (s .args .lens .now) (s .args .addrs .now) (s .args .lists .now) (sym (c .before .before .before .before .refusal .ensures) ∙ (c .before .before .before .if1 .left)) (c .before .before .wide .result) (c .before .before .wide .ensures) (c .before .if2 .left))
 
 same-length : tie.Need-same-length
 same-length c = search needs
 
 returns-3 : tie.Need-returns-3
-returns-3 c = new-done (c .before .before .before .before .before .before .before .before .before .before .before .args .n) (c .before .before .before .before .before .before .before .before .before .before .before .args .lens .now) (c .before .before .before .before .before .before .before .before .before .before .before .args .addrs .now) (c .before .before .before .before .before .before .before .before .before .before .before .args .lists .now) (sym (c .before .before .before .before .before .before .before .refusal .ensures) ∙ (c .before .before .before .before .before .before .if1 .left)) (c .before .before .before .before .before .wide .result) (c .before .before .before .before .before .wide .ensures) (c .before .before .before .before .if2 .left) _ (c .before .before .build .ensures)
+returns-3 c =
+    let s = c .before .before .before .before .before .before .before .before .before .before .before in
+    new-done (s .args .n) (s .args .lens .now) (s .args .addrs .now) (s .args .lists .now) (sym (c .before .before .before .before .before .before .before .refusal .ensures) ∙ (c .before .before .before .before .before .before .if1 .left)) (c .before .before .before .before .before .wide .result) (c .before .before .before .before .before .wide .ensures) (c .before .before .before .before .if2 .left) _ (c .before .before .build .ensures)
 
 pub new-spec : {M : Type 1} → statement M
 new-spec =

@@ -1,32 +1,34 @@
+-- `ldpc::syndrome_weight` meets its contract. Assumes nothing.
 use Rattle.ldpc.proofs.Exits.{weight-refused, weight-other, weight-done}
 use mathlib.Core.Path.{_≡_, refl, sym, ap, _∙_}
 use native.Mathlib.Omega.{arith}
 use borrow.Author.Needs.{needs}
 use Rattle.ldpc.proofs.syndrome_weight.Statement.{statement}
 use Rattle.ldpc.proofs.syndrome_weight.Tie as tie
-use Rattle.ldpc.proofs.syndrome_weight.Reads as reads
-use Rattle.ldpc.proofs.syndrome_weight.Lts as lts
-use Rattle.ldpc_encode.proofs.weight_of.Reads as weight-of-reads
-use Rattle.ldpc_shape.proofs.refusal.Reads as refusal-reads
-use Rattle.ldpc_shape.proofs.wide.Reads as wide-reads
 
 refusal-requires : tie.Need-refusal-requires
 refusal-requires c κs = search needs
 
 returns : tie.Need-returns
-returns c = weight-refused (c .before .before .before .before .before .args .n) (c .before .before .before .before .before .args .lens .now) (c .before .before .before .before .before .args .addrs .now) (c .before .before .before .before .before .args .bits .now) (c .before .refusal .result) (c .before .refusal .ensures) (c .if1 .taken)
+returns c =
+    let s = c .before .before .before .before .before in
+    weight-refused (s .args .n) (s .args .lens .now) (s .args .addrs .now) (s .args .bits .now) (c .before .refusal .result) (c .before .refusal .ensures) (c .if1 .taken)
 
 wide-requires : tie.Need-wide-requires
 wide-requires c κs = search needs
 
 returns-2 : tie.Need-returns-2
-returns-2 c = weight-other (c .before .before .before .before .before .before .before .args .n) (c .before .before .before .before .before .before .before .args .lens .now) (c .before .before .before .before .before .before .before .args .addrs .now) (c .before .before .before .before .before .before .before .args .bits .now) (sym (c .before .before .before .refusal .ensures) ∙ (c .before .before .if1 .left)) (c .before .wide .result) (c .before .wide .ensures) (c .if2 .taken)
+returns-2 c =
+    let s = c .before .before .before .before .before .before .before in
+    weight-other (s .args .n) (s .args .lens .now) (s .args .addrs .now) (s .args .bits .now) (sym (c .before .before .before .refusal .ensures) ∙ (c .before .before .if1 .left)) (c .before .wide .result) (c .before .wide .ensures) (c .if2 .taken)
 
 weight-of-requires : tie.Need-weight-of-requires
 weight-of-requires c κs = ((sym (c .before .before .before .refusal .ensures) ∙ (c .before .before .if1 .left)), (c .if2 .left) ∙ (c .before .wide .ensures))
 
 returns-3 : tie.Need-returns-3
-returns-3 c = weight-done (c .before .before .before .before .before .before .before .before .args .n) (c .before .before .before .before .before .before .before .before .args .lens .now) (c .before .before .before .before .before .before .before .before .args .addrs .now) (c .before .before .before .before .before .before .before .before .args .bits .now) (sym (c .before .before .before .before .refusal .ensures) ∙ (c .before .before .before .if1 .left)) (c .before .before .wide .result) (c .before .before .wide .ensures) (c .before .if2 .left) (c .weight-of .result) (c .weight-of .ensures)
+returns-3 c =
+    let s = c .before .before .before .before .before .before .before .before in
+    weight-done (s .args .n) (s .args .lens .now) (s .args .addrs .now) (s .args .bits .now) (sym (c .before .before .before .before .refusal .ensures) ∙ (c .before .before .before .if1 .left)) (c .before .before .wide .result) (c .before .before .wide .ensures) (c .before .if2 .left) (c .weight-of .result) (c .weight-of .ensures)
 
 pub syndrome-weight-spec : {M : Type 1} → statement M
 syndrome-weight-spec =

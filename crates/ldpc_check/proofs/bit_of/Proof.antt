@@ -1,3 +1,4 @@
+-- `ldpc_check::bit_of` meets its contract. Assumes nothing.
 use Rattle.ldpc_edges.specs.Insert.{place}
 use native.Mathlib.Nat.{mod-lt, div-lt-iff-lt-mul}
 use Prim.Native.Nat.{_+_, _-_, _/_, _%_}
@@ -6,8 +7,6 @@ use native.Mathlib.Omega.{arith}
 use borrow.Author.Needs.{needs}
 use Rattle.ldpc_check.proofs.bit_of.Statement.{statement}
 use Rattle.ldpc_check.proofs.bit_of.Tie as tie
-use Rattle.ldpc_check.proofs.bit_of.Reads as reads
-use Rattle.ldpc_check.proofs.bit_of.Lts as lts
 
 div-result : tie.Need-div-result
 div-result c = search needs

@@ -1,3 +1,4 @@
+-- `ldpc_check::check_row` meets its contract. Assumes nothing.
 use Rattle.ldpc_check.proofs.Loops.{found, row-start, row-size, row-room, row-hit, row-miss, row-end, found-fits}
 use native.Mathlib.Nat.{mod-lt}
 use lib.ListN.{length, drop}
@@ -8,12 +9,6 @@ use borrow.Author.Needs.{needs}
 use native.Mathlib.Omega.{arith}
 use Rattle.ldpc_check.proofs.check_row.Statement.{statement}
 use Rattle.ldpc_check.proofs.check_row.Tie as tie
-use Rattle.ldpc_check.proofs.check_row.Reads as reads
-use Rattle.ldpc_check.proofs.check_row.Lts as lts
-use Rattle.ldpc_check.proofs.bit_of.Reads as bit-of-reads
-use Rattle.ldpc_check.proofs.insert_bit.Reads as insert-bit-reads
-use Rattle.ldpc_shape.proofs.residue.Reads as residue-reads
-use Rattle.ldpc_shape.proofs.wide.Reads as wide-reads
 
 abbrev Inv-loop : tie.InvT-loop
 Inv-loop out₀ row q c first l n₀ i₀ out n i = (i ≤ length row) × (n ≡ length (found q c first row i)) × (out ≡ found q c first row i ++ drop n out₀)
@@ -45,22 +40,28 @@ residue-requires : tie.Need-residue-requires Inv-loop μ-loop
 residue-requires c κs = search needs
 
 bit-of-requires : tie.Need-bit-of-requires Inv-loop μ-loop
-bit-of-requires c κs = ((c .before .before .before .before .before .before .before .before .before .pre .0), (c .before .before .before .before .before .before .before .before .before .pre .1), (c .before .before .before .before .before .before .before .before .before .pre .2))
+bit-of-requires c κs =
+    let s = c .before .before .before .before .before .before .before .before .before in
+    ((s .pre .0), (s .pre .1), (s .pre .2))
 
 add-insert-bit : tie.Need-add-insert-bit Inv-loop μ-loop
 add-insert-bit c = omega (arith, (c .bit-of .ensures .1), (c .before .before .before .before .before .before .before .before .before .before .pre .3))
 
 insert-bit-requires : tie.Need-insert-bit-requires Inv-loop μ-loop
 insert-bit-requires c κs =
-    row-room (c .before .before .before .before .before .before .before .before .before .before .args .q) (c .before .before .before .before .before .before .before .before .before .before .args .c) (c .before .before .before .before .before .before .before .before .before .before .args .first) (c .before .before .before .before .before .before .before .before .before .before .args .row .now) (c .before .before .before .before .before .before .before .before .before .before .pre .0) (c .before .before .before .before .before .before .before .before .before .before .pre .1) (c .before .before .before .before .before .before .loop .i) (search needs) (c .before .before .before .before .before .before .loop .inv .0) (c .before .before .before .residue .result) (c .before .before .before .before .before .before .before .wide .result) (c .before .before .before .residue .ensures .0) (c .before .before .before .before .before .before .before .wide .ensures)
-    (c .before .before .before .before .before .before .loop .out) (c .before .before .before .before .before .before .before .before .before .before .args .out .now) (c .before .before .before .before .before .before .loop .n) (c .before .before .before .before .before .before .loop .inv .1) (c .before .before .before .before .before .before .loop .inv .2) (c .before .before .before .before .before .before .before .before .before .before .pre .4) (c .before .before .if1 .taken)
+    let s = c .before .before .before .before .before .before .before .before .before .before in
+    let l = c .before .before .before .before .before .before .loop in
+    row-room (s .args .q) (s .args .c) (s .args .first) (s .args .row .now) (s .pre .0) (s .pre .1) (l .i) (search needs) (l .inv .0) (c .before .before .before .residue .result) (c .before .before .before .before .before .before .before .wide .result) (c .before .before .before .residue .ensures .0) (c .before .before .before .before .before .before .before .wide .ensures)
+    (l .out) (s .args .out .now) (l .n) (l .inv .1) (l .inv .2) (s .pre .4) (c .before .before .if1 .taken)
 
 add-n : tie.Need-add-n Inv-loop μ-loop
 add-n c =
-    let f = row-room (c .before .before .before .before .before .before .before .before .before .before .before .before .before .args .q) (c .before .before .before .before .before .before .before .before .before .before .before .before .before .args .c) (c .before .before .before .before .before .before .before .before .before .before .before .before .before .args .first) (c .before .before .before .before .before .before .before .before .before .before .before .before .before .args .row .now) (c .before .before .before .before .before .before .before .before .before .before .before .before .before .pre .0) (c .before .before .before .before .before .before .before .before .before .before .before .before .before .pre .1) (c .before .before .before .before .before .before .before .before .before .loop .i) (search needs) (c .before .before .before .before .before .before .before .before .before .loop .inv .0) (c .before .before .before .before .before .before .residue .result) (c .before .before .before .before .before .before .before .before .before .before .wide .result) (c .before .before .before .before .before .before .residue .ensures .0) (c .before .before .before .before .before .before .before .before .before .before .wide .ensures)
-    (c .before .before .before .before .before .before .before .before .before .loop .out) (c .before .before .before .before .before .before .before .before .before .before .before .before .before .args .out .now) (c .before .before .before .before .before .before .before .before .before .loop .n) (c .before .before .before .before .before .before .before .before .before .loop .inv .1) (c .before .before .before .before .before .before .before .before .before .loop .inv .2) (c .before .before .before .before .before .before .before .before .before .before .before .before .before .pre .4) (c .before .before .before .before .before .if1 .taken) in
-    let e = row-size (c .before .before .before .before .before .before .before .before .before .before .before .before .before .args .q) (c .before .before .before .before .before .before .before .before .before .before .before .before .before .args .c) (c .before .before .before .before .before .before .before .before .before .before .before .before .before .args .first) (c .before .before .before .before .before .before .before .before .before .before .before .before .before .args .row .now) (c .before .before .before .before .before .before .before .before .before .before .before .before .before .pre .0) (c .before .before .before .before .before .before .before .before .before .before .before .before .before .pre .1) (c .before .before .before .before .before .before .before .before .before .loop .i) (search needs) (c .before .before .before .before .before .before .before .before .before .loop .inv .0) (c .before .before .before .before .before .before .residue .result) (c .before .before .before .before .before .before .before .before .before .before .wide .result) (c .before .before .before .before .before .before .residue .ensures .0) (c .before .before .before .before .before .before .before .before .before .before .wide .ensures)
-    (c .before .before .before .before .before .before .before .before .before .loop .out) (c .before .before .before .before .before .before .before .before .before .before .before .before .before .args .out .now) (c .before .before .before .before .before .before .before .before .before .loop .n) (c .before .before .before .before .before .before .before .before .before .loop .inv .1) (c .before .before .before .before .before .before .before .before .before .loop .inv .2) (c .before .before .before .before .before .before .before .before .before .before .before .before .before .pre .4) in
+    let s = c .before .before .before .before .before .before .before .before .before .before .before .before .before in
+    let l = c .before .before .before .before .before .before .before .before .before .loop in
+    let f = row-room (s .args .q) (s .args .c) (s .args .first) (s .args .row .now) (s .pre .0) (s .pre .1) (l .i) (search needs) (l .inv .0) (c .before .before .before .before .before .before .residue .result) (c .before .before .before .before .before .before .before .before .before .before .wide .result) (c .before .before .before .before .before .before .residue .ensures .0) (c .before .before .before .before .before .before .before .before .before .before .wide .ensures)
+    (l .out) (s .args .out .now) (l .n) (l .inv .1) (l .inv .2) (s .pre .4) (c .before .before .before .before .before .if1 .taken) in
+    let e = row-size (s .args .q) (s .args .c) (s .args .first) (s .args .row .now) (s .pre .0) (s .pre .1) (l .i) (search needs) (l .inv .0) (c .before .before .before .before .before .before .residue .result) (c .before .before .before .before .before .before .before .before .before .before .wide .result) (c .before .before .before .before .before .before .residue .ensures .0) (c .before .before .before .before .before .before .before .before .before .before .wide .ensures)
+    (l .out) (s .args .out .now) (l .n) (l .inv .1) (l .inv .2) (s .pre .4) in
     omega (arith, f, e)
 
 loop-less : tie.Need-loop-less Inv-loop μ-loop
@@ -68,9 +69,11 @@ loop-less c = search needs
 
 loop-again : tie.Need-loop-again Inv-loop μ-loop
 loop-again c =
-    let r = row-hit (c .before .before .before .before .before .before .before .before .before .before .before .before .before .args .q) (c .before .before .before .before .before .before .before .before .before .before .before .before .before .args .c) (c .before .before .before .before .before .before .before .before .before .before .before .before .before .args .first) (c .before .before .before .before .before .before .before .before .before .before .before .before .before .args .row .now) (c .before .before .before .before .before .before .before .before .before .before .before .before .before .pre .0) (c .before .before .before .before .before .before .before .before .before .before .before .before .before .pre .1) (c .before .before .before .before .before .before .before .before .before .loop .i) (search needs) (c .before .before .before .before .before .before .before .before .before .loop .inv .0) (c .before .before .before .before .before .before .residue .result) (c .before .before .before .before .before .before .before .before .before .before .wide .result) (c .before .before .before .before .before .before .residue .ensures .0) (c .before .before .before .before .before .before .before .before .before .before .wide .ensures)
-    (c .before .before .before .before .before .before .before .before .before .loop .out) (c .before .before .before .before .before .before .before .before .before .before .before .before .before .args .out .now) (c .before .before .before .before .before .before .before .before .before .loop .n) (c .before .before .before .before .before .before .before .before .before .loop .inv .1) (c .before .before .before .before .before .before .before .before .before .loop .inv .2) (c .before .before .before .before .before .before .before .before .before .before .before .before .before .pre .4) (c .before .before .before .before .before .if1 .taken) ((c .before .before .before .before .before .before .before .before .before .before .before .before .before .args .first) + (c .before .before .before .bit-of .result)) ((c .before .before .before .before .before .before .before .before .before .loop .n) + 1) (c .before .before .insert-bit .last .0)
-    (ap (λ z. (c .before .before .before .before .before .before .before .before .before .before .before .before .before .args .first) + z) (c .before .before .before .bit-of .ensures .0)) (c .before .before .insert-bit .ensures) refl in
+    let s = c .before .before .before .before .before .before .before .before .before .before .before .before .before in
+    let l = c .before .before .before .before .before .before .before .before .before .loop in
+    let r = row-hit (s .args .q) (s .args .c) (s .args .first) (s .args .row .now) (s .pre .0) (s .pre .1) (l .i) (search needs) (l .inv .0) (c .before .before .before .before .before .before .residue .result) (c .before .before .before .before .before .before .before .before .before .before .wide .result) (c .before .before .before .before .before .before .residue .ensures .0) (c .before .before .before .before .before .before .before .before .before .before .wide .ensures)
+    (l .out) (s .args .out .now) (l .n) (l .inv .1) (l .inv .2) (s .pre .4) (c .before .before .before .before .before .if1 .taken) ((s .args .first) + (c .before .before .before .bit-of .result)) ((l .n) + 1) (c .before .before .insert-bit .last .0)
+    (ap (λ z. (s .args .first) + z) (c .before .before .before .bit-of .ensures .0)) (c .before .before .insert-bit .ensures) refl in
     (omega arith, r .0, r .1)
 
 loop-less-2 : tie.Need-loop-less-2 Inv-loop μ-loop
@@ -78,15 +81,23 @@ loop-less-2 c = search needs
 
 loop-again-2 : tie.Need-loop-again-2 Inv-loop μ-loop
 loop-again-2 c =
-    let r = row-miss (c .before .before .before .before .before .before .before .before .args .q) (c .before .before .before .before .before .before .before .before .args .c) (c .before .before .before .before .before .before .before .before .args .first) (c .before .before .before .before .before .before .before .before .args .row .now) (c .before .before .before .before .before .before .before .before .pre .0) (c .before .before .before .before .before .before .before .before .pre .1) (c .before .before .before .before .loop .i) (search needs) (c .before .before .before .before .loop .inv .0) (c .before .residue .result) (c .before .before .before .before .before .wide .result) (c .before .residue .ensures .0) (c .before .before .before .before .before .wide .ensures)
-    (c .before .before .before .before .loop .out) (c .before .before .before .before .before .before .before .before .args .out .now) (c .before .before .before .before .loop .n) (c .before .before .before .before .loop .inv .1) (c .before .before .before .before .loop .inv .2) (c .before .before .before .before .before .before .before .before .pre .4) (c .if1 .left) (c .before .before .before .before .loop .n) (c .before .before .before .before .loop .out) refl refl in
+    let s = c .before .before .before .before .before .before .before .before in
+    let l = c .before .before .before .before .loop in
+    let r = row-miss (s .args .q) (s .args .c) (s .args .first) (s .args .row .now) (s .pre .0) (s .pre .1) (l .i) (search needs) (l .inv .0) (c .before .residue .result) (c .before .before .before .before .before .wide .result) (c .before .residue .ensures .0) (c .before .before .before .before .before .wide .ensures)
+    (l .out) (s .args .out .now) (l .n) (l .inv .1) (l .inv .2) (s .pre .4) (c .if1 .left) (l .n) (l .out) refl refl in
     (omega arith, r .0, r .1)
 
 same-length : tie.Need-same-length Inv-loop μ-loop
-same-length c = found-fits (c .before .before .before .before .before .args .q) (c .before .before .before .before .before .args .c) (c .before .before .before .before .before .args .first) (c .before .before .before .before .before .args .row .now) (c .before .before .before .before .before .pre .0) (c .before .before .before .before .before .pre .1) (c .before .loop .out) (c .before .before .before .before .before .args .out .now) (c .before .loop .n) (c .before .loop .i) (c .before .loop .inv .1) (c .before .loop .inv .2) (c .before .before .before .before .before .pre .4)
+same-length c =
+    let s = c .before .before .before .before .before in
+    let l = c .before .loop in
+    found-fits (s .args .q) (s .args .c) (s .args .first) (s .args .row .now) (s .pre .0) (s .pre .1) (l .out) (s .args .out .now) (l .n) (l .i) (l .inv .1) (l .inv .2) (s .pre .4)
 
 returns : tie.Need-returns Inv-loop μ-loop
-returns c = row-end (c .before .before .before .before .before .args .q) (c .before .before .before .before .before .args .c) (c .before .before .before .before .before .args .first) (c .before .before .before .before .before .args .row .now) (c .before .before .before .before .before .pre .0) (c .before .before .before .before .before .pre .1) (c .before .loop .out) (c .before .before .before .before .before .args .out .now) (c .before .loop .n) (c .before .loop .i) (search needs) (c .before .loop .inv .1) (c .before .loop .inv .2)
+returns c =
+    let s = c .before .before .before .before .before in
+    let l = c .before .loop in
+    row-end (s .args .q) (s .args .c) (s .args .first) (s .args .row .now) (s .pre .0) (s .pre .1) (l .out) (s .args .out .now) (l .n) (l .i) (search needs) (l .inv .1) (l .inv .2)
 
 pub check-row-spec : {M : Type 1} → statement M
 check-row-spec =

@@ -1,3 +1,4 @@
+-- `ldpc_check::check_rows` meets its contract. Assumes nothing.
 use Rattle.ldpc_check.proofs.Loops.{allOf, restOf, rest-start, rest-end, rows-end-fits, rest-next, list-fits, rows-size, rows-below, rows-all, rows-kept, rows-done}
 use Rattle.ldpc_edges.specs.Code.{only, ofBits}
 use Rattle.ldpc_shape.specs.Shape.{total}
@@ -9,10 +10,6 @@ use borrow.Author.Needs.{needs}
 use native.Mathlib.Omega.{arith}
 use Rattle.ldpc_check.proofs.check_rows.Statement.{statement}
 use Rattle.ldpc_check.proofs.check_rows.Tie as tie
-use Rattle.ldpc_check.proofs.check_rows.Reads as reads
-use Rattle.ldpc_check.proofs.check_rows.Lts as lts
-use Rattle.ldpc_check.proofs.check_row.Reads as check-row-reads
-use Rattle.ldpc_shape.proofs.wide.Reads as wide-reads
 
 abbrev Inv-loop : tie.InvT-loop
 Inv-loop out₀ lens addrs q c n₀ g₀ from₀ first₀ out n g from first =
@@ -23,7 +20,9 @@ abbrev μ-loop : tie.MeasureT-loop
 μ-loop out₀ lens addrs q c n₀ g₀ from₀ first₀ out n g from first = length lens - g
 
 loop-holds : tie.Need-loop-holds Inv-loop μ-loop
-loop-holds c = (omega arith, omega arith, omega (arith, (c .before .before .before .pre .4)), refl, omega arith, rest-start (c .before .before .before .args .q) (c .before .before .before .args .c) (c .before .before .before .args .lens .now) (c .before .before .before .args .addrs .now), refl)
+loop-holds c =
+    let s = c .before .before .before in
+    (omega arith, omega arith, omega (arith, (s .pre .4)), refl, omega arith, rest-start (s .args .q) (s .args .c) (s .args .lens .now) (s .args .addrs .now), refl)
 
 mul-wide : tie.Need-mul-wide Inv-loop μ-loop
 mul-wide c = search needs
@@ -35,7 +34,10 @@ wide-requires : tie.Need-wide-requires Inv-loop μ-loop
 wide-requires c κs = search needs
 
 add-end : tie.Need-add-end Inv-loop μ-loop
-add-end c = omega (arith, rows-end-fits (c .before .before .before .before .before .before .before .args .q) (c .before .before .before .before .before .before .before .args .c) (c .before .before .before .before .before .before .before .args .lens .now) (c .before .before .before .before .before .before .before .args .addrs .now) (c .before .before .before .loop .g) (c .before .before .before .loop .from) (search needs) (c .wide .result) (c .wide .ensures) (c .before .before .before .loop .inv .2))
+add-end c =
+    let s = c .before .before .before .before .before .before .before in
+    let l = c .before .before .before .loop in
+    omega (arith, rows-end-fits (s .args .q) (s .args .c) (s .args .lens .now) (s .args .addrs .now) (l .g) (l .from) (search needs) (c .wide .result) (c .wide .ensures) (l .inv .2))
 
 mul-check-row : tie.Need-mul-check-row Inv-loop μ-loop
 mul-check-row c = search needs
@@ -59,21 +61,29 @@ part-check-row-start-2 : tie.Need-part-check-row-start-2 Inv-loop μ-loop
 part-check-row-start-2 c = search needs
 
 part-check-row-end-2 : tie.Need-part-check-row-end-2 Inv-loop μ-loop
-part-check-row-end-2 c = omega (arith, rows-end-fits (c .before .before .before .before .before .before .before .before .args .q) (c .before .before .before .before .before .before .before .before .args .c) (c .before .before .before .before .before .before .before .before .args .lens .now) (c .before .before .before .before .before .before .before .before .args .addrs .now) (c .before .before .before .before .loop .g) (c .before .before .before .before .loop .from) (search needs) (c .before .wide .result) (c .before .wide .ensures) (c .before .before .before .before .loop .inv .2))
+part-check-row-end-2 c =
+    let s = c .before .before .before .before .before .before .before .before in
+    let l = c .before .before .before .before .loop in
+    omega (arith, rows-end-fits (s .args .q) (s .args .c) (s .args .lens .now) (s .args .addrs .now) (l .g) (l .from) (search needs) (c .before .wide .result) (c .before .wide .ensures) (l .inv .2))
 
 check-row-requires : tie.Need-check-row-requires Inv-loop μ-loop
 unfolding allOf
-check-row-requires c κs = (
-  (c .before .before .before .before .before .before .before .before .before .pre .1),
-  (c .before .before .before .before .before .before .before .before .before .pre .0),
-  (c .before .before .before .before .before .before .before .before .before .pre .2),
-  omega (arith, (c .before .before .before .before .before .loop .inv .1), (c .before .before .before .before .before .before .before .before .before .pre .3)),
-  list-fits (c .before .before .before .before .before .loop .out) (c .before .before .before .before .before .before .before .before .before .args .out .now) (c .before .before .before .before .before .loop .n) (allOf (c .before .before .before .before .before .before .before .before .before .args .q) (c .before .before .before .before .before .before .before .before .before .args .c) (c .before .before .before .before .before .before .before .before .before .args .lens .now) (c .before .before .before .before .before .before .before .before .before .args .addrs .now)) (only (c .before .before .before .before .before .before .before .before .before .args .c) (ofBits (374 * (c .before .before .before .before .before .before .before .before .before .args .q)) (c .before .before .before .before .before .before .before .before .before .args .q) 374 (c .before .before .before .before .before .loop .first) 0 (take ((c .before .before .before .before .before .loop .from) + (c .before .before .wide .result) - (c .before .before .before .before .before .loop .from)) (drop (c .before .before .before .before .before .loop .from) (c .before .before .before .before .before .before .before .before .before .args .addrs .now))))) (restOf (c .before .before .before .before .before .before .before .before .before .args .q) (c .before .before .before .before .before .before .before .before .before .args .c) (c .before .before .before .before .before .before .before .before .before .args .lens .now) (c .before .before .before .before .before .before .before .before .before .args .addrs .now) ((c .before .before .before .before .before .loop .g) + 1) ((c .before .before .before .before .before .loop .from) + (c .before .before .wide .result))) (c .before .before .before .before .before .loop .inv .3) (c .before .before .before .before .before .loop .inv .4) ((c .before .before .before .before .before .loop .inv .5) ∙ ap (λ (z : List ℕ). take (c .before .before .before .before .before .loop .n) (c .before .before .before .before .before .loop .out) ++ z) (rest-next (c .before .before .before .before .before .before .before .before .before .args .q) (c .before .before .before .before .before .before .before .before .before .args .c) (c .before .before .before .before .before .before .before .before .before .args .lens .now) (c .before .before .before .before .before .before .before .before .before .args .addrs .now) (c .before .before .before .before .before .loop .g) (c .before .before .before .before .before .loop .from) (search needs) (c .before .before .wide .result) (c .before .before .before .before .before .loop .first) (c .before .before .wide .ensures) (c .before .before .before .before .before .loop .inv .1))) (c .before .before .before .before .before .before .before .before .before .pre .5),
-)
+check-row-requires c κs =
+    let s = c .before .before .before .before .before .before .before .before .before in
+    let l = c .before .before .before .before .before .loop in (
+      (s .pre .1),
+      (s .pre .0),
+      (s .pre .2),
+      omega (arith, (l .inv .1), (s .pre .3)),
+      list-fits (l .out) (s .args .out .now) (l .n) (allOf (s .args .q) (s .args .c) (s .args .lens .now) (s .args .addrs .now)) (only (s .args .c) (ofBits (374 * (s .args .q)) (s .args .q) 374 (l .first) 0 (take ((l .from) + (c .before .before .wide .result) - (l .from)) (drop (l .from) (s .args .addrs .now))))) (restOf (s .args .q) (s .args .c) (s .args .lens .now) (s .args .addrs .now) ((l .g) + 1) ((l .from) + (c .before .before .wide .result))) (l .inv .3) (l .inv .4) ((l .inv .5) ∙ ap (λ (z : List ℕ). take (l .n) (l .out) ++ z) (rest-next (s .args .q) (s .args .c) (s .args .lens .now) (s .args .addrs .now) (l .g) (l .from) (search needs) (c .before .before .wide .result) (l .first) (c .before .before .wide .ensures) (l .inv .1))) (s .pre .5),
+    )
 
 add-n : tie.Need-add-n Inv-loop μ-loop
 unfolding allOf
-add-n c = omega (arith, rows-below (c .before .before .before .before .before .before .before .before .loop .out) (c .before .before .before .before .before .before .before .before .before .before .before .before .args .out .now) (c .before .before .before .before .before .before .before .before .loop .n) (allOf (c .before .before .before .before .before .before .before .before .before .before .before .before .args .q) (c .before .before .before .before .before .before .before .before .before .before .before .before .args .c) (c .before .before .before .before .before .before .before .before .before .before .before .before .args .lens .now) (c .before .before .before .before .before .before .before .before .before .before .before .before .args .addrs .now)) (only (c .before .before .before .before .before .before .before .before .before .before .before .before .args .c) (ofBits (374 * (c .before .before .before .before .before .before .before .before .before .before .before .before .args .q)) (c .before .before .before .before .before .before .before .before .before .before .before .before .args .q) 374 (c .before .before .before .before .before .before .before .before .loop .first) 0 (take ((c .before .before .before .before .before .before .before .before .loop .from) + (c .before .before .before .before .before .wide .result) - (c .before .before .before .before .before .before .before .before .loop .from)) (drop (c .before .before .before .before .before .before .before .before .loop .from) (c .before .before .before .before .before .before .before .before .before .before .before .before .args .addrs .now))))) (restOf (c .before .before .before .before .before .before .before .before .before .before .before .before .args .q) (c .before .before .before .before .before .before .before .before .before .before .before .before .args .c) (c .before .before .before .before .before .before .before .before .before .before .before .before .args .lens .now) (c .before .before .before .before .before .before .before .before .before .before .before .before .args .addrs .now) ((c .before .before .before .before .before .before .before .before .loop .g) + 1) ((c .before .before .before .before .before .before .before .before .loop .from) + (c .before .before .before .before .before .wide .result))) (c .before .before .before .before .before .before .before .before .loop .inv .3) (c .before .before .before .before .before .before .before .before .loop .inv .4) ((c .before .before .before .before .before .before .before .before .loop .inv .5) ∙ ap (λ (z : List ℕ). take (c .before .before .before .before .before .before .before .before .loop .n) (c .before .before .before .before .before .before .before .before .loop .out) ++ z) (rest-next (c .before .before .before .before .before .before .before .before .before .before .before .before .args .q) (c .before .before .before .before .before .before .before .before .before .before .before .before .args .c) (c .before .before .before .before .before .before .before .before .before .before .before .before .args .lens .now) (c .before .before .before .before .before .before .before .before .before .before .before .before .args .addrs .now) (c .before .before .before .before .before .before .before .before .loop .g) (c .before .before .before .before .before .before .before .before .loop .from) (search needs) (c .before .before .before .before .before .wide .result) (c .before .before .before .before .before .before .before .before .loop .first) (c .before .before .before .before .before .wide .ensures) (c .before .before .before .before .before .before .before .before .loop .inv .1))) (c .before .before .before .before .before .before .before .before .before .before .before .before .pre .5) (c .before .before .check-row .last .0) (c .before .before .check-row .result) (c .before .before .check-row .ensures .0) (c .before .before .check-row .ensures .1) (c .before .before .before .before .before .before .before .before .loop .inv .6), rows-size (c .before .before .before .before .before .before .before .before .loop .out) (c .before .before .before .before .before .before .before .before .before .before .before .before .args .out .now) (c .before .before .before .before .before .before .before .before .loop .n) (allOf (c .before .before .before .before .before .before .before .before .before .before .before .before .args .q) (c .before .before .before .before .before .before .before .before .before .before .before .before .args .c) (c .before .before .before .before .before .before .before .before .before .before .before .before .args .lens .now) (c .before .before .before .before .before .before .before .before .before .before .before .before .args .addrs .now)) (only (c .before .before .before .before .before .before .before .before .before .before .before .before .args .c) (ofBits (374 * (c .before .before .before .before .before .before .before .before .before .before .before .before .args .q)) (c .before .before .before .before .before .before .before .before .before .before .before .before .args .q) 374 (c .before .before .before .before .before .before .before .before .loop .first) 0 (take ((c .before .before .before .before .before .before .before .before .loop .from) + (c .before .before .before .before .before .wide .result) - (c .before .before .before .before .before .before .before .before .loop .from)) (drop (c .before .before .before .before .before .before .before .before .loop .from) (c .before .before .before .before .before .before .before .before .before .before .before .before .args .addrs .now))))) (restOf (c .before .before .before .before .before .before .before .before .before .before .before .before .args .q) (c .before .before .before .before .before .before .before .before .before .before .before .before .args .c) (c .before .before .before .before .before .before .before .before .before .before .before .before .args .lens .now) (c .before .before .before .before .before .before .before .before .before .before .before .before .args .addrs .now) ((c .before .before .before .before .before .before .before .before .loop .g) + 1) ((c .before .before .before .before .before .before .before .before .loop .from) + (c .before .before .before .before .before .wide .result))) (c .before .before .before .before .before .before .before .before .loop .inv .3) (c .before .before .before .before .before .before .before .before .loop .inv .4) ((c .before .before .before .before .before .before .before .before .loop .inv .5) ∙ ap (λ (z : List ℕ). take (c .before .before .before .before .before .before .before .before .loop .n) (c .before .before .before .before .before .before .before .before .loop .out) ++ z) (rest-next (c .before .before .before .before .before .before .before .before .before .before .before .before .args .q) (c .before .before .before .before .before .before .before .before .before .before .before .before .args .c) (c .before .before .before .before .before .before .before .before .before .before .before .before .args .lens .now) (c .before .before .before .before .before .before .before .before .before .before .before .before .args .addrs .now) (c .before .before .before .before .before .before .before .before .loop .g) (c .before .before .before .before .before .before .before .before .loop .from) (search needs) (c .before .before .before .before .before .wide .result) (c .before .before .before .before .before .before .before .before .loop .first) (c .before .before .before .before .before .wide .ensures) (c .before .before .before .before .before .before .before .before .loop .inv .1))) (c .before .before .before .before .before .before .before .before .before .before .before .before .pre .5) (c .before .before .check-row .last .0) (c .before .before .check-row .result) (c .before .before .check-row .ensures .0) (c .before .before .check-row .ensures .1) (c .before .before .before .before .before .before .before .before .loop .inv .6))
+add-n c =
+    let s = c .before .before .before .before .before .before .before .before .before .before .before .before in
+    let l = c .before .before .before .before .before .before .before .before .loop in
+    omega (arith, rows-below (l .out) (s .args .out .now) (l .n) (allOf (s .args .q) (s .args .c) (s .args .lens .now) (s .args .addrs .now)) (only (s .args .c) (ofBits (374 * (s .args .q)) (s .args .q) 374 (l .first) 0 (take ((l .from) + (c .before .before .before .before .before .wide .result) - (l .from)) (drop (l .from) (s .args .addrs .now))))) (restOf (s .args .q) (s .args .c) (s .args .lens .now) (s .args .addrs .now) ((l .g) + 1) ((l .from) + (c .before .before .before .before .before .wide .result))) (l .inv .3) (l .inv .4) ((l .inv .5) ∙ ap (λ (z : List ℕ). take (l .n) (l .out) ++ z) (rest-next (s .args .q) (s .args .c) (s .args .lens .now) (s .args .addrs .now) (l .g) (l .from) (search needs) (c .before .before .before .before .before .wide .result) (l .first) (c .before .before .before .before .before .wide .ensures) (l .inv .1))) (s .pre .5) (c .before .before .check-row .last .0) (c .before .before .check-row .result) (c .before .before .check-row .ensures .0) (c .before .before .check-row .ensures .1) (l .inv .6), rows-size (l .out) (s .args .out .now) (l .n) (allOf (s .args .q) (s .args .c) (s .args .lens .now) (s .args .addrs .now)) (only (s .args .c) (ofBits (374 * (s .args .q)) (s .args .q) 374 (l .first) 0 (take ((l .from) + (c .before .before .before .before .before .wide .result) - (l .from)) (drop (l .from) (s .args .addrs .now))))) (restOf (s .args .q) (s .args .c) (s .args .lens .now) (s .args .addrs .now) ((l .g) + 1) ((l .from) + (c .before .before .before .before .before .wide .result))) (l .inv .3) (l .inv .4) ((l .inv .5) ∙ ap (λ (z : List ℕ). take (l .n) (l .out) ++ z) (rest-next (s .args .q) (s .args .c) (s .args .lens .now) (s .args .addrs .now) (l .g) (l .from) (search needs) (c .before .before .before .before .before .wide .result) (l .first) (c .before .before .before .before .before .wide .ensures) (l .inv .1))) (s .pre .5) (c .before .before .check-row .last .0) (c .before .before .check-row .result) (c .before .before .check-row .ensures .0) (c .before .before .check-row .ensures .1) (l .inv .6))
 
 add-first : tie.Need-add-first Inv-loop μ-loop
 add-first c = omega (arith, (c .before .before .before .before .before .before .before .before .loop .inv .1), (c .before .before .before .before .before .before .before .before .before .before .before .before .pre .3))
@@ -86,22 +96,27 @@ loop-less c = search needs
 
 loop-again : tie.Need-loop-again Inv-loop μ-loop
 unfolding allOf
-loop-again c = (
-  omega arith,
-  omega arith,
-  rows-end-fits (c .before .before .before .before .before .before .before .before .before .before .before .before .args .q) (c .before .before .before .before .before .before .before .before .before .before .before .before .args .c) (c .before .before .before .before .before .before .before .before .before .before .before .before .args .lens .now) (c .before .before .before .before .before .before .before .before .before .before .before .before .args .addrs .now) (c .before .before .before .before .before .before .before .before .loop .g) (c .before .before .before .before .before .before .before .before .loop .from) (search needs) (c .before .before .before .before .before .wide .result) (c .before .before .before .before .before .wide .ensures) (c .before .before .before .before .before .before .before .before .loop .inv .2) .1,
-  rows-size (c .before .before .before .before .before .before .before .before .loop .out) (c .before .before .before .before .before .before .before .before .before .before .before .before .args .out .now) (c .before .before .before .before .before .before .before .before .loop .n) (allOf (c .before .before .before .before .before .before .before .before .before .before .before .before .args .q) (c .before .before .before .before .before .before .before .before .before .before .before .before .args .c) (c .before .before .before .before .before .before .before .before .before .before .before .before .args .lens .now) (c .before .before .before .before .before .before .before .before .before .before .before .before .args .addrs .now)) (only (c .before .before .before .before .before .before .before .before .before .before .before .before .args .c) (ofBits (374 * (c .before .before .before .before .before .before .before .before .before .before .before .before .args .q)) (c .before .before .before .before .before .before .before .before .before .before .before .before .args .q) 374 (c .before .before .before .before .before .before .before .before .loop .first) 0 (take ((c .before .before .before .before .before .before .before .before .loop .from) + (c .before .before .before .before .before .wide .result) - (c .before .before .before .before .before .before .before .before .loop .from)) (drop (c .before .before .before .before .before .before .before .before .loop .from) (c .before .before .before .before .before .before .before .before .before .before .before .before .args .addrs .now))))) (restOf (c .before .before .before .before .before .before .before .before .before .before .before .before .args .q) (c .before .before .before .before .before .before .before .before .before .before .before .before .args .c) (c .before .before .before .before .before .before .before .before .before .before .before .before .args .lens .now) (c .before .before .before .before .before .before .before .before .before .before .before .before .args .addrs .now) ((c .before .before .before .before .before .before .before .before .loop .g) + 1) ((c .before .before .before .before .before .before .before .before .loop .from) + (c .before .before .before .before .before .wide .result))) (c .before .before .before .before .before .before .before .before .loop .inv .3) (c .before .before .before .before .before .before .before .before .loop .inv .4) ((c .before .before .before .before .before .before .before .before .loop .inv .5) ∙ ap (λ (z : List ℕ). take (c .before .before .before .before .before .before .before .before .loop .n) (c .before .before .before .before .before .before .before .before .loop .out) ++ z) (rest-next (c .before .before .before .before .before .before .before .before .before .before .before .before .args .q) (c .before .before .before .before .before .before .before .before .before .before .before .before .args .c) (c .before .before .before .before .before .before .before .before .before .before .before .before .args .lens .now) (c .before .before .before .before .before .before .before .before .before .before .before .before .args .addrs .now) (c .before .before .before .before .before .before .before .before .loop .g) (c .before .before .before .before .before .before .before .before .loop .from) (search needs) (c .before .before .before .before .before .wide .result) (c .before .before .before .before .before .before .before .before .loop .first) (c .before .before .before .before .before .wide .ensures) (c .before .before .before .before .before .before .before .before .loop .inv .1))) (c .before .before .before .before .before .before .before .before .before .before .before .before .pre .5) (c .before .before .check-row .last .0) (c .before .before .check-row .result) (c .before .before .check-row .ensures .0) (c .before .before .check-row .ensures .1) (c .before .before .before .before .before .before .before .before .loop .inv .6),
-  rows-below (c .before .before .before .before .before .before .before .before .loop .out) (c .before .before .before .before .before .before .before .before .before .before .before .before .args .out .now) (c .before .before .before .before .before .before .before .before .loop .n) (allOf (c .before .before .before .before .before .before .before .before .before .before .before .before .args .q) (c .before .before .before .before .before .before .before .before .before .before .before .before .args .c) (c .before .before .before .before .before .before .before .before .before .before .before .before .args .lens .now) (c .before .before .before .before .before .before .before .before .before .before .before .before .args .addrs .now)) (only (c .before .before .before .before .before .before .before .before .before .before .before .before .args .c) (ofBits (374 * (c .before .before .before .before .before .before .before .before .before .before .before .before .args .q)) (c .before .before .before .before .before .before .before .before .before .before .before .before .args .q) 374 (c .before .before .before .before .before .before .before .before .loop .first) 0 (take ((c .before .before .before .before .before .before .before .before .loop .from) + (c .before .before .before .before .before .wide .result) - (c .before .before .before .before .before .before .before .before .loop .from)) (drop (c .before .before .before .before .before .before .before .before .loop .from) (c .before .before .before .before .before .before .before .before .before .before .before .before .args .addrs .now))))) (restOf (c .before .before .before .before .before .before .before .before .before .before .before .before .args .q) (c .before .before .before .before .before .before .before .before .before .before .before .before .args .c) (c .before .before .before .before .before .before .before .before .before .before .before .before .args .lens .now) (c .before .before .before .before .before .before .before .before .before .before .before .before .args .addrs .now) ((c .before .before .before .before .before .before .before .before .loop .g) + 1) ((c .before .before .before .before .before .before .before .before .loop .from) + (c .before .before .before .before .before .wide .result))) (c .before .before .before .before .before .before .before .before .loop .inv .3) (c .before .before .before .before .before .before .before .before .loop .inv .4) ((c .before .before .before .before .before .before .before .before .loop .inv .5) ∙ ap (λ (z : List ℕ). take (c .before .before .before .before .before .before .before .before .loop .n) (c .before .before .before .before .before .before .before .before .loop .out) ++ z) (rest-next (c .before .before .before .before .before .before .before .before .before .before .before .before .args .q) (c .before .before .before .before .before .before .before .before .before .before .before .before .args .c) (c .before .before .before .before .before .before .before .before .before .before .before .before .args .lens .now) (c .before .before .before .before .before .before .before .before .before .before .before .before .args .addrs .now) (c .before .before .before .before .before .before .before .before .loop .g) (c .before .before .before .before .before .before .before .before .loop .from) (search needs) (c .before .before .before .before .before .wide .result) (c .before .before .before .before .before .before .before .before .loop .first) (c .before .before .before .before .before .wide .ensures) (c .before .before .before .before .before .before .before .before .loop .inv .1))) (c .before .before .before .before .before .before .before .before .before .before .before .before .pre .5) (c .before .before .check-row .last .0) (c .before .before .check-row .result) (c .before .before .check-row .ensures .0) (c .before .before .check-row .ensures .1) (c .before .before .before .before .before .before .before .before .loop .inv .6),
-  rows-all (c .before .before .before .before .before .before .before .before .loop .out) (c .before .before .before .before .before .before .before .before .before .before .before .before .args .out .now) (c .before .before .before .before .before .before .before .before .loop .n) (allOf (c .before .before .before .before .before .before .before .before .before .before .before .before .args .q) (c .before .before .before .before .before .before .before .before .before .before .before .before .args .c) (c .before .before .before .before .before .before .before .before .before .before .before .before .args .lens .now) (c .before .before .before .before .before .before .before .before .before .before .before .before .args .addrs .now)) (only (c .before .before .before .before .before .before .before .before .before .before .before .before .args .c) (ofBits (374 * (c .before .before .before .before .before .before .before .before .before .before .before .before .args .q)) (c .before .before .before .before .before .before .before .before .before .before .before .before .args .q) 374 (c .before .before .before .before .before .before .before .before .loop .first) 0 (take ((c .before .before .before .before .before .before .before .before .loop .from) + (c .before .before .before .before .before .wide .result) - (c .before .before .before .before .before .before .before .before .loop .from)) (drop (c .before .before .before .before .before .before .before .before .loop .from) (c .before .before .before .before .before .before .before .before .before .before .before .before .args .addrs .now))))) (restOf (c .before .before .before .before .before .before .before .before .before .before .before .before .args .q) (c .before .before .before .before .before .before .before .before .before .before .before .before .args .c) (c .before .before .before .before .before .before .before .before .before .before .before .before .args .lens .now) (c .before .before .before .before .before .before .before .before .before .before .before .before .args .addrs .now) ((c .before .before .before .before .before .before .before .before .loop .g) + 1) ((c .before .before .before .before .before .before .before .before .loop .from) + (c .before .before .before .before .before .wide .result))) (c .before .before .before .before .before .before .before .before .loop .inv .3) (c .before .before .before .before .before .before .before .before .loop .inv .4) ((c .before .before .before .before .before .before .before .before .loop .inv .5) ∙ ap (λ (z : List ℕ). take (c .before .before .before .before .before .before .before .before .loop .n) (c .before .before .before .before .before .before .before .before .loop .out) ++ z) (rest-next (c .before .before .before .before .before .before .before .before .before .before .before .before .args .q) (c .before .before .before .before .before .before .before .before .before .before .before .before .args .c) (c .before .before .before .before .before .before .before .before .before .before .before .before .args .lens .now) (c .before .before .before .before .before .before .before .before .before .before .before .before .args .addrs .now) (c .before .before .before .before .before .before .before .before .loop .g) (c .before .before .before .before .before .before .before .before .loop .from) (search needs) (c .before .before .before .before .before .wide .result) (c .before .before .before .before .before .before .before .before .loop .first) (c .before .before .before .before .before .wide .ensures) (c .before .before .before .before .before .before .before .before .loop .inv .1))) (c .before .before .before .before .before .before .before .before .before .before .before .before .pre .5) (c .before .before .check-row .last .0) (c .before .before .check-row .result) (c .before .before .check-row .ensures .0) (c .before .before .check-row .ensures .1) (c .before .before .before .before .before .before .before .before .loop .inv .6),
-  rows-kept (c .before .before .before .before .before .before .before .before .loop .out) (c .before .before .before .before .before .before .before .before .before .before .before .before .args .out .now) (c .before .before .before .before .before .before .before .before .loop .n) (allOf (c .before .before .before .before .before .before .before .before .before .before .before .before .args .q) (c .before .before .before .before .before .before .before .before .before .before .before .before .args .c) (c .before .before .before .before .before .before .before .before .before .before .before .before .args .lens .now) (c .before .before .before .before .before .before .before .before .before .before .before .before .args .addrs .now)) (only (c .before .before .before .before .before .before .before .before .before .before .before .before .args .c) (ofBits (374 * (c .before .before .before .before .before .before .before .before .before .before .before .before .args .q)) (c .before .before .before .before .before .before .before .before .before .before .before .before .args .q) 374 (c .before .before .before .before .before .before .before .before .loop .first) 0 (take ((c .before .before .before .before .before .before .before .before .loop .from) + (c .before .before .before .before .before .wide .result) - (c .before .before .before .before .before .before .before .before .loop .from)) (drop (c .before .before .before .before .before .before .before .before .loop .from) (c .before .before .before .before .before .before .before .before .before .before .before .before .args .addrs .now))))) (restOf (c .before .before .before .before .before .before .before .before .before .before .before .before .args .q) (c .before .before .before .before .before .before .before .before .before .before .before .before .args .c) (c .before .before .before .before .before .before .before .before .before .before .before .before .args .lens .now) (c .before .before .before .before .before .before .before .before .before .before .before .before .args .addrs .now) ((c .before .before .before .before .before .before .before .before .loop .g) + 1) ((c .before .before .before .before .before .before .before .before .loop .from) + (c .before .before .before .before .before .wide .result))) (c .before .before .before .before .before .before .before .before .loop .inv .3) (c .before .before .before .before .before .before .before .before .loop .inv .4) ((c .before .before .before .before .before .before .before .before .loop .inv .5) ∙ ap (λ (z : List ℕ). take (c .before .before .before .before .before .before .before .before .loop .n) (c .before .before .before .before .before .before .before .before .loop .out) ++ z) (rest-next (c .before .before .before .before .before .before .before .before .before .before .before .before .args .q) (c .before .before .before .before .before .before .before .before .before .before .before .before .args .c) (c .before .before .before .before .before .before .before .before .before .before .before .before .args .lens .now) (c .before .before .before .before .before .before .before .before .before .before .before .before .args .addrs .now) (c .before .before .before .before .before .before .before .before .loop .g) (c .before .before .before .before .before .before .before .before .loop .from) (search needs) (c .before .before .before .before .before .wide .result) (c .before .before .before .before .before .before .before .before .loop .first) (c .before .before .before .before .before .wide .ensures) (c .before .before .before .before .before .before .before .before .loop .inv .1))) (c .before .before .before .before .before .before .before .before .before .before .before .before .pre .5) (c .before .before .check-row .last .0) (c .before .before .check-row .result) (c .before .before .check-row .ensures .0) (c .before .before .check-row .ensures .1) (c .before .before .before .before .before .before .before .before .loop .inv .6),
-)
+loop-again c =
+    let s = c .before .before .before .before .before .before .before .before .before .before .before .before in
+    let l = c .before .before .before .before .before .before .before .before .loop in (
+      omega arith,
+      omega arith,
+      rows-end-fits (s .args .q) (s .args .c) (s .args .lens .now) (s .args .addrs .now) (l .g) (l .from) (search needs) (c .before .before .before .before .before .wide .result) (c .before .before .before .before .before .wide .ensures) (l .inv .2) .1,
+      rows-size (l .out) (s .args .out .now) (l .n) (allOf (s .args .q) (s .args .c) (s .args .lens .now) (s .args .addrs .now)) (only (s .args .c) (ofBits (374 * (s .args .q)) (s .args .q) 374 (l .first) 0 (take ((l .from) + (c .before .before .before .before .before .wide .result) - (l .from)) (drop (l .from) (s .args .addrs .now))))) (restOf (s .args .q) (s .args .c) (s .args .lens .now) (s .args .addrs .now) ((l .g) + 1) ((l .from) + (c .before .before .before .before .before .wide .result))) (l .inv .3) (l .inv .4) ((l .inv .5) ∙ ap (λ (z : List ℕ). take (l .n) (l .out) ++ z) (rest-next (s .args .q) (s .args .c) (s .args .lens .now) (s .args .addrs .now) (l .g) (l .from) (search needs) (c .before .before .before .before .before .wide .result) (l .first) (c .before .before .before .before .before .wide .ensures) (l .inv .1))) (s .pre .5) (c .before .before .check-row .last .0) (c .before .before .check-row .result) (c .before .before .check-row .ensures .0) (c .before .before .check-row .ensures .1) (l .inv .6),
+      rows-below (l .out) (s .args .out .now) (l .n) (allOf (s .args .q) (s .args .c) (s .args .lens .now) (s .args .addrs .now)) (only (s .args .c) (ofBits (374 * (s .args .q)) (s .args .q) 374 (l .first) 0 (take ((l .from) + (c .before .before .before .before .before .wide .result) - (l .from)) (drop (l .from) (s .args .addrs .now))))) (restOf (s .args .q) (s .args .c) (s .args .lens .now) (s .args .addrs .now) ((l .g) + 1) ((l .from) + (c .before .before .before .before .before .wide .result))) (l .inv .3) (l .inv .4) ((l .inv .5) ∙ ap (λ (z : List ℕ). take (l .n) (l .out) ++ z) (rest-next (s .args .q) (s .args .c) (s .args .lens .now) (s .args .addrs .now) (l .g) (l .from) (search needs) (c .before .before .before .before .before .wide .result) (l .first) (c .before .before .before .before .before .wide .ensures) (l .inv .1))) (s .pre .5) (c .before .before .check-row .last .0) (c .before .before .check-row .result) (c .before .before .check-row .ensures .0) (c .before .before .check-row .ensures .1) (l .inv .6),
+      rows-all (l .out) (s .args .out .now) (l .n) (allOf (s .args .q) (s .args .c) (s .args .lens .now) (s .args .addrs .now)) (only (s .args .c) (ofBits (374 * (s .args .q)) (s .args .q) 374 (l .first) 0 (take ((l .from) + (c .before .before .before .before .before .wide .result) - (l .from)) (drop (l .from) (s .args .addrs .now))))) (restOf (s .args .q) (s .args .c) (s .args .lens .now) (s .args .addrs .now) ((l .g) + 1) ((l .from) + (c .before .before .before .before .before .wide .result))) (l .inv .3) (l .inv .4) ((l .inv .5) ∙ ap (λ (z : List ℕ). take (l .n) (l .out) ++ z) (rest-next (s .args .q) (s .args .c) (s .args .lens .now) (s .args .addrs .now) (l .g) (l .from) (search needs) (c .before .before .before .before .before .wide .result) (l .first) (c .before .before .before .before .before .wide .ensures) (l .inv .1))) (s .pre .5) (c .before .before .check-row .last .0) (c .before .before .check-row .result) (c .before .before .check-row .ensures .0) (c .before .before .check-row .ensures .1) (l .inv .6),
+      rows-kept (l .out) (s .args .out .now) (l .n) (allOf (s .args .q) (s .args .c) (s .args .lens .now) (s .args .addrs .now)) (only (s .args .c) (ofBits (374 * (s .args .q)) (s .args .q) 374 (l .first) 0 (take ((l .from) + (c .before .before .before .before .before .wide .result) - (l .from)) (drop (l .from) (s .args .addrs .now))))) (restOf (s .args .q) (s .args .c) (s .args .lens .now) (s .args .addrs .now) ((l .g) + 1) ((l .from) + (c .before .before .before .before .before .wide .result))) (l .inv .3) (l .inv .4) ((l .inv .5) ∙ ap (λ (z : List ℕ). take (l .n) (l .out) ++ z) (rest-next (s .args .q) (s .args .c) (s .args .lens .now) (s .args .addrs .now) (l .g) (l .from) (search needs) (c .before .before .before .before .before .wide .result) (l .first) (c .before .before .before .before .before .wide .ensures) (l .inv .1))) (s .pre .5) (c .before .before .check-row .last .0) (c .before .before .check-row .result) (c .before .before .check-row .ensures .0) (c .before .before .check-row .ensures .1) (l .inv .6),
+    )
 
 same-length : tie.Need-same-length Inv-loop μ-loop
 same-length c = (c .before .loop .inv .3)
 
 returns : tie.Need-returns Inv-loop μ-loop
 unfolding allOf
-returns c = rows-done (c .before .loop .out) (c .before .before .before .before .before .args .out .now) (allOf (c .before .before .before .before .before .args .q) (c .before .before .before .before .before .args .c) (c .before .before .before .before .before .args .lens .now) (c .before .before .before .before .before .args .addrs .now)) (restOf (c .before .before .before .before .before .args .q) (c .before .before .before .before .before .args .c) (c .before .before .before .before .before .args .lens .now) (c .before .before .before .before .before .args .addrs .now) (c .before .loop .g) (c .before .loop .from)) (c .before .loop .n) (c .before .loop .inv .4) (c .before .loop .inv .5) (rest-end (c .before .before .before .before .before .args .q) (c .before .before .before .before .before .args .c) (c .before .before .before .before .before .args .lens .now) (c .before .before .before .before .before .args .addrs .now) (c .before .loop .g) (c .before .loop .from) (search needs)) (c .before .loop .inv .6)
+returns c =
+    let s = c .before .before .before .before .before in
+    let l = c .before .loop in
+    rows-done (l .out) (s .args .out .now) (allOf (s .args .q) (s .args .c) (s .args .lens .now) (s .args .addrs .now)) (restOf (s .args .q) (s .args .c) (s .args .lens .now) (s .args .addrs .now) (l .g) (l .from)) (l .n) (l .inv .4) (l .inv .5) (rest-end (s .args .q) (s .args .c) (s .args .lens .now) (s .args .addrs .now) (l .g) (l .from) (search needs)) (l .inv .6)
 
 pub check-rows-spec : {M : Type 1} → statement M
 check-rows-spec =

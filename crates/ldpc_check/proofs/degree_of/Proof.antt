@@ -1,3 +1,4 @@
+-- `ldpc_check::degree_of` meets its contract. Assumes nothing.
 use Rattle.ldpc_check.proofs.Loops.{degree-small}
 use Rattle.ldpc_check.proofs.Loops.{sizes, degree-is}
 use borrow.Author.Tests.{eq-eqb, ne-eqb}
@@ -10,22 +11,24 @@ use native.Mathlib.Omega.{arith}
 use borrow.Author.Needs.{needs}
 use Rattle.ldpc_check.proofs.degree_of.Statement.{statement}
 use Rattle.ldpc_check.proofs.degree_of.Tie as tie
-use Rattle.ldpc_check.proofs.degree_of.Reads as reads
-use Rattle.ldpc_check.proofs.degree_of.Lts as lts
-use Rattle.ldpc_shape.proofs.counts.Reads as counts-reads
-use Rattle.ldpc_shape.proofs.wide.Reads as wide-reads
 
 cast-q : tie.Need-cast-q
-cast-q c = omega (arith, sizes (c .before .before .args .n) (c .before .before .args .lens .now) (c .before .before .args .addrs .now) (c .before .before .pre .0))
+cast-q c =
+    let s = c .before .before in
+    omega (arith, sizes (s .args .n) (s .args .lens .now) (s .args .addrs .now) (s .pre .0))
 
 sub-q : tie.Need-sub-q
-sub-q c = omega (arith, sizes (c .before .before .args .n) (c .before .before .args .lens .now) (c .before .before .args .addrs .now) (c .before .before .pre .0))
+sub-q c =
+    let s = c .before .before in
+    omega (arith, sizes (s .args .n) (s .args .lens .now) (s .args .addrs .now) (s .pre .0))
 
 counts-requires : tie.Need-counts-requires
 counts-requires c κs = let s = sizes (c .before .before .args .n) (c .before .before .args .lens .now) (c .before .before .args .addrs .now) (c .before .before .pre .0) in (s .2, s .3, s .4)
 
 rem-wide : tie.Need-rem-wide
-rem-wide c = omega (arith, sizes (c .before .before .before .args .n) (c .before .before .before .args .lens .now) (c .before .before .before .args .addrs .now) (c .before .before .before .pre .0) .2)
+rem-wide c =
+    let s = c .before .before .before in
+    omega (arith, sizes (s .args .n) (s .args .lens .now) (s .args .addrs .now) (s .pre .0) .2)
 
 wide-requires : tie.Need-wide-requires
 wide-requires c κs = search needs
@@ -40,19 +43,25 @@ wide-requires-2 : tie.Need-wide-requires-2
 wide-requires-2 c κs = search needs
 
 add-result : tie.Need-add-result
-add-result c = omega (arith, degree-is (c .before .before .before .before .before .before .args .n) (c .before .before .before .before .before .before .args .lens .now) (c .before .before .before .before .before .before .args .addrs .now) (c .before .before .before .before .before .before .pre .0) (c .before .before .before .counts .result) (c .before .before .before .counts .ensures) (c .before .before .before .before .before .before .args .c) (c .before .before .before .before .before .before .pre .1) (c .before .before .wide .result) (c .before .wide2 .result) (c .before .before .wide .ensures) (c .before .wide2 .ensures), degree-small (c .before .before .before .before .before .before .args .n) (c .before .before .before .before .before .before .args .lens .now) (c .before .before .before .before .before .before .args .addrs .now) (c .before .before .before .before .before .before .pre .0) (c .before .before .before .before .before .before .args .c) (c .before .before .before .before .before .before .pre .1))
+add-result c =
+    let s = c .before .before .before .before .before .before in
+    omega (arith, degree-is (s .args .n) (s .args .lens .now) (s .args .addrs .now) (s .pre .0) (c .before .before .before .counts .result) (c .before .before .before .counts .ensures) (s .args .c) (s .pre .1) (c .before .before .wide .result) (c .before .wide2 .result) (c .before .before .wide .ensures) (c .before .wide2 .ensures), degree-small (s .args .n) (s .args .lens .now) (s .args .addrs .now) (s .pre .0) (s .args .c) (s .pre .1))
 
 returns : tie.Need-returns
 returns c =
-    sym (degree-is (c .before .before .before .before .before .before .args .n) (c .before .before .before .before .before .before .args .lens .now) (c .before .before .before .before .before .before .args .addrs .now) (c .before .before .before .before .before .before .pre .0) (c .before .before .before .counts .result) (c .before .before .before .counts .ensures) (c .before .before .before .before .before .before .args .c) (c .before .before .before .before .before .before .pre .1) (c .before .before .wide .result) (c .before .wide2 .result) (c .before .before .wide .ensures) (c .before .wide2 .ensures)
+    let s = c .before .before .before .before .before .before in
+    sym (degree-is (s .args .n) (s .args .lens .now) (s .args .addrs .now) (s .pre .0) (c .before .before .before .counts .result) (c .before .before .before .counts .ensures) (s .args .c) (s .pre .1) (c .before .before .wide .result) (c .before .wide2 .result) (c .before .before .wide .ensures) (c .before .wide2 .ensures)
     ∙ ap (λ b. (c .before .wide2 .result) + cond b 1 2) (eq-eqb _ _ (c .if1 .taken)))
 
 add-result-2 : tie.Need-add-result-2
-add-result-2 c = omega (arith, degree-is (c .before .before .before .before .before .before .args .n) (c .before .before .before .before .before .before .args .lens .now) (c .before .before .before .before .before .before .args .addrs .now) (c .before .before .before .before .before .before .pre .0) (c .before .before .before .counts .result) (c .before .before .before .counts .ensures) (c .before .before .before .before .before .before .args .c) (c .before .before .before .before .before .before .pre .1) (c .before .before .wide .result) (c .before .wide2 .result) (c .before .before .wide .ensures) (c .before .wide2 .ensures), degree-small (c .before .before .before .before .before .before .args .n) (c .before .before .before .before .before .before .args .lens .now) (c .before .before .before .before .before .before .args .addrs .now) (c .before .before .before .before .before .before .pre .0) (c .before .before .before .before .before .before .args .c) (c .before .before .before .before .before .before .pre .1))
+add-result-2 c =
+    let s = c .before .before .before .before .before .before in
+    omega (arith, degree-is (s .args .n) (s .args .lens .now) (s .args .addrs .now) (s .pre .0) (c .before .before .before .counts .result) (c .before .before .before .counts .ensures) (s .args .c) (s .pre .1) (c .before .before .wide .result) (c .before .wide2 .result) (c .before .before .wide .ensures) (c .before .wide2 .ensures), degree-small (s .args .n) (s .args .lens .now) (s .args .addrs .now) (s .pre .0) (s .args .c) (s .pre .1))
 
 returns-2 : tie.Need-returns-2
 returns-2 c =
-    sym (degree-is (c .before .before .before .before .before .before .args .n) (c .before .before .before .before .before .before .args .lens .now) (c .before .before .before .before .before .before .args .addrs .now) (c .before .before .before .before .before .before .pre .0) (c .before .before .before .counts .result) (c .before .before .before .counts .ensures) (c .before .before .before .before .before .before .args .c) (c .before .before .before .before .before .before .pre .1) (c .before .before .wide .result) (c .before .wide2 .result) (c .before .before .wide .ensures) (c .before .wide2 .ensures)
+    let s = c .before .before .before .before .before .before in
+    sym (degree-is (s .args .n) (s .args .lens .now) (s .args .addrs .now) (s .pre .0) (c .before .before .before .counts .result) (c .before .before .before .counts .ensures) (s .args .c) (s .pre .1) (c .before .before .wide .result) (c .before .wide2 .result) (c .before .before .wide .ensures) (c .before .wide2 .ensures)
     ∙ ap (λ b. (c .before .wide2 .result) + cond b 1 2) (ne-eqb _ _ (c .if1 .left)))
 
 pub degree-of-spec : {M : Type 1} → statement M

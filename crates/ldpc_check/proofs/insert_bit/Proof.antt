@@ -1,3 +1,4 @@
+-- `ldpc_check::insert_bit` meets its contract. Assumes nothing.
 use Rattle.ldpc_check.proofs.Loops.{Inserting, insert-start, insert-swap, insert-keep, insert-end}
 use lib.ListN.{length, length-set}
 use Prim.Native.Nat.{_≤_, _-_}
@@ -7,8 +8,6 @@ use borrow.Author.Needs.{needs}
 use native.Mathlib.Omega.{arith}
 use Rattle.ldpc_check.proofs.insert_bit.Statement.{statement}
 use Rattle.ldpc_check.proofs.insert_bit.Tie as tie
-use Rattle.ldpc_check.proofs.insert_bit.Reads as reads
-use Rattle.ldpc_check.proofs.insert_bit.Lts as lts
 
 abbrev Inv-loop : tie.InvT-loop
 Inv-loop out₀ n m v₀ i₀ out v i = (i ≤ n) × (length out ≡ length out₀) × Inserting m n out₀ out v i
@@ -39,16 +38,18 @@ loop-less c = search needs
 
 loop-again : tie.Need-loop-again Inv-loop μ-loop
 loop-again c =
+    let s = c .before .before .before .before in
+    let l = c .before .before .before .loop in
     ⊎-elim
     (λ w. (
       omega arith,
-      ap length (w .1) ∙ length-set (c .before .before .before .loop .out) _ _ ∙ (c .before .before .before .loop .inv .1),
-      insert-swap (c .before .before .before .before .args .m) (c .before .before .before .before .args .n) (c .before .before .before .before .args .out .now) (c .before .before .before .loop .out) _ (c .before .before .before .loop .v) _ (c .before .before .before .loop .i) (search needs) (omega (arith, (c .before .before .before .loop .inv .1), (c .before .before .before .before .pre))) (w .0 .taken) (w .1) (w .2) (c .before .before .before .loop .inv .2),
+      ap length (w .1) ∙ length-set (l .out) _ _ ∙ (l .inv .1),
+      insert-swap (s .args .m) (s .args .n) (s .args .out .now) (l .out) _ (l .v) _ (l .i) (search needs) (omega (arith, (l .inv .1), (s .pre))) (w .0 .taken) (w .1) (w .2) (l .inv .2),
     ))
     (λ w. (
       omega arith,
-      ap length (w .1) ∙ (c .before .before .before .loop .inv .1),
-      insert-keep (c .before .before .before .before .args .m) (c .before .before .before .before .args .n) (c .before .before .before .before .args .out .now) (c .before .before .before .loop .out) _ (c .before .before .before .loop .v) _ (c .before .before .before .loop .i) (search needs) (omega (arith, (c .before .before .before .loop .inv .1), (c .before .before .before .before .pre))) (w .0 .left) (w .1) (w .2) (c .before .before .before .loop .inv .2),
+      ap length (w .1) ∙ (l .inv .1),
+      insert-keep (s .args .m) (s .args .n) (s .args .out .now) (l .out) _ (l .v) _ (l .i) (search needs) (omega (arith, (l .inv .1), (s .pre))) (w .0 .left) (w .1) (w .2) (l .inv .2),
     ))
     (c .if1 .came)
 
@@ -59,10 +60,15 @@ slice-write-out-2 : tie.Need-slice-write-out-2 Inv-loop μ-loop
 slice-write-out-2 c = omega (arith, (c .before .loop .inv .1), (c .before .before .pre))
 
 same-length : tie.Need-same-length Inv-loop μ-loop
-same-length c = length-set (c .before .loop .out) _ _ ∙ (c .before .loop .inv .1)
+same-length c =
+    let l = c .before .loop in
+    length-set (l .out) _ _ ∙ (l .inv .1)
 
 returns : tie.Need-returns Inv-loop μ-loop
-returns c = insert-end (c .before .before .args .m) (c .before .before .args .n) (c .before .before .args .out .now) (c .before .loop .out) (c .before .loop .v) (c .before .loop .i) (omega arith) (omega (arith, (c .before .loop .inv .1), (c .before .before .pre))) (c .before .loop .inv .2)
+returns c =
+    let s = c .before .before in
+    let l = c .before .loop in
+    insert-end (s .args .m) (s .args .n) (s .args .out .now) (l .out) (l .v) (l .i) (omega arith) (omega (arith, (l .inv .1), (s .pre))) (l .inv .2)
 
 pub insert-bit-spec : {M : Type 1} → statement M
 insert-bit-spec =

@@ -1,3 +1,4 @@
+-- `ldpc_check::put_stairs` meets its contract. Assumes nothing.
 use Rattle.ldpc_check.proofs.Loops.{stair-one, stair-two}
 use lib.ListN.{length-set}
 use mathlib.Core.Path.{_≡_, refl, sym, ap, _∙_}
@@ -5,17 +6,21 @@ use native.Mathlib.Omega.{arith}
 use borrow.Author.Needs.{needs}
 use Rattle.ldpc_check.proofs.put_stairs.Statement.{statement}
 use Rattle.ldpc_check.proofs.put_stairs.Tie as tie
-use Rattle.ldpc_check.proofs.put_stairs.Reads as reads
-use Rattle.ldpc_check.proofs.put_stairs.Lts as lts
 
 mul-out : tie.Need-mul-out
-mul-out c = omega (arith, stair-one (c .before .args .out .now) (c .before .args .n) (c .before .args .k) (c .before .args .c) (c .before .args .v) (c .before .pre .0) (c .if1 .taken) (c .before .pre .1))
+mul-out c =
+    let s = c .before in
+    omega (arith, stair-one (s .args .out .now) (s .args .n) (s .args .k) (s .args .c) (s .args .v) (s .pre .0) (c .if1 .taken) (s .pre .1))
 
 slice-write-out : tie.Need-slice-write-out
-slice-write-out c = stair-one (c .before .args .out .now) (c .before .args .n) (c .before .args .k) (c .before .args .c) (c .before .args .v) (c .before .pre .0) (c .if1 .taken) (c .before .pre .1) .0
+slice-write-out c =
+    let s = c .before in
+    stair-one (s .args .out .now) (s .args .n) (s .args .k) (s .args .c) (s .args .v) (s .pre .0) (c .if1 .taken) (s .pre .1) .0
 
 add-result : tie.Need-add-result
-add-result c = omega (arith, stair-one (c .before .args .out .now) (c .before .args .n) (c .before .args .k) (c .before .args .c) (c .before .args .v) (c .before .pre .0) (c .if1 .taken) (c .before .pre .1) .0)
+add-result c =
+    let s = c .before in
+    omega (arith, stair-one (s .args .out .now) (s .args .n) (s .args .k) (s .args .c) (s .args .v) (s .pre .0) (c .if1 .taken) (s .pre .1) .0)
 
 same-length : tie.Need-same-length
 same-length c = search needs
@@ -27,22 +32,34 @@ sub-out : tie.Need-sub-out
 sub-out c = search needs
 
 mul-out-2 : tie.Need-mul-out-2
-mul-out-2 c = omega (arith, stair-two (c .before .args .out .now) (c .before .args .n) (c .before .args .k) (c .before .args .c) (c .before .args .v) (c .before .pre .0) (c .if1 .left) (c .before .pre .1) .0)
+mul-out-2 c =
+    let s = c .before in
+    omega (arith, stair-two (s .args .out .now) (s .args .n) (s .args .k) (s .args .c) (s .args .v) (s .pre .0) (c .if1 .left) (s .pre .1) .0)
 
 slice-write-out-2 : tie.Need-slice-write-out-2
-slice-write-out-2 c = omega (arith, stair-two (c .before .args .out .now) (c .before .args .n) (c .before .args .k) (c .before .args .c) (c .before .args .v) (c .before .pre .0) (c .if1 .left) (c .before .pre .1) .0)
+slice-write-out-2 c =
+    let s = c .before in
+    omega (arith, stair-two (s .args .out .now) (s .args .n) (s .args .k) (s .args .c) (s .args .v) (s .pre .0) (c .if1 .left) (s .pre .1) .0)
 
 add-m : tie.Need-add-m
-add-m c = omega (arith, stair-two (c .before .args .out .now) (c .before .args .n) (c .before .args .k) (c .before .args .c) (c .before .args .v) (c .before .pre .0) (c .if1 .left) (c .before .pre .1) .0)
+add-m c =
+    let s = c .before in
+    omega (arith, stair-two (s .args .out .now) (s .args .n) (s .args .k) (s .args .c) (s .args .v) (s .pre .0) (c .if1 .left) (s .pre .1) .0)
 
 mul-out-3 : tie.Need-mul-out-3
-mul-out-3 c = omega (arith, stair-two (c .before .args .out .now) (c .before .args .n) (c .before .args .k) (c .before .args .c) (c .before .args .v) (c .before .pre .0) (c .if1 .left) (c .before .pre .1) .0)
+mul-out-3 c =
+    let s = c .before in
+    omega (arith, stair-two (s .args .out .now) (s .args .n) (s .args .k) (s .args .c) (s .args .v) (s .pre .0) (c .if1 .left) (s .pre .1) .0)
 
 slice-write-out-3 : tie.Need-slice-write-out-3
-slice-write-out-3 c = simp length-set (stair-two (c .before .args .out .now) (c .before .args .n) (c .before .args .k) (c .before .args .c) (c .before .args .v) (c .before .pre .0) (c .if1 .left) (c .before .pre .1) .0)
+slice-write-out-3 c =
+    let s = c .before in
+    simp length-set (stair-two (s .args .out .now) (s .args .n) (s .args .k) (s .args .c) (s .args .v) (s .pre .0) (c .if1 .left) (s .pre .1) .0)
 
 add-result-2 : tie.Need-add-result-2
-add-result-2 c = omega (arith, stair-two (c .before .args .out .now) (c .before .args .n) (c .before .args .k) (c .before .args .c) (c .before .args .v) (c .before .pre .0) (c .if1 .left) (c .before .pre .1) .0)
+add-result-2 c =
+    let s = c .before in
+    omega (arith, stair-two (s .args .out .now) (s .args .n) (s .args .k) (s .args .c) (s .args .v) (s .pre .0) (c .if1 .left) (s .pre .1) .0)
 
 same-length-2 : tie.Need-same-length-2
 same-length-2 c = search needs

@@ -1,3 +1,4 @@
+-- `ldpc_encode::add_row` meets its contract. Assumes nothing.
 use Rattle.ldpc_encode.specs.Sums.{Added, turnedBit}
 use mathlib.Core.Path.{subst}
 use Rattle.ldpc_encode.proofs.Bits.{Left, row-hit, row-miss, row-end}
@@ -10,11 +11,6 @@ use borrow.Author.Needs.{needs}
 use native.Mathlib.Omega.{arith}
 use Rattle.ldpc_encode.proofs.add_row.Statement.{statement}
 use Rattle.ldpc_encode.proofs.add_row.Tie as tie
-use Rattle.ldpc_encode.proofs.add_row.Reads as reads
-use Rattle.ldpc_encode.proofs.add_row.Lts as lts
-use Rattle.ldpc_encode.proofs.add_turned.Reads as add-turned-reads
-use Rattle.ldpc_encode.proofs.turn.Reads as turn-reads
-use Rattle.ldpc_shape.proofs.residue.Reads as residue-reads
 
 abbrev Inv-loop : tie.InvT-loop
 Inv-loop x₀ w row q l i₀ x i = (i ≤ length row) × (length x ≡ 374) × Left x (rowBit q l w (drop i row)) x₀ (rowBit q l w row)
@@ -48,17 +44,19 @@ loop-less c = search needs
 
 loop-again : tie.Need-loop-again Inv-loop μ-loop
 loop-again c =
+    let s = c .before .before .before .before .before .before .before .before in
+    let l = c .before .before .before .before .loop in
     ⊎-elim
     (λ w. (
       omega arith,
       ap length (w .6) ∙ w .3 .ensures .long,
-      row-hit (c .before .before .before .before .before .before .before .before .args .q) (c .before .before .before .before .before .before .before .before .args .l) (c .before .before .before .before .before .before .before .before .args .w .now) (c .before .before .before .before .before .before .before .before .args .row .now) (c .before .before .before .before .loop .i) (c .before .before .before .before .loop .x) _ (c .before .before .before .before .before .before .before .before .args .x .now) (c .before .residue .result) (w .2 .result) (search needs) (c .before .residue .ensures .0) (w .0 .taken)
-          (w .2 .ensures .0) (subst (λ y. Added (c .before .before .before .before .loop .x) y (turnedBit (c .before .before .before .before .before .before .before .before .args .w .now) (w .2 .result))) (sym (w .6)) (w .3 .ensures)) (c .before .before .before .before .loop .inv .2),
+      row-hit (s .args .q) (s .args .l) (s .args .w .now) (s .args .row .now) (l .i) (l .x) _ (s .args .x .now) (c .before .residue .result) (w .2 .result) (search needs) (c .before .residue .ensures .0) (w .0 .taken)
+          (w .2 .ensures .0) (subst (λ y. Added (l .x) y (turnedBit (s .args .w .now) (w .2 .result))) (sym (w .6)) (w .3 .ensures)) (l .inv .2),
     ))
     (λ w. (
       omega arith,
-      ap length (w .1) ∙ (c .before .before .before .before .loop .inv .1),
-      row-miss (c .before .before .before .before .before .before .before .before .args .q) (c .before .before .before .before .before .before .before .before .args .l) (c .before .before .before .before .before .before .before .before .args .w .now) (c .before .before .before .before .before .before .before .before .args .row .now) (c .before .before .before .before .loop .i) (c .before .before .before .before .loop .x) _ (c .before .before .before .before .before .before .before .before .args .x .now) (c .before .residue .result) (search needs) (c .before .residue .ensures .0) (w .0 .left) (w .1) (c .before .before .before .before .loop .inv .2),
+      ap length (w .1) ∙ (l .inv .1),
+      row-miss (s .args .q) (s .args .l) (s .args .w .now) (s .args .row .now) (l .i) (l .x) _ (s .args .x .now) (c .before .residue .result) (search needs) (c .before .residue .ensures .0) (w .0 .left) (w .1) (l .inv .2),
     ))
     (c .if1 .came)
 
@@ -66,7 +64,10 @@ same-length : tie.Need-same-length Inv-loop μ-loop
 same-length c = (c .before .loop .inv .1) ∙ sym (c .before .before .before .before .before .pre .0)
 
 returns : tie.Need-returns Inv-loop μ-loop
-returns c = row-end (c .before .before .before .before .before .args .q) (c .before .before .before .before .before .args .l) (c .before .before .before .before .before .args .w .now) (c .before .before .before .before .before .args .row .now) (c .before .loop .i) (c .before .loop .x) (c .before .before .before .before .before .args .x .now) (c .before .loop .inv .1) (search needs) (c .before .loop .inv .2)
+returns c =
+    let s = c .before .before .before .before .before in
+    let l = c .before .loop in
+    row-end (s .args .q) (s .args .l) (s .args .w .now) (s .args .row .now) (l .i) (l .x) (s .args .x .now) (l .inv .1) (search needs) (l .inv .2)
 
 pub add-row-spec : {M : Type 1} → statement M
 add-row-spec =

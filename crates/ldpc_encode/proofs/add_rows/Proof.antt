@@ -1,3 +1,4 @@
+-- `ldpc_encode::add_rows` meets its contract. Assumes nothing.
 use Rattle.ldpc_encode.proofs.Rows.{infoFrom, rows-end-fits, info-add, info-start, info-end}
 use Rattle.ldpc_encode.proofs.Bits.{Left}
 use Rattle.ldpc_encode.specs.Sums.{infoBit}
@@ -11,10 +12,6 @@ use borrow.Author.Needs.{needs}
 use native.Mathlib.Omega.{arith}
 use Rattle.ldpc_encode.proofs.add_rows.Statement.{statement}
 use Rattle.ldpc_encode.proofs.add_rows.Tie as tie
-use Rattle.ldpc_encode.proofs.add_rows.Reads as reads
-use Rattle.ldpc_encode.proofs.add_rows.Lts as lts
-use Rattle.ldpc_encode.proofs.add_row.Reads as add-row-reads
-use Rattle.ldpc_shape.proofs.wide.Reads as wide-reads
 
 abbrev Inv-loop : tie.InvT-loop
 Inv-loop x₀ w lens addrs q l g₀ from₀ first₀ x g from first =
@@ -25,7 +22,9 @@ abbrev μ-loop : tie.MeasureT-loop
 μ-loop x₀ w lens addrs q l g₀ from₀ first₀ x g from first = length lens - g
 
 loop-holds : tie.Need-loop-holds Inv-loop μ-loop
-loop-holds c = (omega arith, omega arith, omega (arith, (c .before .before .before .before .pre .2)), (c .before .before .before .before .pre .0), info-start (c .before .before .before .before .args .q) (c .before .before .before .before .args .l) (c .before .before .before .before .args .w .now) (c .before .before .before .before .args .lens .now) (c .before .before .before .before .args .addrs .now) (c .before .before .before .before .args .x .now))
+loop-holds c =
+    let s = c .before .before .before .before in
+    (omega arith, omega arith, omega (arith, (s .pre .2)), (s .pre .0), info-start (s .args .q) (s .args .l) (s .args .w .now) (s .args .lens .now) (s .args .addrs .now) (s .args .x .now))
 
 mul-wide : tie.Need-mul-wide Inv-loop μ-loop
 mul-wide c = search needs
@@ -37,7 +36,10 @@ wide-requires : tie.Need-wide-requires Inv-loop μ-loop
 wide-requires c κs = search needs
 
 add-end : tie.Need-add-end Inv-loop μ-loop
-add-end c = omega (arith, rows-end-fits (c .before .before .before .before .before .before .before .before .args .q) (c .before .before .before .before .before .before .before .before .args .l) (c .before .before .before .before .before .before .before .before .args .w .now) (c .before .before .before .before .before .before .before .before .args .lens .now) (c .before .before .before .before .before .before .before .before .args .addrs .now) (c .before .before .before .loop .g) (c .before .before .before .loop .from) (search needs) (c .wide .result) (c .wide .ensures) (c .before .before .before .loop .inv .2))
+add-end c =
+    let s = c .before .before .before .before .before .before .before .before in
+    let l = c .before .before .before .loop in
+    omega (arith, rows-end-fits (s .args .q) (s .args .l) (s .args .w .now) (s .args .lens .now) (s .args .addrs .now) (l .g) (l .from) (search needs) (c .wide .result) (c .wide .ensures) (l .inv .2))
 
 add-last : tie.Need-add-last Inv-loop μ-loop
 add-last c = omega (arith, (c .before .before .before .before .before .before .before .before .pre .1), (c .before .before .before .loop .inv .1))
@@ -61,10 +63,16 @@ part-add-row-start-2 : tie.Need-part-add-row-start-2 Inv-loop μ-loop
 part-add-row-start-2 c = search needs
 
 part-add-row-end-2 : tie.Need-part-add-row-end-2 Inv-loop μ-loop
-part-add-row-end-2 c = omega (arith, rows-end-fits (c .before .before .before .before .before .before .before .before .before .before .args .q) (c .before .before .before .before .before .before .before .before .before .before .args .l) (c .before .before .before .before .before .before .before .before .before .before .args .w .now) (c .before .before .before .before .before .before .before .before .before .before .args .lens .now) (c .before .before .before .before .before .before .before .before .before .before .args .addrs .now) (c .before .before .before .before .before .loop .g) (c .before .before .before .before .before .loop .from) (search needs) (c .before .before .wide .result) (c .before .before .wide .ensures) (c .before .before .before .before .before .loop .inv .2))
+part-add-row-end-2 c =
+    let s = c .before .before .before .before .before .before .before .before .before .before in
+    let l = c .before .before .before .before .before .loop in
+    omega (arith, rows-end-fits (s .args .q) (s .args .l) (s .args .w .now) (s .args .lens .now) (s .args .addrs .now) (l .g) (l .from) (search needs) (c .before .before .wide .result) (c .before .before .wide .ensures) (l .inv .2))
 
 add-row-requires : tie.Need-add-row-requires Inv-loop μ-loop
-add-row-requires c κs = ((c .before .before .before .before .before .before .loop .inv .3), omega (arith, length-take ((c .before .before .before .before .before .before .loop .first) + 374 - (c .before .before .before .before .before .before .loop .first)) (drop (c .before .before .before .before .before .before .loop .first) (c .before .before .before .before .before .before .before .before .before .before .before .args .w .now)), length-drop (c .before .before .before .before .before .before .loop .first) (c .before .before .before .before .before .before .before .before .before .before .before .args .w .now), (c .before .before .before .before .before .before .before .before .before .before .before .pre .1), (c .before .before .before .before .before .before .loop .inv .1)), omega (arith, (c .before .before .before .before .before .before .before .before .before .before .before .pre .3)))
+add-row-requires c κs =
+    let s = c .before .before .before .before .before .before .before .before .before .before .before in
+    let l = c .before .before .before .before .before .before .loop in
+    ((l .inv .3), omega (arith, length-take ((l .first) + 374 - (l .first)) (drop (l .first) (s .args .w .now)), length-drop (l .first) (s .args .w .now), (s .pre .1), (l .inv .1)), omega (arith, (s .pre .3)))
 
 add-g : tie.Need-add-g Inv-loop μ-loop
 add-g c = search needs
@@ -74,20 +82,25 @@ loop-less c = search needs
 
 loop-again : tie.Need-loop-again Inv-loop μ-loop
 loop-again c =
-    let f = rows-end-fits (c .before .before .before .before .before .before .before .before .before .before .before .before .before .before .args .q) (c .before .before .before .before .before .before .before .before .before .before .before .before .before .before .args .l) (c .before .before .before .before .before .before .before .before .before .before .before .before .before .before .args .w .now) (c .before .before .before .before .before .before .before .before .before .before .before .before .before .before .args .lens .now) (c .before .before .before .before .before .before .before .before .before .before .before .before .before .before .args .addrs .now) (c .before .before .before .before .before .before .before .before .before .loop .g) (c .before .before .before .before .before .before .before .before .before .loop .from) (search needs) (c .before .before .before .before .before .before .wide .result) (c .before .before .before .before .before .before .wide .ensures) (c .before .before .before .before .before .before .before .before .before .loop .inv .2) in (
+    let s = c .before .before .before .before .before .before .before .before .before .before .before .before .before .before in
+    let l = c .before .before .before .before .before .before .before .before .before .loop in
+    let f = rows-end-fits (s .args .q) (s .args .l) (s .args .w .now) (s .args .lens .now) (s .args .addrs .now) (l .g) (l .from) (search needs) (c .before .before .before .before .before .before .wide .result) (c .before .before .before .before .before .before .wide .ensures) (l .inv .2) in (
       omega arith,
       omega arith,
       f .1,
       (c .before .before .add-row .ensures .long),
-      info-add (c .before .before .before .before .before .before .before .before .before .before .before .before .before .before .args .q) (c .before .before .before .before .before .before .before .before .before .before .before .before .before .before .args .l) (c .before .before .before .before .before .before .before .before .before .before .before .before .before .before .args .w .now) (c .before .before .before .before .before .before .before .before .before .before .before .before .before .before .args .lens .now) (c .before .before .before .before .before .before .before .before .before .before .before .before .before .before .args .addrs .now) (c .before .before .before .before .before .before .before .before .before .loop .g) (c .before .before .before .before .before .before .before .before .before .loop .from) (search needs) (c .before .before .before .before .before .before .before .before .before .before .before .before .before .before .pre .3) (c .before .before .before .before .before .before .before .before .before .loop .x) _ (c .before .before .before .before .before .before .before .before .before .before .before .before .before .before .args .x .now) (c .before .before .before .before .before .before .wide .result) (c .before .before .before .before .before .before .before .before .before .loop .first)
-          (infoBit (c .before .before .before .before .before .before .before .before .before .before .before .before .before .before .args .q) (c .before .before .before .before .before .before .before .before .before .before .before .before .before .before .args .l) (c .before .before .before .before .before .before .before .before .before .before .before .before .before .before .args .w .now) (c .before .before .before .before .before .before .before .before .before .before .before .before .before .before .args .lens .now) (c .before .before .before .before .before .before .before .before .before .before .before .before .before .before .args .addrs .now)) (c .before .before .before .before .before .before .wide .ensures) (c .before .before .before .before .before .before .before .before .before .loop .inv .1) (c .before .before .add-row .ensures) (c .before .before .before .before .before .before .before .before .before .loop .inv .4),
+      info-add (s .args .q) (s .args .l) (s .args .w .now) (s .args .lens .now) (s .args .addrs .now) (l .g) (l .from) (search needs) (s .pre .3) (l .x) _ (s .args .x .now) (c .before .before .before .before .before .before .wide .result) (l .first)
+          (infoBit (s .args .q) (s .args .l) (s .args .w .now) (s .args .lens .now) (s .args .addrs .now)) (c .before .before .before .before .before .before .wide .ensures) (l .inv .1) (c .before .before .add-row .ensures) (l .inv .4),
     )
 
 same-length : tie.Need-same-length Inv-loop μ-loop
 same-length c = (c .before .loop .inv .3) ∙ sym (c .before .before .before .before .before .before .pre .0)
 
 returns : tie.Need-returns Inv-loop μ-loop
-returns c = info-end (c .before .before .before .before .before .before .args .q) (c .before .before .before .before .before .before .args .l) (c .before .before .before .before .before .before .args .w .now) (c .before .before .before .before .before .before .args .lens .now) (c .before .before .before .before .before .before .args .addrs .now) (c .before .loop .x) (c .before .before .before .before .before .before .args .x .now) (c .before .loop .g) (c .before .loop .from) (c .before .loop .inv .3) (search needs) (c .before .loop .inv .4)
+returns c =
+    let s = c .before .before .before .before .before .before in
+    let l = c .before .loop in
+    info-end (s .args .q) (s .args .l) (s .args .w .now) (s .args .lens .now) (s .args .addrs .now) (l .x) (s .args .x .now) (l .g) (l .from) (l .inv .3) (search needs) (l .inv .4)
 
 pub add-rows-spec : {M : Type 1} → statement M
 add-rows-spec =

@@ -1,3 +1,4 @@
+-- `ldpc_encode::add_turned` meets its contract. Assumes nothing.
 use Rattle.ldpc_encode.proofs.Bits.{first-fits, middle-length, second-fits, turned-done}
 use lib.Seq.{length-take-le}
 use mathlib.Core.Path.{_≡_, sym, _∙_}
@@ -5,9 +6,6 @@ use native.Mathlib.Omega.{arith}
 use borrow.Author.Needs.{needs}
 use Rattle.ldpc_encode.proofs.add_turned.Statement.{statement}
 use Rattle.ldpc_encode.proofs.add_turned.Tie as tie
-use Rattle.ldpc_encode.proofs.add_turned.Reads as reads
-use Rattle.ldpc_encode.proofs.add_turned.Lts as lts
-use Rattle.ldpc_encode.proofs.xor_into.Reads as xor-into-reads
 
 sub-r : tie.Need-sub-r
 sub-r c = search needs
@@ -22,16 +20,24 @@ part-xor-into-end : tie.Need-part-xor-into-end
 part-xor-into-end c = search needs
 
 slice-aggregate-xor-into : tie.Need-slice-aggregate-xor-into
-slice-aggregate-xor-into c = sym (length-take-le _ (c .before .before .before .before .args .w .now) (omega (arith, (c .before .before .before .before .pre .1))))
+slice-aggregate-xor-into c =
+    let s = c .before .before .before .before in
+    sym (length-take-le _ (s .args .w .now) (omega (arith, (s .pre .1))))
 
 xor-into-requires : tie.Need-xor-into-requires
-xor-into-requires c κs = first-fits (c .before .before .before .before .args .x .now) (c .before .before .before .before .args .w .now) (c .before .before .before .before .args .s) (c .before .before .before .before .pre .0) (c .before .before .before .before .pre .1) (c .before .before .before .before .pre .2)
+xor-into-requires c κs =
+    let s = c .before .before .before .before in
+    first-fits (s .args .x .now) (s .args .w .now) (s .args .s) (s .pre .0) (s .pre .1) (s .pre .2)
 
 slice-relend-prefix-xor-into : tie.Need-slice-relend-prefix-xor-into
-slice-relend-prefix-xor-into c = omega (arith, middle-length (c .before .before .before .before .before .before .before .args .x .now) (c .before .before .before .before .before .before .before .args .w .now) (c .before .before .before .before .before .before .before .args .s) (c .before .before .before .before .before .before .before .pre .0) (c .before .before .before .before .before .before .before .pre .1) (c .before .before .before .before .before .before .before .pre .2) (c .before .before .xor-into .last .0) (c .before .before .xor-into .ensures))
+slice-relend-prefix-xor-into c =
+    let s = c .before .before .before .before .before .before .before in
+    omega (arith, middle-length (s .args .x .now) (s .args .w .now) (s .args .s) (s .pre .0) (s .pre .1) (s .pre .2) (c .before .before .xor-into .last .0) (c .before .before .xor-into .ensures))
 
 slice-aggregate-xor-into-2 : tie.Need-slice-aggregate-xor-into-2
-slice-aggregate-xor-into-2 c = sym (length-take-le (c .before .before .before .before .before .before .before .before .args .s) _ (omega (arith, middle-length (c .before .before .before .before .before .before .before .before .args .x .now) (c .before .before .before .before .before .before .before .before .args .w .now) (c .before .before .before .before .before .before .before .before .args .s) (c .before .before .before .before .before .before .before .before .pre .0) (c .before .before .before .before .before .before .before .before .pre .1) (c .before .before .before .before .before .before .before .before .pre .2) (c .before .before .before .xor-into .last .0) (c .before .before .before .xor-into .ensures))))
+slice-aggregate-xor-into-2 c =
+    let s = c .before .before .before .before .before .before .before .before in
+    sym (length-take-le (s .args .s) _ (omega (arith, middle-length (s .args .x .now) (s .args .w .now) (s .args .s) (s .pre .0) (s .pre .1) (s .pre .2) (c .before .before .before .xor-into .last .0) (c .before .before .before .xor-into .ensures))))
 
 sub-xor-into-2 : tie.Need-sub-xor-into-2
 sub-xor-into-2 c = search needs
@@ -43,13 +49,19 @@ part-xor-into-end-2 : tie.Need-part-xor-into-end-2
 part-xor-into-end-2 c = search needs
 
 xor-into-requires-2 : tie.Need-xor-into-requires-2
-xor-into-requires-2 c κs = second-fits (c .before .before .before .before .before .before .before .before .before .args .x .now) (c .before .before .before .before .before .before .before .before .before .args .w .now) (c .before .before .before .before .before .before .before .before .before .args .s) (c .before .before .before .before .before .before .before .before .before .pre .0) (c .before .before .before .before .before .before .before .before .before .pre .1) (c .before .before .before .before .before .before .before .before .before .pre .2) (c .before .before .before .before .xor-into .last .0) (c .before .before .before .before .xor-into .ensures)
+xor-into-requires-2 c κs =
+    let s = c .before .before .before .before .before .before .before .before .before in
+    second-fits (s .args .x .now) (s .args .w .now) (s .args .s) (s .pre .0) (s .pre .1) (s .pre .2) (c .before .before .before .before .xor-into .last .0) (c .before .before .before .before .xor-into .ensures)
 
 same-length : tie.Need-same-length
-same-length c = turned-done (c .before .before .before .before .before .before .before .before .before .before .before .before .args .x .now) (c .before .before .before .before .before .before .before .before .before .before .before .before .args .w .now) (c .before .before .before .before .before .before .before .before .before .before .before .before .args .s) (c .before .before .before .before .before .before .before .before .before .before .before .before .pre .0) (c .before .before .before .before .before .before .before .before .before .before .before .before .pre .1) (c .before .before .before .before .before .before .before .before .before .before .before .before .pre .2) (c .before .before .before .before .before .before .before .xor-into .last .0) (c .before .before .before .before .before .before .before .xor-into .ensures) (c .before .before .xor-into2 .last .0) (c .before .before .xor-into2 .ensures) .long ∙ sym (c .before .before .before .before .before .before .before .before .before .before .before .before .pre .0)
+same-length c =
+    let s = c .before .before .before .before .before .before .before .before .before .before .before .before in
+    turned-done (s .args .x .now) (s .args .w .now) (s .args .s) (s .pre .0) (s .pre .1) (s .pre .2) (c .before .before .before .before .before .before .before .xor-into .last .0) (c .before .before .before .before .before .before .before .xor-into .ensures) (c .before .before .xor-into2 .last .0) (c .before .before .xor-into2 .ensures) .long ∙ sym (s .pre .0)
 
 returns : tie.Need-returns
-returns c = turned-done (c .before .before .before .before .before .before .before .before .before .before .before .before .args .x .now) (c .before .before .before .before .before .before .before .before .before .before .before .before .args .w .now) (c .before .before .before .before .before .before .before .before .before .before .before .before .args .s) (c .before .before .before .before .before .before .before .before .before .before .before .before .pre .0) (c .before .before .before .before .before .before .before .before .before .before .before .before .pre .1) (c .before .before .before .before .before .before .before .before .before .before .before .before .pre .2) (c .before .before .before .before .before .before .before .xor-into .last .0) (c .before .before .before .before .before .before .before .xor-into .ensures) (c .before .before .xor-into2 .last .0) (c .before .before .xor-into2 .ensures)
+returns c =
+    let s = c .before .before .before .before .before .before .before .before .before .before .before .before in
+    turned-done (s .args .x .now) (s .args .w .now) (s .args .s) (s .pre .0) (s .pre .1) (s .pre .2) (c .before .before .before .before .before .before .before .xor-into .last .0) (c .before .before .before .before .before .before .before .xor-into .ensures) (c .before .before .xor-into2 .last .0) (c .before .before .xor-into2 .ensures)
 
 pub add-turned-spec : {M : Type 1} → statement M
 add-turned-spec =

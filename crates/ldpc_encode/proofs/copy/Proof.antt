@@ -1,3 +1,4 @@
+-- `ldpc_encode::copy` meets its contract. Assumes nothing.
 use Rattle.ldpc_encode.proofs.Bytes.{copied, copied-rest, copied-all}
 use lib.ListN.{length, take, drop, length-set}
 use Prim.Native.Nat.{_≤_, _-_}
@@ -6,8 +7,6 @@ use borrow.Author.Needs.{needs}
 use native.Mathlib.Omega.{arith}
 use Rattle.ldpc_encode.proofs.copy.Statement.{statement}
 use Rattle.ldpc_encode.proofs.copy.Tie as tie
-use Rattle.ldpc_encode.proofs.copy.Reads as reads
-use Rattle.ldpc_encode.proofs.copy.Lts as lts
 
 abbrev Inv-loop : tie.InvT-loop
 Inv-loop out₀ w i₀ out i = (i ≤ length w) × (length out ≡ length out₀) × (take i out ≡ take i w) × (drop i out ≡ drop i out₀)
@@ -31,18 +30,23 @@ loop-less : tie.Need-loop-less Inv-loop μ-loop
 loop-less c = search needs
 
 loop-again : tie.Need-loop-again Inv-loop μ-loop
-loop-again c = (
-  omega arith,
-  length-set (c .before .before .loop .out) _ _ ∙ (c .before .before .loop .inv .1),
-  copied (c .before .before .loop .out) (c .before .before .before .args .w .now) (c .before .before .loop .i) (omega (arith, (c .before .before .loop .inv .1), (c .before .before .before .pre))) (search needs) (c .before .before .loop .inv .2),
-  copied-rest (c .before .before .loop .out) (c .before .before .before .args .out .now) (c .before .before .loop .i) _ (c .before .before .loop .inv .3),
-)
+loop-again c =
+    let s = c .before .before .before in
+    let l = c .before .before .loop in (
+      omega arith,
+      length-set (l .out) _ _ ∙ (l .inv .1),
+      copied (l .out) (s .args .w .now) (l .i) (omega (arith, (l .inv .1), (s .pre))) (search needs) (l .inv .2),
+      copied-rest (l .out) (s .args .out .now) (l .i) _ (l .inv .3),
+    )
 
 same-length : tie.Need-same-length Inv-loop μ-loop
 same-length c = search needs
 
 returns : tie.Need-returns Inv-loop μ-loop
-returns c = copied-all (c .before .loop .out) (c .before .before .args .w .now) (c .before .before .args .out .now) (c .before .loop .i) (search needs) (c .before .loop .inv .0) (c .before .loop .inv .2) (c .before .loop .inv .3)
+returns c =
+    let s = c .before .before in
+    let l = c .before .loop in
+    copied-all (l .out) (s .args .w .now) (s .args .out .now) (l .i) (search needs) (l .inv .0) (l .inv .2) (l .inv .3)
 
 pub copy-spec : {M : Type 1} → statement M
 copy-spec =

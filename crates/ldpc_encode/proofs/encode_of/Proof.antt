@@ -1,3 +1,4 @@
+-- `ldpc_encode::encode_of` meets its contract. Assumes nothing.
 use Rattle.ldpc_encode.proofs.Residue.{n-parts}
 use Rattle.ldpc_encode.proofs.Bytes.{rest-length, put-behind}
 use Rattle.ldpc_edges.specs.Code.{encode}
@@ -9,28 +10,31 @@ use native.Mathlib.Omega.{arith}
 use borrow.Author.Needs.{needs}
 use Rattle.ldpc_encode.proofs.encode_of.Statement.{statement}
 use Rattle.ldpc_encode.proofs.encode_of.Tie as tie
-use Rattle.ldpc_encode.proofs.encode_of.Reads as reads
-use Rattle.ldpc_encode.proofs.encode_of.Lts as lts
-use Rattle.ldpc_encode.proofs.copy.Reads as copy-reads
-use Rattle.ldpc_encode.proofs.parity_of.Reads as parity-of-reads
 
 copy-requires : tie.Need-copy-requires
-copy-requires c κs = omega (arith, n-parts (c .before .before .before .before .before .args .n) (c .before .before .before .before .before .args .lens .now) (c .before .before .before .before .before .args .addrs .now) (c .before .before .before .before .before .pre .0), (c .before .before .before .before .before .pre .1), (c .before .before .before .before .before .pre .2))
+copy-requires c κs =
+    let s = c .before .before .before .before .before in
+    omega (arith, n-parts (s .args .n) (s .args .lens .now) (s .args .addrs .now) (s .pre .0), (s .pre .1), (s .pre .2))
 
 sub-parity-of : tie.Need-sub-parity-of
-sub-parity-of c = omega (arith, ap length (c .before .before .copy .ensures) ∙ length-append (c .before .before .before .before .before .before .before .before .args .info .now) (drop (length (c .before .before .before .before .before .before .before .before .args .info .now)) (c .before .before .before .before .before .before .before .before .args .out .now)))
+sub-parity-of c =
+    let s = c .before .before .before .before .before .before .before .before in
+    omega (arith, ap length (c .before .before .copy .ensures) ∙ length-append (s .args .info .now) (drop (length (s .args .info .now)) (s .args .out .now)))
 
 part-parity-of-start : tie.Need-part-parity-of-start
-part-parity-of-start c = omega (arith, ap length (c .before .before .copy .ensures) ∙ length-append (c .before .before .before .before .before .before .before .before .args .info .now) (drop (length (c .before .before .before .before .before .before .before .before .args .info .now)) (c .before .before .before .before .before .before .before .before .args .out .now)))
+part-parity-of-start c =
+    let s = c .before .before .before .before .before .before .before .before in
+    omega (arith, ap length (c .before .before .copy .ensures) ∙ length-append (s .args .info .now) (drop (length (s .args .info .now)) (s .args .out .now)))
 
 part-parity-of-end : tie.Need-part-parity-of-end
 part-parity-of-end c = search needs
 
 parity-of-requires : tie.Need-parity-of-requires
 parity-of-requires c κs =
-    let e = n-parts (c .before .before .before .before .before .before .before .before .before .args .n) (c .before .before .before .before .before .before .before .before .before .args .lens .now) (c .before .before .before .before .before .before .before .before .before .args .addrs .now) (c .before .before .before .before .before .before .before .before .before .pre .0) in
-    let h : length (c .before .before .before .before .before .before .before .before .before .args .info .now) ≤ length (c .before .before .before .before .before .before .before .before .before .args .out .now) = omega (arith, e, (c .before .before .before .before .before .before .before .before .before .pre .1), (c .before .before .before .before .before .before .before .before .before .pre .2)) in
-    ((c .before .before .before .before .before .before .before .before .before .pre .0), (c .before .before .before .before .before .before .before .before .before .pre .1), rest-length (c .before .before .before .before .before .before .before .before .before .args .info .now) (c .before .before .before .before .before .before .before .before .before .args .out .now) _ h (c .before .before .before .copy .ensures) ∙ omega (arith, e, (c .before .before .before .before .before .before .before .before .before .pre .1), (c .before .before .before .before .before .before .before .before .before .pre .2)))
+    let s = c .before .before .before .before .before .before .before .before .before in
+    let e = n-parts (s .args .n) (s .args .lens .now) (s .args .addrs .now) (s .pre .0) in
+    let h : length (s .args .info .now) ≤ length (s .args .out .now) = omega (arith, e, (s .pre .1), (s .pre .2)) in
+    ((s .pre .0), (s .pre .1), rest-length (s .args .info .now) (s .args .out .now) _ h (c .before .before .before .copy .ensures) ∙ omega (arith, e, (s .pre .1), (s .pre .2)))
 
 same-length : tie.Need-same-length
 same-length c = search needs
@@ -38,9 +42,10 @@ same-length c = search needs
 returns : tie.Need-returns
 unfolding encode
 returns c =
-    let e = n-parts (c .before .before .before .before .before .before .before .before .before .before .before .before .args .n) (c .before .before .before .before .before .before .before .before .before .before .before .before .args .lens .now) (c .before .before .before .before .before .before .before .before .before .before .before .before .args .addrs .now) (c .before .before .before .before .before .before .before .before .before .before .before .before .pre .0) in
-    let h : length (c .before .before .before .before .before .before .before .before .before .before .before .before .args .info .now) ≤ length (c .before .before .before .before .before .before .before .before .before .before .before .before .args .out .now) = omega (arith, e, (c .before .before .before .before .before .before .before .before .before .before .before .before .pre .1), (c .before .before .before .before .before .before .before .before .before .before .before .before .pre .2)) in
-    put-behind (c .before .before .before .before .before .before .before .before .before .before .before .before .args .info .now) (c .before .before .before .before .before .before .before .before .before .before .before .before .args .out .now) _ _ h (c .before .before .before .before .before .before .copy .ensures) ∙ ap (λ z. (c .before .before .before .before .before .before .before .before .before .before .before .before .args .info .now) ++ z) (c .before .before .parity-of .ensures)
+    let s = c .before .before .before .before .before .before .before .before .before .before .before .before in
+    let e = n-parts (s .args .n) (s .args .lens .now) (s .args .addrs .now) (s .pre .0) in
+    let h : length (s .args .info .now) ≤ length (s .args .out .now) = omega (arith, e, (s .pre .1), (s .pre .2)) in
+    put-behind (s .args .info .now) (s .args .out .now) _ _ h (c .before .before .before .before .before .before .copy .ensures) ∙ ap (λ z. (s .args .info .now) ++ z) (c .before .before .parity-of .ensures)
 
 pub encode-of-spec : {M : Type 1} → statement M
 encode-of-spec =

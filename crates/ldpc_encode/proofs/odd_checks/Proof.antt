@@ -1,3 +1,4 @@
+-- `ldpc_encode::odd_checks` meets its contract. Assumes nothing.
 use Rattle.ldpc_encode.proofs.Residue.{at-next, at-fits, count-next}
 use Rattle.ldpc_encode.specs.Sums.{unmetAt}
 use Rattle.laws.specs.Modulo.{sumTo, sum-none}
@@ -7,10 +8,6 @@ use borrow.Author.Needs.{needs}
 use native.Mathlib.Omega.{arith}
 use Rattle.ldpc_encode.proofs.odd_checks.Statement.{statement}
 use Rattle.ldpc_encode.proofs.odd_checks.Tie as tie
-use Rattle.ldpc_encode.proofs.odd_checks.Reads as reads
-use Rattle.ldpc_encode.proofs.odd_checks.Lts as lts
-use Rattle.ldpc_encode.proofs.odd.Reads as odd-reads
-use Rattle.ldpc_encode.proofs.stair_bit.Reads as stair-bit-reads
 
 abbrev Inv-loop : tie.InvT-loop
 Inv-loop x p q l s₀ c₀ i₀ s c i = (i ≤ 374) × (c ≡ l + i * q) × (s ≤ i) × (s ≡ sumTo i (unmetAt q l x p))
@@ -25,7 +22,10 @@ element-copy-out-odd : tie.Need-element-copy-out-odd Inv-loop μ-loop
 element-copy-out-odd c = search needs
 
 stair-bit-requires : tie.Need-stair-bit-requires Inv-loop μ-loop
-stair-bit-requires c κs = omega (arith, at-fits (c .before .before .before .before .args .q) (c .before .before .before .before .args .l) (c .before .before .loop .i) (c .before .before .loop .c) (c .before .before .before .before .pre .1) (c .before .before .before .before .pre .2) (search needs) (c .before .before .loop .inv .1), (c .before .before .before .before .pre .0))
+stair-bit-requires c κs =
+    let s = c .before .before .before .before in
+    let l = c .before .before .loop in
+    omega (arith, at-fits (s .args .q) (s .args .l) (l .i) (l .c) (s .pre .1) (s .pre .2) (search needs) (l .inv .1), (s .pre .0))
 
 odd-requires : tie.Need-odd-requires Inv-loop μ-loop
 odd-requires c κs = search needs
@@ -34,7 +34,10 @@ add-s : tie.Need-add-s Inv-loop μ-loop
 add-s c = omega (arith, (c .odd .ensures .1))
 
 add-c : tie.Need-add-c Inv-loop μ-loop
-add-c c = omega (arith, at-fits (c .before .before .before .before .before .before .args .q) (c .before .before .before .before .before .before .args .l) (c .before .before .before .before .loop .i) (c .before .before .before .before .loop .c) (c .before .before .before .before .before .before .pre .1) (c .before .before .before .before .before .before .pre .2) (search needs) (c .before .before .before .before .loop .inv .1))
+add-c c =
+    let s = c .before .before .before .before .before .before in
+    let l = c .before .before .before .before .loop in
+    omega (arith, at-fits (s .args .q) (s .args .l) (l .i) (l .c) (s .pre .1) (s .pre .2) (search needs) (l .inv .1))
 
 add-i : tie.Need-add-i Inv-loop μ-loop
 add-i c = search needs
@@ -43,17 +46,21 @@ loop-less : tie.Need-loop-less Inv-loop μ-loop
 loop-less c = search needs
 
 loop-again : tie.Need-loop-again Inv-loop μ-loop
-loop-again c = (
-  omega arith,
-  at-next (c .before .before .before .before .before .before .args .q) (c .before .before .before .before .before .before .args .l) (c .before .before .before .before .loop .i) (c .before .before .before .before .loop .c) (c .before .before .before .before .loop .inv .1),
-  omega (arith, (c .odd .ensures .1)),
-  count-next (c .before .before .before .before .before .before .args .q) (c .before .before .before .before .before .before .args .l) (c .before .before .before .before .before .before .args .x .now) (c .before .before .before .before .before .before .args .p .now) (c .before .before .before .before .loop .i) (c .before .before .before .before .loop .c) (c .before .before .before .before .loop .s) (c .odd .result) (c .before .stair-bit .result) (c .before .before .before .before .loop .inv .1) (c .before .before .before .before .loop .inv .3) (c .before .stair-bit .ensures) (c .odd .ensures .0),
-)
+loop-again c =
+    let s = c .before .before .before .before .before .before in
+    let l = c .before .before .before .before .loop in (
+      omega arith,
+      at-next (s .args .q) (s .args .l) (l .i) (l .c) (l .inv .1),
+      omega (arith, (c .odd .ensures .1)),
+      count-next (s .args .q) (s .args .l) (s .args .x .now) (s .args .p .now) (l .i) (l .c) (l .s) (c .odd .result) (c .before .stair-bit .result) (l .inv .1) (l .inv .3) (c .before .stair-bit .ensures) (c .odd .ensures .0),
+    )
 
 returns : tie.Need-returns Inv-loop μ-loop
 returns c =
-    let e : (c .before .loop .i) ≡ 374 = omega arith in
-    ((c .before .loop .inv .3) ∙ ap (λ (z : ℕ). sumTo z (unmetAt (c .before .before .before .args .q) (c .before .before .before .args .l) (c .before .before .before .args .x .now) (c .before .before .before .args .p .now))) e, omega arith)
+    let s = c .before .before .before in
+    let l = c .before .loop in
+    let e : (l .i) ≡ 374 = omega arith in
+    ((l .inv .3) ∙ ap (λ (z : ℕ). sumTo z (unmetAt (s .args .q) (s .args .l) (s .args .x .now) (s .args .p .now))) e, omega arith)
 
 pub odd-checks-spec : {M : Type 1} → statement M
 odd-checks-spec =

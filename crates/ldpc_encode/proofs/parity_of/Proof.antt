@@ -1,3 +1,4 @@
+-- `ldpc_encode::parity_of` meets its contract. Assumes nothing.
 use Prim.Native.Nat.{_%_}
 use Rattle.ldpc_encode.proofs.Residue.{Done, infoOnes, rows-fit, adds, k-fits, s-fits, info-is, done-start, done-again, parity-done}
 use lib.ListN.{length}
@@ -7,12 +8,6 @@ use borrow.Author.Needs.{needs}
 use native.Mathlib.Omega.{arith}
 use Rattle.ldpc_encode.proofs.parity_of.Statement.{statement}
 use Rattle.ldpc_encode.proofs.parity_of.Tie as tie
-use Rattle.ldpc_encode.proofs.parity_of.Reads as reads
-use Rattle.ldpc_encode.proofs.parity_of.Lts as lts
-use Rattle.ldpc_encode.proofs.scatter.Reads as scatter-reads
-use Rattle.ldpc_encode.proofs.sum_up.Reads as sum-up-reads
-use Rattle.ldpc_encode.proofs.sums_of.Reads as sums-of-reads
-use Rattle.ldpc_shape.proofs.wide.Reads as wide-reads
 
 abbrev Inv-loop : tie.InvT-loop
 Inv-loop n lens addrs info out₀ q s l₀ out l = (l ≤ s) × (length out ≡ length out₀) × Done s l out (infoOnes n lens addrs info)
@@ -21,28 +16,36 @@ abbrev μ-loop : tie.MeasureT-loop
 μ-loop n lens addrs info out₀ q s l₀ out l = s - l
 
 cast-q : tie.Need-cast-q Inv-loop μ-loop
-cast-q c = omega (arith, rows-fit (c .before .before .before .before .args .n) (c .before .before .before .before .args .lens .now) (c .before .before .before .before .args .addrs .now) (c .before .before .before .before .pre .0))
+cast-q c =
+    let s = c .before .before .before .before in
+    omega (arith, rows-fit (s .args .n) (s .args .lens .now) (s .args .addrs .now) (s .pre .0))
 
 sub-q : tie.Need-sub-q Inv-loop μ-loop
-sub-q c = omega (arith, rows-fit (c .before .before .before .before .args .n) (c .before .before .before .before .args .lens .now) (c .before .before .before .before .args .addrs .now) (c .before .before .before .before .pre .0))
+sub-q c =
+    let s = c .before .before .before .before in
+    omega (arith, rows-fit (s .args .n) (s .args .lens .now) (s .args .addrs .now) (s .pre .0))
 
 wide-requires : tie.Need-wide-requires Inv-loop μ-loop
 wide-requires c κs = search needs
 
 loop-holds : tie.Need-loop-holds Inv-loop μ-loop
-loop-holds c = (omega arith, refl, done-start (c .wide .result) (c .before .before .before .before .before .args .out .now) (infoOnes (c .before .before .before .before .before .args .n) (c .before .before .before .before .before .args .lens .now) (c .before .before .before .before .before .args .addrs .now) (c .before .before .before .before .before .args .info .now)))
+loop-holds c =
+    let s = c .before .before .before .before .before in
+    (omega arith, refl, done-start (c .wide .result) (s .args .out .now) (infoOnes (s .args .n) (s .args .lens .now) (s .args .addrs .now) (s .args .info .now)))
 
 sums-of-requires : tie.Need-sums-of-requires Inv-loop μ-loop
-sums-of-requires c κs = (
-  k-fits (c .before .before .before .before .before .before .before .args .n) (c .before .before .before .before .before .before .before .args .lens .now) (c .before .before .before .before .before .before .before .args .addrs .now) (c .before .before .before .before .before .before .before .pre .0) (c .before .before .before .before .before .before .before .args .info .now) (c .before .before .before .before .before .before .before .pre .1),
-  adds (c .before .before .before .before .before .before .before .args .n) (c .before .before .before .before .before .before .before .args .lens .now) (c .before .before .before .before .before .before .before .args .addrs .now) (c .before .before .before .before .before .before .before .pre .0),
-  omega (arith, (c .before .before .wide .ensures)),
-)
+sums-of-requires c κs =
+    let s = c .before .before .before .before .before .before .before in (
+      k-fits (s .args .n) (s .args .lens .now) (s .args .addrs .now) (s .pre .0) (s .args .info .now) (s .pre .1),
+      adds (s .args .n) (s .args .lens .now) (s .args .addrs .now) (s .pre .0),
+      omega (arith, (c .before .before .wide .ensures)),
+    )
 
 scatter-requires : tie.Need-scatter-requires Inv-loop μ-loop
 scatter-requires c κs =
-    let f = s-fits (c .before .before .before .before .before .before .before .before .before .before .args .n) (c .before .before .before .before .before .before .before .before .before .before .args .lens .now) (c .before .before .before .before .before .before .before .before .before .before .args .addrs .now) (c .before .before .before .before .before .before .before .before .before .before .pre .0) (c .before .before .before .before .before .wide .result) (c .before .before .before .before .before .wide .ensures) in
-    ((c .before .before .before .before .loop .inv .1) ∙ (c .before .before .before .before .before .before .before .before .before .before .pre .2) ∙ f .1, search needs, f .0)
+    let s = c .before .before .before .before .before .before .before .before .before .before in
+    let f = s-fits (s .args .n) (s .args .lens .now) (s .args .addrs .now) (s .pre .0) (c .before .before .before .before .before .wide .result) (c .before .before .before .before .before .wide .ensures) in
+    ((c .before .before .before .before .loop .inv .1) ∙ (s .pre .2) ∙ f .1, search needs, f .0)
 
 add-l : tie.Need-add-l Inv-loop μ-loop
 add-l c = search needs
@@ -51,12 +54,14 @@ loop-less : tie.Need-loop-less Inv-loop μ-loop
 loop-less c = search needs
 
 loop-again : tie.Need-loop-again Inv-loop μ-loop
-loop-again c = (
-  omega arith,
-  (c .before .before .scatter .ensures .long) ∙ (c .before .before .before .before .before .before .before .loop .inv .1),
-  done-again (c .before .before .before .before .before .before .before .before .wide .result) (c .before .before .before .before .before .before .before .loop .l) (c .before .before .before .before .before .sums-of .result) (c .before .before .before .before .before .before .before .loop .out) _ (infoOnes (c .before .before .before .before .before .before .before .before .before .before .before .before .before .args .n) (c .before .before .before .before .before .before .before .before .before .before .before .before .before .args .lens .now) (c .before .before .before .before .before .before .before .before .before .before .before .before .before .args .addrs .now) (c .before .before .before .before .before .before .before .before .before .before .before .before .before .args .info .now)) (search needs) (c .before .before .scatter .ensures)
-      (λ i h. (c .before .before .before .before .before .sums-of .ensures) i h ∙ ap (λ (z : ℕ). z % 2) (info-is (c .before .before .before .before .before .before .before .before .before .before .before .before .before .args .n) (c .before .before .before .before .before .before .before .before .before .before .before .before .before .args .lens .now) (c .before .before .before .before .before .before .before .before .before .before .before .before .before .args .addrs .now) (c .before .before .before .before .before .before .before .before .before .before .before .before .before .pre .0) (c .before .before .before .before .before .before .before .before .wide .result) (c .before .before .before .before .before .before .before .before .wide .ensures) (c .before .before .before .before .before .before .before .before .before .before .before .before .before .args .info .now) (c .before .before .before .before .before .before .before .loop .l) i)) (c .before .before .before .before .before .before .before .loop .inv .2),
-)
+loop-again c =
+    let s = c .before .before .before .before .before .before .before .before .before .before .before .before .before in
+    let l = c .before .before .before .before .before .before .before .loop in (
+      omega arith,
+      (c .before .before .scatter .ensures .long) ∙ (l .inv .1),
+      done-again (c .before .before .before .before .before .before .before .before .wide .result) (l .l) (c .before .before .before .before .before .sums-of .result) (l .out) _ (infoOnes (s .args .n) (s .args .lens .now) (s .args .addrs .now) (s .args .info .now)) (search needs) (c .before .before .scatter .ensures)
+          (λ i h. (c .before .before .before .before .before .sums-of .ensures) i h ∙ ap (λ (z : ℕ). z % 2) (info-is (s .args .n) (s .args .lens .now) (s .args .addrs .now) (s .pre .0) (c .before .before .before .before .before .before .before .before .wide .result) (c .before .before .before .before .before .before .before .before .wide .ensures) (s .args .info .now) (l .l) i)) (l .inv .2),
+    )
 
 sum-up-requires : tie.Need-sum-up-requires Inv-loop μ-loop
 sum-up-requires c κs = search needs
@@ -66,8 +71,10 @@ same-length c = search needs
 
 returns : tie.Need-returns Inv-loop μ-loop
 returns c =
+    let s = c .before .before .before .before .before .before .before .before .before .before .before in
+    let l = c .before .before .before .before .before .loop in
     (c .before .before .sum-up .ensures)
-    ∙ parity-done (c .before .before .before .before .before .before .before .before .before .before .before .args .n) (c .before .before .before .before .before .before .before .before .before .before .before .args .lens .now) (c .before .before .before .before .before .before .before .before .before .before .before .args .addrs .now) (c .before .before .before .before .before .before .before .before .before .before .before .pre .0) (c .before .before .before .before .before .before .wide .result) (c .before .before .before .before .before .before .wide .ensures) (c .before .before .before .before .before .before .before .before .before .before .before .args .info .now) (c .before .before .before .before .before .loop .out) ((c .before .before .before .before .before .loop .inv .1) ∙ (c .before .before .before .before .before .before .before .before .before .before .before .pre .2)) (c .before .before .before .before .before .loop .l) (search needs) (c .before .before .before .before .before .loop .inv .2)
+    ∙ parity-done (s .args .n) (s .args .lens .now) (s .args .addrs .now) (s .pre .0) (c .before .before .before .before .before .before .wide .result) (c .before .before .before .before .before .before .wide .ensures) (s .args .info .now) (l .out) ((l .inv .1) ∙ (s .pre .2)) (l .l) (search needs) (l .inv .2)
 
 pub parity-of-spec : {M : Type 1} → statement M
 parity-of-spec =

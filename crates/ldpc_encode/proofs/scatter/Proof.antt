@@ -1,3 +1,4 @@
+-- `ldpc_encode::scatter` meets its contract. Assumes nothing.
 use Rattle.ldpc_encode.proofs.Residue.{at-next, at-fits, scatter-start, scatter-again, scatter-end}
 use Rattle.ldpc_encode.specs.Sums.{Scattered}
 use lib.ListN.{length}
@@ -7,8 +8,6 @@ use borrow.Author.Needs.{needs}
 use native.Mathlib.Omega.{arith}
 use Rattle.ldpc_encode.proofs.scatter.Statement.{statement}
 use Rattle.ldpc_encode.proofs.scatter.Tie as tie
-use Rattle.ldpc_encode.proofs.scatter.Reads as reads
-use Rattle.ldpc_encode.proofs.scatter.Lts as lts
 
 abbrev Inv-loop : tie.InvT-loop
 Inv-loop out₀ x q l c₀ i₀ out c i = (i ≤ 374) × (c ≡ l + i * q) × Scattered i q l x out₀ out
@@ -23,10 +22,16 @@ element-copy-out-out : tie.Need-element-copy-out-out Inv-loop μ-loop
 element-copy-out-out c = search needs
 
 slice-write-out : tie.Need-slice-write-out Inv-loop μ-loop
-slice-write-out c = omega (arith, at-fits (c .before .before .before .args .q) (c .before .before .before .args .l) (c .before .before .loop .i) (c .before .before .loop .c) (c .before .before .before .pre .1) (c .before .before .before .pre .2) (search needs) (c .before .before .loop .inv .1), (c .before .before .before .pre .0), (c .before .before .loop .inv .2 .long))
+slice-write-out c =
+    let s = c .before .before .before in
+    let l = c .before .before .loop in
+    omega (arith, at-fits (s .args .q) (s .args .l) (l .i) (l .c) (s .pre .1) (s .pre .2) (search needs) (l .inv .1), (s .pre .0), (l .inv .2 .long))
 
 add-c : tie.Need-add-c Inv-loop μ-loop
-add-c c = omega (arith, at-fits (c .before .before .before .args .q) (c .before .before .before .args .l) (c .before .before .loop .i) (c .before .before .loop .c) (c .before .before .before .pre .1) (c .before .before .before .pre .2) (search needs) (c .before .before .loop .inv .1))
+add-c c =
+    let s = c .before .before .before in
+    let l = c .before .before .loop in
+    omega (arith, at-fits (s .args .q) (s .args .l) (l .i) (l .c) (s .pre .1) (s .pre .2) (search needs) (l .inv .1))
 
 add-i : tie.Need-add-i Inv-loop μ-loop
 add-i c = search needs
@@ -35,17 +40,22 @@ loop-less : tie.Need-loop-less Inv-loop μ-loop
 loop-less c = search needs
 
 loop-again : tie.Need-loop-again Inv-loop μ-loop
-loop-again c = (
-  omega arith,
-  at-next (c .before .before .before .args .q) (c .before .before .before .args .l) (c .before .before .loop .i) (c .before .before .loop .c) (c .before .before .loop .inv .1),
-  scatter-again (c .before .before .before .args .q) (c .before .before .before .args .l) (c .before .before .before .args .x .now) (c .before .before .before .args .out .now) (c .before .before .loop .out) (c .before .before .loop .i) (c .before .before .loop .c) (c .before .before .before .pre .1) (search needs) (c .before .before .before .pre .0) (c .before .before .loop .inv .1) (c .before .before .loop .inv .2),
-)
+loop-again c =
+    let s = c .before .before .before in
+    let l = c .before .before .loop in (
+      omega arith,
+      at-next (s .args .q) (s .args .l) (l .i) (l .c) (l .inv .1),
+      scatter-again (s .args .q) (s .args .l) (s .args .x .now) (s .args .out .now) (l .out) (l .i) (l .c) (s .pre .1) (search needs) (s .pre .0) (l .inv .1) (l .inv .2),
+    )
 
 same-length : tie.Need-same-length Inv-loop μ-loop
 same-length c = (c .before .loop .inv .2 .long)
 
 returns : tie.Need-returns Inv-loop μ-loop
-returns c = scatter-end (c .before .before .args .q) (c .before .before .args .l) _ _ (c .before .loop .out) (c .before .loop .i) (omega arith) (c .before .loop .inv .2)
+returns c =
+    let s = c .before .before in
+    let l = c .before .loop in
+    scatter-end (s .args .q) (s .args .l) _ _ (l .out) (l .i) (omega arith) (l .inv .2)
 
 pub scatter-spec : {M : Type 1} → statement M
 scatter-spec =

@@ -1,3 +1,4 @@
+-- `ldpc_encode::stair_bit` meets its contract. Assumes nothing.
 use Rattle.ldpc_encode.proofs.Bits.{stair-first, stair-later}
 use Rattle.ldpc_encode.specs.Sums.{stairBit}
 use mathlib.Core.Path.{_≡_, refl, ap, sym, _∙_}
@@ -5,14 +6,14 @@ use native.Mathlib.Omega.{arith}
 use borrow.Author.Needs.{needs}
 use Rattle.ldpc_encode.proofs.stair_bit.Statement.{statement}
 use Rattle.ldpc_encode.proofs.stair_bit.Tie as tie
-use Rattle.ldpc_encode.proofs.stair_bit.Reads as reads
-use Rattle.ldpc_encode.proofs.stair_bit.Lts as lts
 
 shared-slice-read-result : tie.Need-shared-slice-read-result
 shared-slice-read-result c = search needs
 
 returns : tie.Need-returns
-returns c = stair-first (c .before .before .args .p .now) (c .before .before .args .c) (c .before .if1 .taken)
+returns c =
+    let s = c .before .before in
+    stair-first (s .args .p .now) (s .args .c) (c .before .if1 .taken)
 
 sub-result : tie.Need-sub-result
 sub-result c = search needs
@@ -24,7 +25,9 @@ shared-slice-read-result-3 : tie.Need-shared-slice-read-result-3
 shared-slice-read-result-3 c = search needs
 
 returns-2 : tie.Need-returns-2
-returns-2 c = stair-later (c .before .before .before .args .p .now) (c .before .before .before .args .c) (c .before .before .if1 .left)
+returns-2 c =
+    let s = c .before .before .before in
+    stair-later (s .args .p .now) (s .args .c) (c .before .before .if1 .left)
 
 pub stair-bit-spec : {M : Type 1} → statement M
 stair-bit-spec =

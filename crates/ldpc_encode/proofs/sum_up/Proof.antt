@@ -1,3 +1,4 @@
+-- `ldpc_encode::sum_up` meets its contract. Assumes nothing.
 use Rattle.ldpc_encode.proofs.Bytes.{sums-again, sums-end}
 use Rattle.ldpc_edges.specs.Code.{sums}
 use lib.ListN.{length, take, drop, length-set}
@@ -8,8 +9,6 @@ use borrow.Author.Needs.{needs}
 use native.Mathlib.Omega.{arith}
 use Rattle.ldpc_encode.proofs.sum_up.Statement.{statement}
 use Rattle.ldpc_encode.proofs.sum_up.Tie as tie
-use Rattle.ldpc_encode.proofs.sum_up.Reads as reads
-use Rattle.ldpc_encode.proofs.sum_up.Lts as lts
 
 abbrev Inv-loop : tie.InvT-loop
 Inv-loop p₀ b₀ c₀ p b c = (c ≤ length p₀) × (length p ≡ length p₀) × (take c p ++ sums b (drop c p) ≡ sums 0 p₀)
@@ -33,13 +32,17 @@ loop-less : tie.Need-loop-less Inv-loop μ-loop
 loop-less c = search needs
 
 loop-again : tie.Need-loop-again Inv-loop μ-loop
-loop-again c = (omega (arith, (c .before .before .loop .inv .1)), length-set (c .before .before .loop .p) _ _ ∙ (c .before .before .loop .inv .1), sums-again (c .before .before .loop .p) _ (c .before .before .loop .c) (c .before .before .loop .b) (search needs) (c .before .before .loop .inv .2))
+loop-again c =
+    let l = c .before .before .loop in
+    (omega (arith, (l .inv .1)), length-set (l .p) _ _ ∙ (l .inv .1), sums-again (l .p) _ (l .c) (l .b) (search needs) (l .inv .2))
 
 same-length : tie.Need-same-length Inv-loop μ-loop
 same-length c = search needs
 
 returns : tie.Need-returns Inv-loop μ-loop
-returns c = sums-end (c .before .loop .p) _ (c .before .loop .c) (c .before .loop .b) (search needs) (omega (arith, (c .before .loop .inv .0), (c .before .loop .inv .1))) (c .before .loop .inv .2)
+returns c =
+    let l = c .before .loop in
+    sums-end (l .p) _ (l .c) (l .b) (search needs) (omega (arith, (l .inv .0), (l .inv .1))) (l .inv .2)
 
 pub sum-up-spec : {M : Type 1} → statement M
 sum-up-spec =

@@ -1,18 +1,18 @@
+-- `ldpc_encode::sums_of` meets its contract. Assumes nothing.
 use Rattle.ldpc_encode.proofs.Residue.{from-zeros}
 use mathlib.Core.Path.{_≡_, refl, sym, ap, _∙_}
 use native.Mathlib.Omega.{arith}
 use borrow.Author.Needs.{needs}
 use Rattle.ldpc_encode.proofs.sums_of.Statement.{statement}
 use Rattle.ldpc_encode.proofs.sums_of.Tie as tie
-use Rattle.ldpc_encode.proofs.sums_of.Reads as reads
-use Rattle.ldpc_encode.proofs.sums_of.Lts as lts
-use Rattle.ldpc_encode.proofs.add_rows.Reads as add-rows-reads
 
 slice-aggregate-add-rows : tie.Need-slice-aggregate-add-rows
 slice-aggregate-add-rows c = search needs
 
 add-rows-requires : tie.Need-add-rows-requires
-add-rows-requires c κs = (refl, (c .before .before .before .before .pre .0), (c .before .before .before .before .pre .1), (c .before .before .before .before .pre .2))
+add-rows-requires c κs =
+    let s = c .before .before .before .before in
+    (refl, (s .pre .0), (s .pre .1), (s .pre .2))
 
 returns : tie.Need-returns
 returns c = from-zeros _ _ (c .before .add-rows .ensures)

@@ -1,3 +1,4 @@
+-- `ldpc_encode::xor_into` meets its contract. Assumes nothing.
 use Rattle.ldpc_encode.proofs.Bytes.{xors-again, xors-end}
 use Rattle.ldpc_encode.specs.Sums.{xors}
 use lib.ListN.{length, take, drop, length-set}
@@ -8,8 +9,6 @@ use borrow.Author.Needs.{needs}
 use native.Mathlib.Omega.{arith}
 use Rattle.ldpc_encode.proofs.xor_into.Statement.{statement}
 use Rattle.ldpc_encode.proofs.xor_into.Tie as tie
-use Rattle.ldpc_encode.proofs.xor_into.Reads as reads
-use Rattle.ldpc_encode.proofs.xor_into.Lts as lts
 
 abbrev Inv-loop : tie.InvT-loop
 Inv-loop x₀ w i₀ x i = (i ≤ length x₀) × (length x ≡ length x₀) × (take i x ++ xors (drop i x) (drop i w) ≡ xors x₀ w)
@@ -36,13 +35,18 @@ loop-less : tie.Need-loop-less Inv-loop μ-loop
 loop-less c = search needs
 
 loop-again : tie.Need-loop-again Inv-loop μ-loop
-loop-again c = (omega (arith, (c .before .before .before .loop .inv .1)), length-set (c .before .before .before .loop .x) _ _ ∙ (c .before .before .before .loop .inv .1), xors-again (c .before .before .before .loop .x) (c .before .before .before .before .args .w .now) _ (c .before .before .before .loop .i) (search needs) (omega (arith, (c .before .before .before .loop .inv .1), (c .before .before .before .before .pre))) (c .before .before .before .loop .inv .2))
+loop-again c =
+    let s = c .before .before .before .before in
+    let l = c .before .before .before .loop in
+    (omega (arith, (l .inv .1)), length-set (l .x) _ _ ∙ (l .inv .1), xors-again (l .x) (s .args .w .now) _ (l .i) (search needs) (omega (arith, (l .inv .1), (s .pre))) (l .inv .2))
 
 same-length : tie.Need-same-length Inv-loop μ-loop
 same-length c = search needs
 
 returns : tie.Need-returns Inv-loop μ-loop
-returns c = xors-end (c .before .loop .x) _ _ (c .before .loop .i) (search needs) (omega (arith, (c .before .loop .inv .0), (c .before .loop .inv .1))) (c .before .loop .inv .2)
+returns c =
+    let l = c .before .loop in
+    xors-end (l .x) _ _ (l .i) (search needs) (omega (arith, (l .inv .0), (l .inv .1))) (l .inv .2)
 
 pub xor-into-spec : {M : Type 1} → statement M
 xor-into-spec =

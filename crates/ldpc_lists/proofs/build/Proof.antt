@@ -1,3 +1,4 @@
+-- `ldpc_lists::build` meets its contract. Assumes nothing.
 use Rattle.ldpc_lists.proofs.Built.{k-fits, counts-ready, ends-ready, sizes, base-fits, stairs-ready, meets-ready, build-done}
 use Rattle.ldpc_shape.specs.Shape.{pOf, eOf}
 use lib.ListN.{length}
@@ -7,22 +8,21 @@ use native.Mathlib.Omega.{arith}
 use borrow.Author.Needs.{needs}
 use Rattle.ldpc_lists.proofs.build.Statement.{statement}
 use Rattle.ldpc_lists.proofs.build.Tie as tie
-use Rattle.ldpc_lists.proofs.build.Reads as reads
-use Rattle.ldpc_lists.proofs.build.Lts as lts
-use Rattle.ldpc_lists.proofs.ends.Reads as ends-reads
-use Rattle.ldpc_lists.proofs.put_rows.Reads as put-rows-reads
-use Rattle.ldpc_lists.proofs.put_stairs.Reads as put-stairs-reads
-use Rattle.ldpc_shape.proofs.counts.Reads as counts-reads
-use Rattle.ldpc_shape.proofs.wide.Reads as wide-reads
 
 cast-k : tie.Need-cast-k
-cast-k c = omega (arith, k-fits (c .before .before .before .args .n) (c .before .before .before .args .lens .now) (c .before .before .before .args .addrs .now) (c .before .before .before .pre .0))
+cast-k c =
+    let s = c .before .before .before in
+    omega (arith, k-fits (s .args .n) (s .args .lens .now) (s .args .addrs .now) (s .pre .0))
 
 mul-k : tie.Need-mul-k
-mul-k c = omega (arith, k-fits (c .before .before .before .args .n) (c .before .before .before .args .lens .now) (c .before .before .before .args .addrs .now) (c .before .before .before .pre .0))
+mul-k c =
+    let s = c .before .before .before in
+    omega (arith, k-fits (s .args .n) (s .args .lens .now) (s .args .addrs .now) (s .pre .0))
 
 sub-p : tie.Need-sub-p
-sub-p c = omega (arith, k-fits (c .before .before .before .args .n) (c .before .before .before .args .lens .now) (c .before .before .before .args .addrs .now) (c .before .before .before .pre .0))
+sub-p c =
+    let s = c .before .before .before in
+    omega (arith, k-fits (s .args .n) (s .args .lens .now) (s .args .addrs .now) (s .pre .0))
 
 wide-requires : tie.Need-wide-requires
 wide-requires c κs = search needs
@@ -31,21 +31,25 @@ add-base : tie.Need-add-base
 add-base c = search needs
 
 counts-requires : tie.Need-counts-requires
-counts-requires c κs = counts-ready (c .before .before .before .before .args .n) (c .before .before .before .before .args .lens .now) (c .before .before .before .before .args .addrs .now) (c .before .before .before .before .pre .0)
+counts-requires c κs =
+    let s = c .before .before .before .before in
+    counts-ready (s .args .n) (s .args .lens .now) (s .args .addrs .now) (s .pre .0)
 
 wide-requires-2 : tie.Need-wide-requires-2
 wide-requires-2 c κs = search needs
 
 ends-requires : tie.Need-ends-requires
 ends-requires c κs =
-    ends-ready (c .before .before .before .before .before .before .before .before .args .n) (c .before .before .before .before .before .before .before .before .args .lens .now) (c .before .before .before .before .before .before .before .before .args .addrs .now) (c .before .before .before .before .before .before .before .before .pre .0) (c .before .before .before .before .wide .result) (c .wide2 .result) (c .before .before .before .before .wide .ensures) (c .wide2 .ensures) (c .before .before .before .counts .result) (c .before .before .before .before .before .before .before .before .args .lists .now) (c .before .before .before .counts .ensures) (c .before .before .before .before .before .before .before .before .pre .1)
+    let s = c .before .before .before .before .before .before .before .before in
+    ends-ready (s .args .n) (s .args .lens .now) (s .args .addrs .now) (s .pre .0) (c .before .before .before .before .wide .result) (c .wide2 .result) (c .before .before .before .before .wide .ensures) (c .wide2 .ensures) (c .before .before .before .counts .result) (s .args .lists .now) (c .before .before .before .counts .ensures) (s .pre .1)
 
 put-stairs-requires : tie.Need-put-stairs-requires
 put-stairs-requires c κs =
-    let l : length (c .before .before .before .ends .last .0) ≡ suc (pOf (c .before .before .before .before .before .before .before .before .before .before .before .before .args .n) (c .before .before .before .before .before .before .before .before .before .before .before .before .args .lens .now)) + eOf (c .before .before .before .before .before .before .before .before .before .before .before .before .args .n) (c .before .before .before .before .before .before .before .before .before .before .before .before .args .lens .now) (c .before .before .before .before .before .before .before .before .before .before .before .before .args .addrs .now) = omega (arith, (c .before .before .before .before .before .before .before .before .before .before .before .before .pre .1)) in (
-      base-fits (c .before .before .before .before .before .before .before .before .before .before .before .before .args .n) (c .before .before .before .before .before .before .before .before .before .before .before .before .args .lens .now) (c .before .before .before .before .before .before .before .before .before .before .before .before .args .addrs .now) (c .before .before .before .before .before .before .before .before .before .before .before .before .pre .0) (c .before .before .before .before .before .before .before .before .wide .result) (c .before .before .before .before .wide2 .result) (c .before .before .before .before .before .before .before .before .wide .ensures) (c .before .before .before .before .wide2 .ensures) (c .before .before .before .before .before .before .before .counts .result) (c .before .before .before .ends .last .0) (c .before .before .before .before .before .before .before .counts .ensures) l (c .before .before .before .ends .ensures .0) (c .before .before .before .ends .ensures .1),
-      sizes (c .before .before .before .before .before .before .before .before .before .before .before .before .args .n) (c .before .before .before .before .before .before .before .before .before .before .before .before .args .lens .now) (c .before .before .before .before .before .before .before .before .before .before .before .before .args .addrs .now) (c .before .before .before .before .before .before .before .before .before .before .before .before .pre .0) (c .before .before .before .before .before .before .before .before .wide .result) (c .before .before .before .before .wide2 .result) (c .before .before .before .before .before .before .before .before .wide .ensures) (c .before .before .before .before .wide2 .ensures) .4,
-      stairs-ready (c .before .before .before .before .before .before .before .before .before .before .before .before .args .n) (c .before .before .before .before .before .before .before .before .before .before .before .before .args .lens .now) (c .before .before .before .before .before .before .before .before .before .before .before .before .args .addrs .now) (c .before .before .before .before .before .before .before .before .before .before .before .before .pre .0) (c .before .before .before .before .before .before .before .before .wide .result) (c .before .before .before .before .wide2 .result) (c .before .before .before .before .before .before .before .before .wide .ensures) (c .before .before .before .before .wide2 .ensures) (c .before .before .before .before .before .before .before .counts .result) (c .before .before .before .ends .last .0) (c .before .before .before .before .before .before .before .counts .ensures) l (c .before .before .before .ends .ensures .0) (c .before .before .before .ends .ensures .1),
+    let s = c .before .before .before .before .before .before .before .before .before .before .before .before in
+    let l : length (c .before .before .before .ends .last .0) ≡ suc (pOf (s .args .n) (s .args .lens .now)) + eOf (s .args .n) (s .args .lens .now) (s .args .addrs .now) = omega (arith, (s .pre .1)) in (
+      base-fits (s .args .n) (s .args .lens .now) (s .args .addrs .now) (s .pre .0) (c .before .before .before .before .before .before .before .before .wide .result) (c .before .before .before .before .wide2 .result) (c .before .before .before .before .before .before .before .before .wide .ensures) (c .before .before .before .before .wide2 .ensures) (c .before .before .before .before .before .before .before .counts .result) (c .before .before .before .ends .last .0) (c .before .before .before .before .before .before .before .counts .ensures) l (c .before .before .before .ends .ensures .0) (c .before .before .before .ends .ensures .1),
+      sizes (s .args .n) (s .args .lens .now) (s .args .addrs .now) (s .pre .0) (c .before .before .before .before .before .before .before .before .wide .result) (c .before .before .before .before .wide2 .result) (c .before .before .before .before .before .before .before .before .wide .ensures) (c .before .before .before .before .wide2 .ensures) .4,
+      stairs-ready (s .args .n) (s .args .lens .now) (s .args .addrs .now) (s .pre .0) (c .before .before .before .before .before .before .before .before .wide .result) (c .before .before .before .before .wide2 .result) (c .before .before .before .before .before .before .before .before .wide .ensures) (c .before .before .before .before .wide2 .ensures) (c .before .before .before .before .before .before .before .counts .result) (c .before .before .before .ends .last .0) (c .before .before .before .before .before .before .before .counts .ensures) l (c .before .before .before .ends .ensures .0) (c .before .before .before .ends .ensures .1),
     )
 
 put-rows-requires : tie.Need-put-rows-requires
@@ -68,8 +72,9 @@ same-length c = search needs
 
 returns : tie.Need-returns
 returns c =
-    let l : length (c .before .before .before .before .before .before .before .before .before .before .ends .last .0) ≡ suc (pOf (c .before .before .before .before .before .before .before .before .before .before .before .before .before .before .before .before .before .before .before .args .n) (c .before .before .before .before .before .before .before .before .before .before .before .before .before .before .before .before .before .before .before .args .lens .now)) + eOf (c .before .before .before .before .before .before .before .before .before .before .before .before .before .before .before .before .before .before .before .args .n) (c .before .before .before .before .before .before .before .before .before .before .before .before .before .before .before .before .before .before .before .args .lens .now) (c .before .before .before .before .before .before .before .before .before .before .before .before .before .before .before .before .before .before .before .args .addrs .now) = omega (arith, (c .before .before .before .before .before .before .before .before .before .before .before .before .before .before .before .before .before .before .before .pre .1)) in
-    build-done (c .before .before .before .before .before .before .before .before .before .before .before .before .before .before .before .before .before .before .before .args .n) (c .before .before .before .before .before .before .before .before .before .before .before .before .before .before .before .before .before .before .before .args .lens .now) (c .before .before .before .before .before .before .before .before .before .before .before .before .before .before .before .before .before .before .before .args .addrs .now) (c .before .before .before .before .before .before .before .before .before .before .before .before .before .before .before .before .before .before .before .pre .0) (c .before .before .before .before .before .before .before .before .before .before .before .before .before .before .before .wide .result) (c .before .before .before .before .before .before .before .before .before .before .before .wide2 .result) (c .before .before .before .before .before .before .before .before .before .before .before .before .before .before .before .wide .ensures) (c .before .before .before .before .before .before .before .before .before .before .before .wide2 .ensures) (c .before .before .before .before .before .before .before .before .before .before .before .before .before .before .counts .result) (c .before .before .before .before .before .before .before .before .before .before .ends .last .0) (c .before .before .before .before .before .before .before .before .before .before .before .before .before .before .counts .ensures) l (c .before .before .before .before .before .before .before .before .before .before .ends .ensures .0) (c .before .before .before .before .before .before .before .before .before .before .ends .ensures .1)
+    let s = c .before .before .before .before .before .before .before .before .before .before .before .before .before .before .before .before .before .before .before in
+    let l : length (c .before .before .before .before .before .before .before .before .before .before .ends .last .0) ≡ suc (pOf (s .args .n) (s .args .lens .now)) + eOf (s .args .n) (s .args .lens .now) (s .args .addrs .now) = omega (arith, (s .pre .1)) in
+    build-done (s .args .n) (s .args .lens .now) (s .args .addrs .now) (s .pre .0) (c .before .before .before .before .before .before .before .before .before .before .before .before .before .before .before .wide .result) (c .before .before .before .before .before .before .before .before .before .before .before .wide2 .result) (c .before .before .before .before .before .before .before .before .before .before .before .before .before .before .before .wide .ensures) (c .before .before .before .before .before .before .before .before .before .before .before .wide2 .ensures) (c .before .before .before .before .before .before .before .before .before .before .before .before .before .before .counts .result) (c .before .before .before .before .before .before .before .before .before .before .ends .last .0) (c .before .before .before .before .before .before .before .before .before .before .before .before .before .before .counts .ensures) l (c .before .before .before .before .before .before .before .before .before .before .ends .ensures .0) (c .before .before .before .before .before .before .before .before .before .before .ends .ensures .1)
     (c .before .before .before .before .before .before .put-stairs .last .0) (c .before .before .before .before .before .before .put-stairs .ensures) (c .before .before .put-rows .last .0) (c .before .before .put-rows .ensures)
 
 pub build-spec : {M : Type 1} → statement M

@@ -1,3 +1,4 @@
+-- `ldpc_lists::ends` meets its contract. Assumes nothing.
 use Rattle.ldpc_lists.specs.Ends.{Few, Ends, ending, ending-le, ending-next, ends-again, ends-last, ends-start, ending-start}
 use lib.Seq.{getD-set-same}
 use lib.ListN.{length, getD, set, length-set}
@@ -8,9 +9,6 @@ use borrow.Author.Needs.{needs}
 use native.Mathlib.Omega.{arith}
 use Rattle.ldpc_lists.proofs.ends.Statement.{statement}
 use Rattle.ldpc_lists.proofs.ends.Tie as tie
-use Rattle.ldpc_lists.proofs.ends.Reads as reads
-use Rattle.ldpc_lists.proofs.ends.Lts as lts
-use Rattle.ldpc_lists.proofs.stair.Reads as stair-reads
 
 abbrev Inv-loop : tie.InvT-loop
 Inv-loop lists₀ counts q checks e₀ i₀ lists e i = (i ≤ checks) × (length lists ≡ length lists₀) × (e ≡ ending counts q i) × Ends counts q lists i
@@ -25,23 +23,31 @@ rem-l : tie.Need-rem-l Inv-loop μ-loop
 rem-l c = search needs
 
 mul-e : tie.Need-mul-e Inv-loop μ-loop
-mul-e c = omega (arith, mod-lt (c .before .loop .i) (c .before .before .before .pre .0), (c .before .before .before .pre .1))
+mul-e c =
+    let s = c .before .before .before in
+    omega (arith, mod-lt (c .before .loop .i) (s .pre .0), (s .pre .1))
 
 element-copy-out-e : tie.Need-element-copy-out-e Inv-loop μ-loop
-element-copy-out-e c = omega (arith, mod-lt (c .before .loop .i) (c .before .before .before .pre .0), (c .before .before .before .pre .1))
+element-copy-out-e c =
+    let s = c .before .before .before in
+    omega (arith, mod-lt (c .before .loop .i) (s .pre .0), (s .pre .1))
 
 add-e : tie.Need-add-e Inv-loop μ-loop
 add-e c =
-    let b : (c .before .before .loop .i) % (c .before .before .before .before .args .q) < (c .before .before .before .before .args .q) = mod-lt (c .before .before .loop .i) (c .before .before .before .before .pre .0) in
-    omega (arith, (c .before .before .before .before .pre .2), (c .before .before .before .before .pre .4) ((c .before .before .loop .i) % (c .before .before .before .before .args .q)) b, ending-le (c .before .before .before .before .args .counts .now) (c .before .before .before .before .args .q) (c .before .before .before .before .pre .0) (c .before .before .before .before .pre .4) (c .before .before .loop .i), (c .before .before .loop .inv .2))
+    let s = c .before .before .before .before in
+    let l = c .before .before .loop in
+    let b : (l .i) % (s .args .q) < (s .args .q) = mod-lt (l .i) (s .pre .0) in
+    omega (arith, (s .pre .2), (s .pre .4) ((l .i) % (s .args .q)) b, ending-le (s .args .counts .now) (s .args .q) (s .pre .0) (s .pre .4) (l .i), (l .inv .2))
 
 stair-requires : tie.Need-stair-requires Inv-loop μ-loop
 stair-requires c κs = search needs
 
 add-e-2 : tie.Need-add-e-2 Inv-loop μ-loop
 add-e-2 c =
-    let b : (c .before .before .before .loop .i) % (c .before .before .before .before .before .args .q) < (c .before .before .before .before .before .args .q) = mod-lt (c .before .before .before .loop .i) (c .before .before .before .before .before .pre .0) in
-    omega (arith, (c .before .before .before .before .before .pre .2), (c .before .before .before .before .before .pre .4) ((c .before .before .before .loop .i) % (c .before .before .before .before .before .args .q)) b, ending-le (c .before .before .before .before .before .args .counts .now) (c .before .before .before .before .before .args .q) (c .before .before .before .before .before .pre .0) (c .before .before .before .before .before .pre .4) (c .before .before .before .loop .i), (c .before .before .before .loop .inv .2), (c .stair .ensures .1))
+    let s = c .before .before .before .before .before in
+    let l = c .before .before .before .loop in
+    let b : (l .i) % (s .args .q) < (s .args .q) = mod-lt (l .i) (s .pre .0) in
+    omega (arith, (s .pre .2), (s .pre .4) ((l .i) % (s .args .q)) b, ending-le (s .args .counts .now) (s .args .q) (s .pre .0) (s .pre .4) (l .i), (l .inv .2), (c .stair .ensures .1))
 
 mul-lists : tie.Need-mul-lists Inv-loop μ-loop
 mul-lists c = omega (arith, (c .before .before .before .loop .inv .1), (c .before .before .before .before .before .pre .3))
@@ -56,12 +62,14 @@ loop-less : tie.Need-loop-less Inv-loop μ-loop
 loop-less c = search needs
 
 loop-again : tie.Need-loop-again Inv-loop μ-loop
-loop-again c = (
-  omega arith,
-  length-set (c .before .before .before .loop .lists) _ _ ∙ (c .before .before .before .loop .inv .1),
-  ending-next (c .before .before .before .before .before .args .counts .now) (c .before .before .before .before .before .args .q) (c .before .before .before .loop .i) (c .before .before .before .loop .e) _ (c .stair .ensures .0) (c .before .before .before .loop .inv .2),
-  ends-again (c .before .before .before .before .before .args .counts .now) (c .before .before .before .before .before .args .q) (c .before .before .before .loop .lists) (c .before .before .before .loop .i) (c .before .before .before .loop .e) _ (omega (arith, (c .before .before .before .loop .inv .1), (c .before .before .before .before .before .pre .3))) (c .stair .ensures .0) (c .before .before .before .loop .inv .2) (c .before .before .before .loop .inv .3),
-)
+loop-again c =
+    let s = c .before .before .before .before .before in
+    let l = c .before .before .before .loop in (
+      omega arith,
+      length-set (l .lists) _ _ ∙ (l .inv .1),
+      ending-next (s .args .counts .now) (s .args .q) (l .i) (l .e) _ (c .stair .ensures .0) (l .inv .2),
+      ends-again (s .args .counts .now) (s .args .q) (l .lists) (l .i) (l .e) _ (omega (arith, (l .inv .1), (s .pre .3))) (c .stair .ensures .0) (l .inv .2) (l .inv .3),
+    )
 
 mul-lists-2 : tie.Need-mul-lists-2 Inv-loop μ-loop
 mul-lists-2 c = omega (arith, (c .before .loop .inv .1), (c .before .before .before .pre .3))
@@ -70,13 +78,17 @@ slice-write-lists-2 : tie.Need-slice-write-lists-2 Inv-loop μ-loop
 slice-write-lists-2 c = omega (arith, (c .before .loop .inv .1), (c .before .before .before .pre .3))
 
 same-length : tie.Need-same-length Inv-loop μ-loop
-same-length c = length-set (c .before .loop .lists) _ _ ∙ (c .before .loop .inv .1)
+same-length c =
+    let l = c .before .loop in
+    length-set (l .lists) _ _ ∙ (l .inv .1)
 
 returns : tie.Need-returns Inv-loop μ-loop
 returns c =
-    let e : (c .before .loop .i) ≡ (c .before .before .before .args .checks) = omega arith in (
-      ends-last (c .before .before .before .args .counts .now) (c .before .before .before .args .q) (c .before .loop .lists) (c .before .before .before .args .checks) (c .before .loop .e) (subst (Ends (c .before .before .before .args .counts .now) (c .before .before .before .args .q) (c .before .loop .lists)) e (c .before .loop .inv .3)),
-      getD-set-same (c .before .loop .lists) (c .before .before .before .args .checks) (c .before .loop .e) 0 (omega (arith, (c .before .loop .inv .1), (c .before .before .before .pre .3))) ∙ (c .before .loop .inv .2) ∙ ap (ending (c .before .before .before .args .counts .now) (c .before .before .before .args .q)) e,
+    let s = c .before .before .before in
+    let l = c .before .loop in
+    let e : (l .i) ≡ (s .args .checks) = omega arith in (
+      ends-last (s .args .counts .now) (s .args .q) (l .lists) (s .args .checks) (l .e) (subst (Ends (s .args .counts .now) (s .args .q) (l .lists)) e (l .inv .3)),
+      getD-set-same (l .lists) (s .args .checks) (l .e) 0 (omega (arith, (l .inv .1), (s .pre .3))) ∙ (l .inv .2) ∙ ap (ending (s .args .counts .now) (s .args .q)) e,
     )
 
 pub ends-spec : {M : Type 1} → statement M

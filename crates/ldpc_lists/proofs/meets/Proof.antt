@@ -1,3 +1,4 @@
+-- `ldpc_lists::meets` meets its contract. Assumes nothing.
 use Prim.Native.Nat.{_+_}
 use native.Mathlib.Nat.{mod-lt}
 use mathlib.Core.Path.{refl}
@@ -5,8 +6,6 @@ use native.Mathlib.Omega.{arith}
 use borrow.Author.Needs.{needs}
 use Rattle.ldpc_lists.proofs.meets.Statement.{statement}
 use Rattle.ldpc_lists.proofs.meets.Tie as tie
-use Rattle.ldpc_lists.proofs.meets.Reads as reads
-use Rattle.ldpc_lists.proofs.meets.Lts as lts
 
 add-result : tie.Need-add-result
 add-result c = search needs

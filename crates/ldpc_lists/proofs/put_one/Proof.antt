@@ -1,45 +1,61 @@
+-- `ldpc_lists::put_one` meets its contract. Assumes nothing.
 use lib.ListN.{length-set}
 use Rattle.ldpc_lists.proofs.One.{one-start, one-left, one-place, one-put}
 use native.Mathlib.Omega.{arith}
 use borrow.Author.Needs.{needs}
 use Rattle.ldpc_lists.proofs.put_one.Statement.{statement}
 use Rattle.ldpc_lists.proofs.put_one.Tie as tie
-use Rattle.ldpc_lists.proofs.put_one.Reads as reads
-use Rattle.ldpc_lists.proofs.put_one.Lts as lts
-use Rattle.ldpc_shape.proofs.wide.Reads as wide-reads
 
 mul-s : tie.Need-mul-s
-mul-s c = omega (arith, one-start (c .before .args .lists .now) (c .before .args .base) (c .before .args .p) (c .before .pre))
+mul-s c =
+    let s = c .before in
+    omega (arith, one-start (s .args .lists .now) (s .args .base) (s .args .p) (s .pre))
 
 slice-read-s : tie.Need-slice-read-s
-slice-read-s c = omega (arith, one-start (c .before .before .args .lists .now) (c .before .before .args .base) (c .before .before .args .p) (c .before .before .pre))
+slice-read-s c =
+    let s = c .before .before in
+    omega (arith, one-start (s .args .lists .now) (s .args .base) (s .args .p) (s .pre))
 
 sub-s : tie.Need-sub-s
-sub-s c = omega (arith, one-left (c .before .before .args .lists .now) (c .before .before .args .base) (c .before .before .args .p) (c .before .before .pre))
+sub-s c =
+    let s = c .before .before in
+    omega (arith, one-left (s .args .lists .now) (s .args .base) (s .args .p) (s .pre))
 
 mul-lists : tie.Need-mul-lists
-mul-lists c = omega (arith, one-start (c .before .before .args .lists .now) (c .before .before .args .base) (c .before .before .args .p) (c .before .before .pre))
+mul-lists c =
+    let s = c .before .before in
+    omega (arith, one-start (s .args .lists .now) (s .args .base) (s .args .p) (s .pre))
 
 slice-write-lists : tie.Need-slice-write-lists
-slice-write-lists c = omega (arith, one-start (c .before .before .args .lists .now) (c .before .before .args .base) (c .before .before .args .p) (c .before .before .pre))
+slice-write-lists c =
+    let s = c .before .before in
+    omega (arith, one-start (s .args .lists .now) (s .args .base) (s .args .p) (s .pre))
 
 wide-requires : tie.Need-wide-requires
 wide-requires c κs = search needs
 
 add-i : tie.Need-add-i
-add-i c = omega (arith, one-place (c .before .before .before .args .lists .now) (c .before .before .before .args .base) (c .before .before .before .args .p) (c .before .before .before .pre) (c .wide .result) (c .wide .ensures))
+add-i c =
+    let s = c .before .before .before in
+    omega (arith, one-place (s .args .lists .now) (s .args .base) (s .args .p) (s .pre) (c .wide .result) (c .wide .ensures))
 
 mul-lists-2 : tie.Need-mul-lists-2
-mul-lists-2 c = omega (arith, one-place (c .before .before .before .args .lists .now) (c .before .before .before .args .base) (c .before .before .before .args .p) (c .before .before .before .pre) (c .wide .result) (c .wide .ensures))
+mul-lists-2 c =
+    let s = c .before .before .before in
+    omega (arith, one-place (s .args .lists .now) (s .args .base) (s .args .p) (s .pre) (c .wide .result) (c .wide .ensures))
 
 slice-write-lists-2 : tie.Need-slice-write-lists-2
-slice-write-lists-2 c = simp length-set (one-place (c .before .before .before .args .lists .now) (c .before .before .before .args .base) (c .before .before .before .args .p) (c .before .before .before .pre) (c .wide .result) (c .wide .ensures))
+slice-write-lists-2 c =
+    let s = c .before .before .before in
+    simp length-set (one-place (s .args .lists .now) (s .args .base) (s .args .p) (s .pre) (c .wide .result) (c .wide .ensures))
 
 same-length : tie.Need-same-length
 same-length c = search needs
 
 returns : tie.Need-returns
-returns c = one-put (c .before .before .before .args .lists .now) (c .before .before .before .args .base) (c .before .before .before .args .p) (c .before .before .before .pre) (c .before .before .before .args .m) (c .wide .result) (c .wide .ensures)
+returns c =
+    let s = c .before .before .before in
+    one-put (s .args .lists .now) (s .args .base) (s .args .p) (s .pre) (s .args .m) (c .wide .result) (c .wide .ensures)
 
 pub put-one-spec : {M : Type 1} → statement M
 put-one-spec =

@@ -1,3 +1,4 @@
+-- `ldpc_lists::put_row` meets its contract. Assumes nothing.
 use Rattle.ldpc_lists.proofs.Loops.{same-parts, bits-start, bits-room, bits-again, bits-end}
 use Rattle.ldpc_lists.specs.Build.{parts, putAll}
 use Rattle.ldpc_edges.specs.Code.{ofBits}
@@ -8,9 +9,6 @@ use borrow.Author.Needs.{needs}
 use native.Mathlib.Omega.{arith}
 use Rattle.ldpc_lists.proofs.put_row.Statement.{statement}
 use Rattle.ldpc_lists.proofs.put_row.Tie as tie
-use Rattle.ldpc_lists.proofs.put_row.Reads as reads
-use Rattle.ldpc_lists.proofs.put_row.Lts as lts
-use Rattle.ldpc_lists.proofs.put_met.Reads as put-met-reads
 
 abbrev Inv-loop : tie.InvT-loop
 Inv-loop lists₀ base row checks q first j₀ m₀ lists j m =
@@ -32,32 +30,40 @@ sub-m : tie.Need-sub-m Inv-loop μ-loop
 sub-m c = search needs
 
 put-met-requires : tie.Need-put-met-requires Inv-loop μ-loop
-put-met-requires c κs = (
-  (c .before .before .loop .inv .2),
-  (c .before .before .before .before .before .pre .1),
-  omega arith,
-  (c .before .before .before .before .before .pre .2),
-  bits-room (c .before .before .before .before .before .args .checks) (c .before .before .before .before .before .args .q) (c .before .before .before .before .before .args .first) (c .before .before .loop .j) (c .before .before .loop .m) (c .before .before .before .before .before .args .row .now) (parts (c .before .before .before .before .before .args .base) (c .before .before .loop .lists)) (parts (c .before .before .before .before .before .args .base) (c .before .before .before .before .before .args .lists .now))
-      (c .before .before .before .before .before .pre .1) (search needs) (c .before .before .loop .inv .0) (c .before .before .loop .inv .1) (c .before .before .before .before .before .pre .4) (c .before .before .loop .inv .3),
-)
+put-met-requires c κs =
+    let s = c .before .before .before .before .before in
+    let l = c .before .before .loop in (
+      (l .inv .2),
+      (s .pre .1),
+      omega arith,
+      (s .pre .2),
+      bits-room (s .args .checks) (s .args .q) (s .args .first) (l .j) (l .m) (s .args .row .now) (parts (s .args .base) (l .lists)) (parts (s .args .base) (s .args .lists .now))
+          (s .pre .1) (search needs) (l .inv .0) (l .inv .1) (s .pre .4) (l .inv .3),
+    )
 
 loop-less : tie.Need-loop-less Inv-loop μ-loop
 loop-less c = search needs
 
 loop-again : tie.Need-loop-again Inv-loop μ-loop
-loop-again c = (
-  omega arith,
-  omega arith,
-  omega arith,
-  bits-again (c .before .before .before .before .before .before .before .before .args .checks) (c .before .before .before .before .before .before .before .before .args .q) (c .before .before .before .before .before .before .before .before .args .first) (c .before .before .before .before .before .loop .j) (c .before .before .before .before .before .loop .m) (c .before .before .before .before .before .before .before .before .args .row .now) (parts (c .before .before .before .before .before .before .before .before .args .base) (c .before .before .before .before .before .loop .lists)) _ (parts (c .before .before .before .before .before .before .before .before .args .base) (c .before .before .before .before .before .before .before .before .args .lists .now))
-      (search needs) (c .before .before .before .before .before .loop .inv .0) (c .before .before .before .before .before .loop .inv .1) (c .before .before .before .before .before .loop .inv .3) (c .before .before .put-met .ensures),
-)
+loop-again c =
+    let s = c .before .before .before .before .before .before .before .before in
+    let l = c .before .before .before .before .before .loop in (
+      omega arith,
+      omega arith,
+      omega arith,
+      bits-again (s .args .checks) (s .args .q) (s .args .first) (l .j) (l .m) (s .args .row .now) (parts (s .args .base) (l .lists)) _ (parts (s .args .base) (s .args .lists .now))
+          (search needs) (l .inv .0) (l .inv .1) (l .inv .3) (c .before .before .put-met .ensures),
+    )
 
 same-length : tie.Need-same-length Inv-loop μ-loop
-same-length c = same-parts (c .before .before .before .before .args .base) _ (c .before .loop .lists) _ (c .before .loop .inv .3)
+same-length c =
+    let l = c .before .loop in
+    same-parts (c .before .before .before .before .args .base) _ (l .lists) _ (l .inv .3)
 
 returns : tie.Need-returns Inv-loop μ-loop
-returns c = bits-end _ _ _ (c .before .loop .j) _ _ _ (search needs) (c .before .loop .inv .3)
+returns c =
+    let l = c .before .loop in
+    bits-end _ _ _ (l .j) _ _ _ (search needs) (l .inv .3)
 
 pub put-row-spec : {M : Type 1} → statement M
 put-row-spec =

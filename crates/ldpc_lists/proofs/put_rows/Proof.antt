@@ -1,3 +1,4 @@
+-- `ldpc_lists::put_rows` meets its contract. Assumes nothing.
 use Rattle.ldpc_lists.proofs.Loops.{before, same-parts, before-all, rows-start, row-fits, part-room, from-before, part-again, rows-end}
 use Rattle.ldpc_lists.specs.Build.{parts, putAll}
 use Rattle.ldpc_edges.specs.Code.{ofRows}
@@ -9,10 +10,6 @@ use borrow.Author.Needs.{needs}
 use native.Mathlib.Omega.{arith}
 use Rattle.ldpc_lists.proofs.put_rows.Statement.{statement}
 use Rattle.ldpc_lists.proofs.put_rows.Tie as tie
-use Rattle.ldpc_lists.proofs.put_rows.Reads as reads
-use Rattle.ldpc_lists.proofs.put_rows.Lts as lts
-use Rattle.ldpc_lists.proofs.put_row.Reads as put-row-reads
-use Rattle.ldpc_shape.proofs.wide.Reads as wide-reads
 
 abbrev Inv-loop : tie.InvT-loop
 Inv-loop lists₀ base lens addrs checks q k g₀ end₀ m₀ lists g end m =
@@ -23,7 +20,9 @@ abbrev μ-loop : tie.MeasureT-loop
 μ-loop lists₀ base lens addrs checks q k g₀ end₀ m₀ lists g end m = g
 
 loop-holds : tie.Need-loop-holds Inv-loop μ-loop
-loop-holds c = (omega arith, (c .before .before .before .pre .3), sym (c .before .before .before .pre .5) ∙ before-all _, omega arith, (c .before .before .before .pre .0), rows-start _ _ (c .before .before .before .args .lens .now) (c .before .before .before .args .addrs .now) (length (c .before .before .before .args .addrs .now)) _)
+loop-holds c =
+    let s = c .before .before .before in
+    (omega arith, (s .pre .3), sym (s .pre .5) ∙ before-all _, omega arith, (s .pre .0), rows-start _ _ (s .args .lens .now) (s .args .addrs .now) (length (s .args .addrs .now)) _)
 
 sub-g : tie.Need-sub-g Inv-loop μ-loop
 sub-g c = search needs
@@ -42,8 +41,10 @@ wide-requires c κs = search needs
 
 sub-from : tie.Need-sub-from Inv-loop μ-loop
 sub-from c =
-    row-fits (c .before .before .before .before .before .before .before .args .checks) (c .before .before .before .before .before .before .before .args .q) (c .before .before .before .before .before .before .before .args .lens .now) (c .before .before .before .before .before .before .before .args .addrs .now) (c .before .before .before .loop .g) (c .before .before .before .loop .m) (c .before .before .before .loop .end) (c .wide .result) (parts (c .before .before .before .before .before .before .before .args .base) (c .before .before .before .loop .lists)) (parts (c .before .before .before .before .before .before .before .args .base) (c .before .before .before .before .before .before .before .args .lists .now))
-    (search needs) (c .before .before .before .loop .inv .0) (c .before .before .before .loop .inv .1) (c .before .before .before .loop .inv .2) (c .wide .ensures) (c .before .before .before .loop .inv .5)
+    let s = c .before .before .before .before .before .before .before in
+    let l = c .before .before .before .loop in
+    row-fits (s .args .checks) (s .args .q) (s .args .lens .now) (s .args .addrs .now) (l .g) (l .m) (l .end) (c .wide .result) (parts (s .args .base) (l .lists)) (parts (s .args .base) (s .args .lists .now))
+    (search needs) (l .inv .0) (l .inv .1) (l .inv .2) (c .wide .ensures) (l .inv .5)
 
 mul-put-row : tie.Need-mul-put-row Inv-loop μ-loop
 mul-put-row c = search needs
@@ -58,35 +59,43 @@ part-put-row-end : tie.Need-part-put-row-end Inv-loop μ-loop
 part-put-row-end c = search needs
 
 put-row-requires : tie.Need-put-row-requires Inv-loop μ-loop
-put-row-requires c κs = (
-  (c .before .before .before .before .before .loop .inv .4),
-  (c .before .before .before .before .before .before .before .before .before .pre .1),
-  (c .before .before .before .before .before .before .before .before .before .pre .2),
-  omega (arith, (c .before .before .before .before .before .before .before .before .before .pre .3), (c .before .before .before .before .before .before .before .before .before .pre .4)),
-  part-room (c .before .before .before .before .before .before .before .before .before .args .checks) (c .before .before .before .before .before .before .before .before .before .args .q) (c .before .before .before .before .before .before .before .before .before .args .lens .now) (c .before .before .before .before .before .before .before .before .before .args .addrs .now) (c .before .before .before .before .before .loop .g) (c .before .before .before .before .before .loop .m) (c .before .before .before .before .before .loop .end) (c .before .before .wide .result) (parts (c .before .before .before .before .before .before .before .before .before .args .base) (c .before .before .before .before .before .loop .lists)) (parts (c .before .before .before .before .before .before .before .before .before .args .base) (c .before .before .before .before .before .before .before .before .before .args .lists .now))
-      (search needs) (c .before .before .before .before .before .loop .inv .0) (c .before .before .before .before .before .loop .inv .1) (c .before .before .before .before .before .loop .inv .2) (c .before .before .wide .ensures) (c .before .before .before .before .before .loop .inv .5) (c .before .before .before .before .before .before .before .before .before .pre .1) (c .before .before .before .before .before .before .before .before .before .pre .6),
-)
+put-row-requires c κs =
+    let s = c .before .before .before .before .before .before .before .before .before in
+    let l = c .before .before .before .before .before .loop in (
+      (l .inv .4),
+      (s .pre .1),
+      (s .pre .2),
+      omega (arith, (s .pre .3), (s .pre .4)),
+      part-room (s .args .checks) (s .args .q) (s .args .lens .now) (s .args .addrs .now) (l .g) (l .m) (l .end) (c .before .before .wide .result) (parts (s .args .base) (l .lists)) (parts (s .args .base) (s .args .lists .now))
+          (search needs) (l .inv .0) (l .inv .1) (l .inv .2) (c .before .before .wide .ensures) (l .inv .5) (s .pre .1) (s .pre .6),
+    )
 
 loop-less : tie.Need-loop-less Inv-loop μ-loop
 loop-less c = search needs
 
 loop-again : tie.Need-loop-again Inv-loop μ-loop
-loop-again c = (
-  omega arith,
-  omega arith,
-  from-before (c .before .before .before .before .before .before .before .before .before .before .before .before .args .checks) (c .before .before .before .before .before .before .before .before .before .before .before .before .args .q) (c .before .before .before .before .before .before .before .before .before .before .before .before .args .lens .now) (c .before .before .before .before .before .before .before .before .before .before .before .before .args .addrs .now) (c .before .before .before .before .before .before .before .before .loop .g) (c .before .before .before .before .before .before .before .before .loop .m) (c .before .before .before .before .before .before .before .before .loop .end) (c .before .before .before .before .before .wide .result) (parts (c .before .before .before .before .before .before .before .before .before .before .before .before .args .base) (c .before .before .before .before .before .before .before .before .loop .lists)) (parts (c .before .before .before .before .before .before .before .before .before .before .before .before .args .base) (c .before .before .before .before .before .before .before .before .before .before .before .before .args .lists .now))
-      (search needs) (c .before .before .before .before .before .before .before .before .loop .inv .0) (c .before .before .before .before .before .before .before .before .loop .inv .1) (c .before .before .before .before .before .before .before .before .loop .inv .2) (c .before .before .before .before .before .wide .ensures) (c .before .before .before .before .before .before .before .before .loop .inv .5),
-  omega arith,
-  omega arith,
-  part-again (c .before .before .before .before .before .before .before .before .before .before .before .before .args .checks) (c .before .before .before .before .before .before .before .before .before .before .before .before .args .q) (c .before .before .before .before .before .before .before .before .before .before .before .before .args .lens .now) (c .before .before .before .before .before .before .before .before .before .before .before .before .args .addrs .now) (c .before .before .before .before .before .before .before .before .loop .g) (c .before .before .before .before .before .before .before .before .loop .m) (c .before .before .before .before .before .before .before .before .loop .end) (c .before .before .before .before .before .wide .result) (parts (c .before .before .before .before .before .before .before .before .before .before .before .before .args .base) (c .before .before .before .before .before .before .before .before .loop .lists)) (parts (c .before .before .before .before .before .before .before .before .before .before .before .before .args .base) (c .before .before .before .before .before .before .before .before .before .before .before .before .args .lists .now))
-      (search needs) (c .before .before .before .before .before .before .before .before .loop .inv .0) (c .before .before .before .before .before .before .before .before .loop .inv .1) (c .before .before .before .before .before .before .before .before .loop .inv .2) (c .before .before .before .before .before .wide .ensures) (c .before .before .before .before .before .before .before .before .loop .inv .5) _ (c .before .before .put-row .ensures),
-)
+loop-again c =
+    let s = c .before .before .before .before .before .before .before .before .before .before .before .before in
+    let l = c .before .before .before .before .before .before .before .before .loop in (
+      omega arith,
+      omega arith,
+      from-before (s .args .checks) (s .args .q) (s .args .lens .now) (s .args .addrs .now) (l .g) (l .m) (l .end) (c .before .before .before .before .before .wide .result) (parts (s .args .base) (l .lists)) (parts (s .args .base) (s .args .lists .now))
+          (search needs) (l .inv .0) (l .inv .1) (l .inv .2) (c .before .before .before .before .before .wide .ensures) (l .inv .5),
+      omega arith,
+      omega arith,
+      part-again (s .args .checks) (s .args .q) (s .args .lens .now) (s .args .addrs .now) (l .g) (l .m) (l .end) (c .before .before .before .before .before .wide .result) (parts (s .args .base) (l .lists)) (parts (s .args .base) (s .args .lists .now))
+          (search needs) (l .inv .0) (l .inv .1) (l .inv .2) (c .before .before .before .before .before .wide .ensures) (l .inv .5) _ (c .before .before .put-row .ensures),
+    )
 
 same-length : tie.Need-same-length Inv-loop μ-loop
-same-length c = same-parts (c .before .before .before .before .before .args .base) _ (c .before .loop .lists) _ (c .before .loop .inv .5)
+same-length c =
+    let l = c .before .loop in
+    same-parts (c .before .before .before .before .before .args .base) _ (l .lists) _ (l .inv .5)
 
 returns : tie.Need-returns Inv-loop μ-loop
-returns c = rows-end _ _ _ _ (c .before .loop .g) (c .before .loop .end) _ _ (search needs) (c .before .loop .inv .2) (c .before .loop .inv .5)
+returns c =
+    let l = c .before .loop in
+    rows-end _ _ _ _ (l .g) (l .end) _ _ (search needs) (l .inv .2) (l .inv .5)
 
 pub put-rows-spec : {M : Type 1} → statement M
 put-rows-spec =

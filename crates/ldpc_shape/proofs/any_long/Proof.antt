@@ -1,3 +1,4 @@
+-- `ldpc_shape::any_long` meets its contract. Assumes nothing.
 use native.Mathlib.Omega.{arith}
 use mathlib.Core.Path.{_≡_, refl, ap, sym, _∙_}
 use Prim.Native.Nat.{ℕ, _+_, _≤_, _<_, _-_}
@@ -7,8 +8,6 @@ use Rattle.ldpc_shape.proofs.Loops.{over-hit, over-miss, over-end}
 use borrow.Author.Needs.{needs}
 use Rattle.ldpc_shape.proofs.any_long.Statement.{statement}
 use Rattle.ldpc_shape.proofs.any_long.Tie as tie
-use Rattle.ldpc_shape.proofs.any_long.Reads as reads
-use Rattle.ldpc_shape.proofs.any_long.Lts as lts
 
 abbrev Inv-loop : tie.InvT-loop
 Inv-loop lens i₀ i = (i ≤ length lens) × (anyOver 128 lens ≡ anyOver 128 (drop i lens))

@@ -1,3 +1,4 @@
+-- `ldpc_shape::any_many` meets its contract. Assumes nothing.
 use Rattle.ldpc_shape.proofs.Loops.{tops-hit, tops-miss, tops-end}
 use Rattle.ldpc_shape.specs.Counts.{tops}
 use Rattle.ldpc_shape.specs.Shape.{anyOver}
@@ -7,9 +8,6 @@ use borrow.Author.Needs.{needs}
 use native.Mathlib.Omega.{arith}
 use Rattle.ldpc_shape.proofs.any_many.Statement.{statement}
 use Rattle.ldpc_shape.proofs.any_many.Tie as tie
-use Rattle.ldpc_shape.proofs.any_many.Reads as reads
-use Rattle.ldpc_shape.proofs.any_many.Lts as lts
-use Rattle.ldpc_shape.proofs.wide.Reads as wide-reads
 
 abbrev Inv-loop : tie.InvT-loop
 Inv-loop counts q l₀ l = (l ≤ q) × (anyOver 126 (tops counts q) ≡ anyOver 126 (tops counts l))
@@ -33,16 +31,25 @@ element-copy-out-if1 : tie.Need-element-copy-out-if1 Inv-loop μ-loop
 element-copy-out-if1 c = search needs
 
 returns : tie.Need-returns Inv-loop μ-loop
-returns c = tops-hit 126 (c .before .before .before .before .before .args .counts .now) (c .before .before .before .before .before .args .q) (c .before .before .before .loop .l) (search needs) (c .if1 .taken) (c .before .before .before .loop .inv .1)
+returns c =
+    let s = c .before .before .before .before .before in
+    let l = c .before .before .before .loop in
+    tops-hit 126 (s .args .counts .now) (s .args .q) (l .l) (search needs) (c .if1 .taken) (l .inv .1)
 
 loop-less : tie.Need-loop-less Inv-loop μ-loop
 loop-less c = search needs
 
 loop-again : tie.Need-loop-again Inv-loop μ-loop
-loop-again c = (omega arith, tops-miss 126 (c .before .before .before .before .before .args .counts .now) (c .before .before .before .before .before .args .q) (c .before .before .before .loop .l) (search needs) (c .if1 .left) (c .before .before .before .loop .inv .1))
+loop-again c =
+    let s = c .before .before .before .before .before in
+    let l = c .before .before .before .loop in
+    (omega arith, tops-miss 126 (s .args .counts .now) (s .args .q) (l .l) (search needs) (c .if1 .left) (l .inv .1))
 
 returns-2 : tie.Need-returns-2 Inv-loop μ-loop
-returns-2 c = tops-end 126 (c .before .before .before .args .counts .now) (c .before .before .before .args .q) (c .before .loop .l) (search needs) (c .before .loop .inv .1)
+returns-2 c =
+    let s = c .before .before .before in
+    let l = c .before .loop in
+    tops-end 126 (s .args .counts .now) (s .args .q) (l .l) (search needs) (l .inv .1)
 
 pub any-many-spec : {M : Type 1} → statement M
 any-many-spec =

@@ -1,3 +1,4 @@
+-- `ldpc_shape::bad_length` meets its contract. Assumes nothing.
 use mathlib.Core.Path.{_≡_, refl, sym}
 use borrow.Author.Tests.{eq-eqb, ne-eqb}
 use Rattle.ldpc_shape.specs.Shape.{badLength}

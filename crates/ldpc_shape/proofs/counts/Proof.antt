@@ -1,3 +1,4 @@
+-- `ldpc_shape::counts` meets its contract. Assumes nothing.
 use mathlib.Core.Path.{_≡_, refl, _∙_}
 use Prim.Native.Nat.{ℕ, _≤_, _-_}
 use lib.ListN.{length, take, length-set}
@@ -7,9 +8,6 @@ use borrow.Author.Needs.{needs}
 use native.Mathlib.Omega.{arith}
 use Rattle.ldpc_shape.proofs.counts.Statement.{statement}
 use Rattle.ldpc_shape.proofs.counts.Tie as tie
-use Rattle.ldpc_shape.proofs.counts.Reads as reads
-use Rattle.ldpc_shape.proofs.counts.Lts as lts
-use Rattle.ldpc_shape.proofs.residue.Reads as residue-reads
 
 abbrev Inv-loop : tie.InvT-loop
 Inv-loop addrs q r₀ i₀ r i = (i ≤ length addrs) × (length r ≡ 120) × Counted r q (take i addrs)
@@ -18,7 +16,9 @@ abbrev μ-loop : tie.MeasureT-loop
 μ-loop addrs q r₀ i₀ r i = length addrs - i
 
 loop-holds : tie.Need-loop-holds Inv-loop μ-loop
-loop-holds c = (omega arith, refl, counted-start (c .before .args .q) (c .before .args .addrs .now) (c .before .pre .1))
+loop-holds c =
+    let s = c .before in
+    (omega arith, refl, counted-start (s .args .q) (s .args .addrs .now) (s .pre .1))
 
 mul-residue : tie.Need-mul-residue Inv-loop μ-loop
 mul-residue c = search needs

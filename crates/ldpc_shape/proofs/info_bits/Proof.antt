@@ -1,3 +1,4 @@
+-- `ldpc_shape::info_bits` meets its contract. Assumes nothing.
 use native.Mathlib.Omega.{arith}
 use borrow.Author.Needs.{needs}
 use Rattle.ldpc_shape.specs.Shape.{kOf}

@@ -1,3 +1,4 @@
+-- `ldpc_shape::refusal` meets its contract. Assumes nothing.
 use Rattle.ldpc_shape.proofs.Loops.{sum-fits, small, refuse-length, refuse-rows, refuse-over, refuse-sum, refuse-many, refuse-none}
 use lib.ListN.{length}
 use Prim.Native.Nat.{ℕ, _≤_, _<_}
@@ -6,14 +7,6 @@ use native.Mathlib.Omega.{arith}
 use borrow.Author.Needs.{needs}
 use Rattle.ldpc_shape.proofs.refusal.Statement.{statement}
 use Rattle.ldpc_shape.proofs.refusal.Tie as tie
-use Rattle.ldpc_shape.proofs.refusal.Reads as reads
-use Rattle.ldpc_shape.proofs.refusal.Lts as lts
-use Rattle.ldpc_shape.proofs.any_long.Reads as any-long-reads
-use Rattle.ldpc_shape.proofs.any_many.Reads as any-many-reads
-use Rattle.ldpc_shape.proofs.bad_length.Reads as bad-length-reads
-use Rattle.ldpc_shape.proofs.counts.Reads as counts-reads
-use Rattle.ldpc_shape.proofs.sum_of.Reads as sum-of-reads
-use Rattle.ldpc_shape.proofs.wide.Reads as wide-reads
 
 bad-length-requires : tie.Need-bad-length-requires
 bad-length-requires c κs = search needs

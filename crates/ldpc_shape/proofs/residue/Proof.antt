@@ -1,11 +1,10 @@
+-- `ldpc_shape::residue` meets its contract. Assumes nothing.
 use mathlib.Core.Path.{_≡_, refl}
 use native.Mathlib.Nat.{mod-lt}
 use native.Mathlib.Omega.{arith}
 use borrow.Author.Needs.{needs}
 use Rattle.ldpc_shape.proofs.residue.Statement.{statement}
 use Rattle.ldpc_shape.proofs.residue.Tie as tie
-use Rattle.ldpc_shape.proofs.residue.Reads as reads
-use Rattle.ldpc_shape.proofs.residue.Lts as lts
 
 rem-result : tie.Need-rem-result
 rem-result c = search needs

@@ -1,3 +1,4 @@
+-- `ldpc_shape::sum_of` meets its contract. Assumes nothing.
 use native.Mathlib.Omega.{arith}
 use mathlib.Core.Path.{_≡_, refl, ap, sym, _∙_}
 use Prim.Native.Nat.{ℕ, _+_, _≤_, _<_, _-_}
@@ -7,9 +8,6 @@ use Rattle.ldpc_shape.proofs.Loops.{sum-again, sum-room, sum-end}
 use borrow.Author.Needs.{needs}
 use Rattle.ldpc_shape.proofs.sum_of.Statement.{statement}
 use Rattle.ldpc_shape.proofs.sum_of.Tie as tie
-use Rattle.ldpc_shape.proofs.sum_of.Reads as reads
-use Rattle.ldpc_shape.proofs.sum_of.Lts as lts
-use Rattle.ldpc_shape.proofs.wide.Reads as wide-reads
 
 abbrev Inv-loop : tie.InvT-loop
 Inv-loop lens s₀ i₀ s i = (i ≤ length lens) × (s + total (drop i lens) ≡ total lens)

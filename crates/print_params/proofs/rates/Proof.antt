@@ -1,11 +1,9 @@
+-- `print_params::rates` meets its contract. Assumes nothing.
 use Prim.Native.Nat.{_≤_, _-_}
 use borrow.Author.Needs.{needs}
 use native.Mathlib.Omega.{arith}
 use Rattle.print_params.proofs.rates.Statement.{statement}
 use Rattle.print_params.proofs.rates.Tie as tie
-use Rattle.print_params.proofs.rates.Reads as reads
-use Rattle.print_params.proofs.rates.Lts as lts
-use Rattle.print_params.proofs.line.Reads as line-reads
 
 abbrev Inv-loop : tie.InvT-loop
 Inv-loop i₀ i = i ≤ 11

@@ -1,3 +1,4 @@
+-- `vectors_ldpc::all_checks` meets its contract. Assumes nothing.
 use lib.ListN.{length}
 use Prim.Native.Nat.{_≤_, _-_}
 use mathlib.Core.Path.{_≡_, refl, _∙_}
@@ -5,9 +6,6 @@ use borrow.Author.Needs.{needs}
 use native.Mathlib.Omega.{arith}
 use Rattle.vectors_ldpc.proofs.all_checks.Statement.{statement}
 use Rattle.vectors_ldpc.proofs.all_checks.Tie as tie
-use Rattle.vectors_ldpc.proofs.all_checks.Reads as reads
-use Rattle.vectors_ldpc.proofs.all_checks.Lts as lts
-use Rattle.vectors_ldpc.proofs.one_check.Reads as one-check-reads
 
 abbrev Inv-loop : tie.InvT-loop
 Inv-loop n lens addrs p out₀ h₀ c₀ out h c = length out ≡ length out₀

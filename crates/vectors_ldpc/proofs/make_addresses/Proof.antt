@@ -1,3 +1,4 @@
+-- `vectors_ldpc::make_addresses` meets its contract. Assumes nothing.
 use lib.ListN.{length, length-set}
 use Prim.Native.Nat.{_≤_, _-_}
 use mathlib.Core.Path.{_≡_, refl, _∙_}
@@ -5,10 +6,6 @@ use borrow.Author.Needs.{needs}
 use native.Mathlib.Omega.{arith}
 use Rattle.vectors_ldpc.proofs.make_addresses.Statement.{statement}
 use Rattle.vectors_ldpc.proofs.make_addresses.Tie as tie
-use Rattle.vectors_ldpc.proofs.make_addresses.Reads as reads
-use Rattle.vectors_ldpc.proofs.make_addresses.Lts as lts
-use Rattle.vectors_ldpc.proofs.address.Reads as address-reads
-use Rattle.vectors_ldpc.proofs.next.Reads as next-reads
 
 abbrev Inv-loop : tie.InvT-loop
 Inv-loop addrs₀ seed p q x₀ a₀ i₀ addrs x a i = length addrs ≡ length addrs₀
@@ -47,7 +44,9 @@ loop-less : tie.Need-loop-less Inv-loop μ-loop
 loop-less c = search needs
 
 loop-again : tie.Need-loop-again Inv-loop μ-loop
-loop-again c = length-set (c .before .before .before .before .before .loop .addrs) _ _ ∙ (c .before .before .before .before .before .loop .inv)
+loop-again c =
+    let l = c .before .before .before .before .before .loop in
+    length-set (l .addrs) _ _ ∙ (l .inv)
 
 same-length : tie.Need-same-length Inv-loop μ-loop
 same-length c = search needs

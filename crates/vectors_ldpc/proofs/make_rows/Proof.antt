@@ -1,3 +1,4 @@
+-- `vectors_ldpc::make_rows` meets its contract. Assumes nothing.
 use lib.ListN.{length, length-set}
 use Prim.Native.Nat.{_≤_, _-_}
 use mathlib.Core.Path.{_≡_, refl, _∙_}
@@ -5,10 +6,6 @@ use borrow.Author.Needs.{needs}
 use native.Mathlib.Omega.{arith}
 use Rattle.vectors_ldpc.proofs.make_rows.Statement.{statement}
 use Rattle.vectors_ldpc.proofs.make_rows.Tie as tie
-use Rattle.vectors_ldpc.proofs.make_rows.Reads as reads
-use Rattle.vectors_ldpc.proofs.make_rows.Lts as lts
-use Rattle.vectors_ldpc.proofs.draw.Reads as draw-reads
-use Rattle.vectors_ldpc.proofs.next.Reads as next-reads
 
 abbrev Inv-loop : tie.InvT-loop
 Inv-loop lens₀ seed most x₀ i₀ lens x i = length lens ≡ length lens₀
@@ -41,7 +38,9 @@ loop-less : tie.Need-loop-less Inv-loop μ-loop
 loop-less c = search needs
 
 loop-again : tie.Need-loop-again Inv-loop μ-loop
-loop-again c = length-set (c .before .before .before .loop .lens) _ _ ∙ (c .before .before .before .loop .inv)
+loop-again c =
+    let l = c .before .before .before .loop in
+    length-set (l .lens) _ _ ∙ (l .inv)
 
 same-length : tie.Need-same-length Inv-loop μ-loop
 same-length c = search needs

@@ -1,13 +1,10 @@
+-- `vectors_ldpc::mix_bytes` meets its contract. Assumes nothing.
 use lib.ListN.{length}
 use Prim.Native.Nat.{_≤_, _-_}
 use borrow.Author.Needs.{needs}
 use native.Mathlib.Omega.{arith}
 use Rattle.vectors_ldpc.proofs.mix_bytes.Statement.{statement}
 use Rattle.vectors_ldpc.proofs.mix_bytes.Tie as tie
-use Rattle.vectors_ldpc.proofs.mix_bytes.Reads as reads
-use Rattle.vectors_ldpc.proofs.mix_bytes.Lts as lts
-use Rattle.vectors_ldpc.proofs.byte.Reads as byte-reads
-use Rattle.vectors_ldpc.proofs.mix.Reads as mix-reads
 
 abbrev Inv-loop : tie.InvT-loop
 Inv-loop h s r₀ i₀ r i = i ≤ length s

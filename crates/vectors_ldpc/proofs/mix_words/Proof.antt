@@ -1,12 +1,10 @@
+-- `vectors_ldpc::mix_words` meets its contract. Assumes nothing.
 use lib.ListN.{length}
 use Prim.Native.Nat.{_≤_, _-_}
 use borrow.Author.Needs.{needs}
 use native.Mathlib.Omega.{arith}
 use Rattle.vectors_ldpc.proofs.mix_words.Statement.{statement}
 use Rattle.vectors_ldpc.proofs.mix_words.Tie as tie
-use Rattle.vectors_ldpc.proofs.mix_words.Reads as reads
-use Rattle.vectors_ldpc.proofs.mix_words.Lts as lts
-use Rattle.vectors_ldpc.proofs.mix.Reads as mix-reads
 
 abbrev Inv-loop : tie.InvT-loop
 Inv-loop h s r₀ i₀ r i = i ≤ length s

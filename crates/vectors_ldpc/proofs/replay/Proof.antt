@@ -1,18 +1,10 @@
+-- `vectors_ldpc::replay` meets its contract. Assumes nothing.
 use mathlib.Core.Path.{sym}
 use lib.Seq.{length-take-le}
 use native.Mathlib.Omega.{arith}
 use borrow.Author.Needs.{needs}
 use Rattle.vectors_ldpc.proofs.replay.Statement.{statement}
 use Rattle.vectors_ldpc.proofs.replay.Tie as tie
-use Rattle.vectors_ldpc.proofs.replay.Reads as reads
-use Rattle.vectors_ldpc.proofs.replay.Lts as lts
-use Rattle.ldpc_shape.proofs.wide.Reads as wide-reads
-use Rattle.vectors_ldpc.proofs.make_addresses.Reads as make-addresses-reads
-use Rattle.vectors_ldpc.proofs.make_rows.Reads as make-rows-reads
-use Rattle.vectors_ldpc.proofs.show.Reads as show-reads
-use Rattle.vectors_ldpc.proofs.show_sizes.Reads as show-sizes-reads
-use Rattle.vectors_ldpc.proofs.sized.Reads as sized-reads
-use Rattle.vectors_ldpc.proofs.sum_rows.Reads as sum-rows-reads
 
 mul-n : tie.Need-mul-n
 mul-n c = search needs

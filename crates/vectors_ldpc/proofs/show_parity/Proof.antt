@@ -1,15 +1,10 @@
+-- `vectors_ldpc::show_parity` meets its contract. Assumes nothing.
 use mathlib.Core.Path.{sym}
 use lib.Seq.{length-take-le}
 use native.Mathlib.Omega.{arith}
 use borrow.Author.Needs.{needs}
 use Rattle.vectors_ldpc.proofs.show_parity.Statement.{statement}
 use Rattle.vectors_ldpc.proofs.show_parity.Tie as tie
-use Rattle.vectors_ldpc.proofs.show_parity.Reads as reads
-use Rattle.vectors_ldpc.proofs.show_parity.Lts as lts
-use Rattle.ldpc.proofs.parity.Reads as parity-reads
-use Rattle.vectors_ldpc.proofs.mix_bytes.Reads as mix-bytes-reads
-use Rattle.vectors_ldpc.proofs.show.Reads as show-reads
-use Rattle.vectors_ldpc.proofs.show_done.Reads as show-done-reads
 
 parity-requires : tie.Need-parity-requires
 parity-requires c κs = search needs

@@ -1,12 +1,10 @@
+-- `vectors_ldpc::sized` meets its contract. Assumes nothing.
 use mathlib.Core.Path.{sym}
 use lib.Seq.{length-take-le}
 use native.Mathlib.Omega.{arith}
 use borrow.Author.Needs.{needs}
 use Rattle.vectors_ldpc.proofs.sized.Statement.{statement}
 use Rattle.vectors_ldpc.proofs.sized.Tie as tie
-use Rattle.vectors_ldpc.proofs.sized.Reads as reads
-use Rattle.vectors_ldpc.proofs.sized.Lts as lts
-use Rattle.vectors_ldpc.proofs.code.Reads as code-reads
 
 returns : tie.Need-returns
 returns c = search needs

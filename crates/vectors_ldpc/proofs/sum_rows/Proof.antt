@@ -1,3 +1,4 @@
+-- `vectors_ldpc::sum_rows` meets its contract. Assumes nothing.
 use native.Mathlib.Nat.{mod-lt}
 use lib.ListN.{length}
 use Prim.Native.Nat.{_≤_, _<_, _-_}
@@ -5,9 +6,6 @@ use borrow.Author.Needs.{needs}
 use native.Mathlib.Omega.{arith}
 use Rattle.vectors_ldpc.proofs.sum_rows.Statement.{statement}
 use Rattle.vectors_ldpc.proofs.sum_rows.Tie as tie
-use Rattle.vectors_ldpc.proofs.sum_rows.Reads as reads
-use Rattle.vectors_ldpc.proofs.sum_rows.Lts as lts
-use Rattle.ldpc_shape.proofs.wide.Reads as wide-reads
 
 abbrev Inv-loop : tie.InvT-loop
 Inv-loop lens s₀ i₀ s i = (i ≤ length lens) × (s < 65536)
@@ -28,7 +26,9 @@ wide-requires : tie.Need-wide-requires Inv-loop μ-loop
 wide-requires c κs = search needs
 
 add-s : tie.Need-add-s Inv-loop μ-loop
-add-s c = omega (arith, (c .wide .ensures), (c .before .before .before .loop .inv .1), (c .before .shared-slice-known2 .given) (c .before .before .before .loop .i))
+add-s c =
+    let l = c .before .before .before .loop in
+    omega (arith, (c .wide .ensures), (l .inv .1), (c .before .shared-slice-known2 .given) (l .i))
 
 add-i : tie.Need-add-i Inv-loop μ-loop
 add-i c = search needs
