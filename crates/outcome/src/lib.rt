@@ -3,12 +3,14 @@ use bch::Decoded;
 ghost use mathlib.Core.Path.{_≡_};
 ghost use Prim.Native.Nat.{_+_, _<_, _≤_};
 ghost use lib.Dec.{eqb};
-ghost use lib.ListN.{length, getD};
+ghost use lib.ListN.{length};
 ghost use Rattle.ldpc_shape.specs.Shape.{pOf, refusalOf};
 ghost use Rattle.lane_math.specs.Iteration.{negatives};
+ghost use Rattle.lane_memory.specs.Room.{var};
+ghost use Rattle.fixed_code.specs.Lists.{Lists, codeIn};
 ghost use Rattle.outcome.specs.Code.{codeOf};
 ghost use Rattle.outcome.specs.Outcome.{begin, bitsOf, metOf, unmetAt, corrected, resultOf, bchOf, stateOf, isFinished, keptOf, lostOf};
-ghost use Rattle.outcome.specs.Index.{Variables, indexed, Listed, values, Lent};
+ghost use Rattle.outcome.specs.Index.{Edges, values, Lent};
 ghost use Rattle.outcome.specs.Scan.{Counted};
 
 // How many checks a word leaves unsatisfied, and one of them (0 if there is none).
@@ -25,23 +27,15 @@ fn checks(n: u32, lens: &[u32], addrs: &[u16]) -> usize
     ldpc_shape::wide(n) - ldpc_shape::info_bits(lens)
 }
 
-// Entry i of the code's lists.
-fn entry(index: &[u32], i: usize) -> usize
-    requires { ⌜ i < length (now index) ⌝ }
-    ensures { λ r. ⌜ r ≡ getD (now (index .entry)) i 0 ⌝ }
-{
-    index[i] as usize
-}
-
-// How many of the d variables listed from `at` on have a negative value. A repeated variable counts as often as it occurs.
-fn negative(index: &[u32], at: usize, d: usize, soft: &[i8]) -> usize
-    requires { ⌜ Variables (now index) at d (length (now soft)) ⌝ }
-    ensures { λ r. ⌜ r ≡ negatives (λ e. getD (now (index .entry)) e 0) at d (values (now (soft .entry))) ⌝ }
+// How many of the d edges from s have a variable with a negative value. A repeated variable counts as often as it occurs.
+fn negative(rows: &[u32], s: usize, d: usize, soft: &[i8]) -> usize
+    requires { ⌜ Edges (now rows) s d (length (now soft)) ⌝ }
+    ensures { λ r. ⌜ r ≡ negatives (var (now (rows .entry))) s d (values (now (soft .entry))) ⌝ }
 {
     let mut count: usize = 0;
     let mut k: usize = 0;
     while k < d {
-        let v = entry(index, at + k);
+        let v = lane_memory::variable(rows, s + k);
         count += lane_math::bit(soft[v]) as usize;
         k += 1;
     }
@@ -50,12 +44,13 @@ fn negative(index: &[u32], at: usize, d: usize, soft: &[i8]) -> usize
 
 // Whether check c of p is unsatisfied: an odd number of its variables' values are negative.
 fn odd(index: &[u32], p: usize, c: usize, soft: &[i8]) -> bool
-    requires { ⌜ (c < p) × Listed p (length (now soft)) (now index) ⌝ }
-    ensures { λ r. ⌜ r ≡ eqb (unmetAt (indexed p (now (index .entry))) (values (now (soft .entry))) c) 1 ⌝ }
+    requires { ⌜ (c < p) × Lists (length (now soft)) p (now index) ⌝ }
+    ensures { λ r. ⌜ r ≡ eqb (unmetAt (codeIn p (now (index .entry))) (values (now (soft .entry))) c) 1 ⌝ }
 {
-    let s = entry(index, c);
-    let d = entry(index, c + 1) - s;
-    negative(index, p + 1 + s, d, soft) % 2 == 1
+    let s = fixed_code::start(index, c);
+    let d = fixed_code::degree(index, soft.len(), p, c);
+    let base = p + 1;
+    negative(&index[base..], s, d, soft) % 2 == 1
 }
 
 // Whether a word's soft values meet every check. The scan ends at the first unsatisfied one.

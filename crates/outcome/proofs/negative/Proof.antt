@@ -2,7 +2,7 @@ use borrow.Author.Needs.{sfits-of, needs}
 use Rattle.laws.specs.Signed.{plain}
 use mathlib.Core.Path.{_≡_, refl, ap, _∙_}
 use Prim.Native.Nat.{ℕ, _+_, _-_, _≤_}
-use lib.ListN.{getD}
+use Rattle.lane_memory.specs.Room.{var}
 use Rattle.lane_math.specs.Iteration.{negatives, hard}
 use Rattle.outcome.specs.Index.{values, negatives-le, negatives-again}
 use native.Mathlib.Omega.{arith}
@@ -10,34 +10,34 @@ use Rattle.outcome.proofs.negative.Statement.{statement}
 use Rattle.outcome.proofs.negative.Tie as tie
 
 abbrev Inv-loop : tie.InvT-loop
-Inv-loop index at d soft count₀ k₀ count k = (k ≤ d) × (count ≡ negatives (λ e. getD index e 0) at k (values soft))
+Inv-loop rows s d soft count₀ k₀ count k = (k ≤ d) × (count ≡ negatives (var rows) s k (values soft))
 
 abbrev μ-loop : tie.MeasureT-loop
-μ-loop index at d soft count₀ k₀ count k = d - k
+μ-loop rows s d soft count₀ k₀ count k = d - k
 
 -- one variable more
 more : (c : tie.After-bit Inv-loop μ-loop) →
     let h = c .before .before .before .before in
     let a = h .before .before .args in
-    h .loop .count + c .bit .result ≡ negatives (λ e. getD (a .index .now) e 0) (a .at) (h .loop .k + 1) (values (a .soft .now))
+    h .loop .count + c .bit .result ≡ negatives (var (a .rows .now)) (a .s) (h .loop .k + 1) (values (a .soft .now))
 more c =
     let h = c .before .before .before .before in
     let a = h .before .before .args in
-    negatives-again (λ e. getD (a .index .now) e 0) (a .at) (h .loop .k) (values (a .soft .now)) (h .loop .count) (c .bit .result) (h .loop .inv .1)
-    (c .bit .ensures ∙ ap hard (plain _ (sfits-of (c .before .bit-arg .given)) ∙ ap (values (a .soft .now)) (c .before .before .entry .ensures)))
+    negatives-again (var (a .rows .now)) (a .s) (h .loop .k) (values (a .soft .now)) (h .loop .count) (c .bit .result) (h .loop .inv .1)
+    (c .bit .ensures ∙ ap hard (plain _ (sfits-of (c .before .bit-arg .given)) ∙ ap (values (a .soft .now)) (c .before .before .variable .ensures)))
 
 loop-holds : tie.Need-loop-holds Inv-loop μ-loop
 unfolding negatives
 loop-holds c = (search needs, refl)
 
-add-entry : tie.Need-add-entry Inv-loop μ-loop
-add-entry c = search needs
+add-variable : tie.Need-add-variable Inv-loop μ-loop
+add-variable c = search needs
 
-entry-requires : tie.Need-entry-requires Inv-loop μ-loop
-entry-requires c κs = search needs
+variable-requires : tie.Need-variable-requires Inv-loop μ-loop
+variable-requires c κs = search needs
 
 shared-slice-copy-out-bit : tie.Need-shared-slice-copy-out-bit Inv-loop μ-loop
-shared-slice-copy-out-bit c = let h = c .before .before in let s = h .before .before in omega (arith, c .entry .ensures, s .pre .below (h .loop .k) (c .before .loop-test .taken))
+shared-slice-copy-out-bit c = let h = c .before .before in let s = h .before .before in omega (arith, c .variable .ensures, s .pre .below (s .args .s + h .loop .k) (omega (arith, c .before .loop-test .taken, s .pre .inside)))
 
 bit-requires : tie.Need-bit-requires Inv-loop μ-loop
 bit-requires c κs = search needs
@@ -49,7 +49,7 @@ add-count : tie.Need-add-count Inv-loop μ-loop
 add-count c =
     let h = c .before .before .before .before in
     let a = h .before .before .args in
-    record { fits = omega (arith, more c, negatives-le (λ e. getD (a .index .now) e 0) (a .at) (h .loop .k + 1) (values (a .soft .now)), h .before .before .fits .d, c .before .before .before .loop-test .taken) }
+    record { fits = omega (arith, more c, negatives-le (var (a .rows .now)) (a .s) (h .loop .k + 1) (values (a .soft .now)), h .before .before .fits .d, c .before .before .before .loop-test .taken) }
 
 add-k : tie.Need-add-k Inv-loop μ-loop
 add-k c = search needs
@@ -64,7 +64,7 @@ returns : tie.Need-returns Inv-loop μ-loop
 returns c =
     let a = c .before .before .before .args in
     let e : c .before .loop .k ≡ a .d = omega (arith, c .loop-test .left, c .before .loop .inv .0) in
-    c .before .loop .inv .1 ∙ ap (λ (k : ℕ). negatives (λ e. getD (a .index .now) e 0) (a .at) k (values (a .soft .now))) e
+    c .before .loop .inv .1 ∙ ap (λ (k : ℕ). negatives (var (a .rows .now)) (a .s) k (values (a .soft .now))) e
 
 pub negative-spec : {M : Type 1} → statement M
 negative-spec =
@@ -73,8 +73,8 @@ negative-spec =
     Inv-loop
     μ-loop
     loop-holds
-    add-entry
-    entry-requires
+    add-variable
+    variable-requires
     shared-slice-copy-out-bit
     bit-requires
     cast-count

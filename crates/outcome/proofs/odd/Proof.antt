@@ -1,50 +1,59 @@
-use mathlib.Core.Path.{ap}
-use Prim.Native.Nat.{ℕ}
+use mathlib.Core.Path.{ap, _∙_}
+use Prim.Native.Nat.{ℕ, _+_}
 use lib.Dec.{eqb}
-use Rattle.outcome.specs.Index.{values, check-variables, unmet-of}
-use native.Mathlib.Omega.{arith}
+use lib.ListN.{length}
+use Rattle.outcome.specs.Index.{values, check-edges, unmet-of}
 use borrow.Author.Needs.{needs}
 use Rattle.outcome.proofs.odd.Statement.{statement}
 use Rattle.outcome.proofs.odd.Tie as tie
 
-entry-requires : tie.Need-entry-requires
-entry-requires c κs = let s = c .before in omega (arith, s .pre .0, s .pre .1 .inside (s .args .c) (omega (arith, s .pre .0)))
+start-requires : tie.Need-start-requires
+start-requires c κs = search needs
 
-add-entry : tie.Need-add-entry
-add-entry c = search needs
+degree-requires : tie.Need-degree-requires
+degree-requires c κs = search needs
 
-entry-requires-2 : tie.Need-entry-requires-2
-entry-requires-2 c κs = let s = c .before .before in omega (arith, s .pre .0, s .pre .1 .inside (s .args .c) (omega (arith, s .pre .0)))
+add-base : tie.Need-add-base
+add-base c = search needs
 
-sub-d : tie.Need-sub-d
-sub-d c = let s = c .before .before .before in omega (arith, s .pre .1 .rising (s .args .c) (s .pre .0), c .before .entry .ensures, c .entry2 .ensures)
+mul-negative : tie.Need-mul-negative
+mul-negative c = search needs
 
-add-negative : tie.Need-add-negative
-add-negative c = let s = c .before .before .before in omega (arith, s .pre .0, s .pre .1 .inside (s .args .c) (omega (arith, s .pre .0)))
+sub-negative : tie.Need-sub-negative
+sub-negative c = search needs
 
-add-negative-2 : tie.Need-add-negative-2
-add-negative-2 c = let s = c .before .before .before in omega (arith, s .pre .0, s .pre .1 .inside (s .args .c) (omega (arith, s .pre .0)), c .before .entry .ensures)
+part-negative-start : tie.Need-part-negative-start
+part-negative-start c = search needs
+
+part-negative-end : tie.Need-part-negative-end
+part-negative-end c = search needs
 
 negative-requires : tie.Need-negative-requires
 negative-requires c κs =
-    let s = c .before .before .before in
-    check-variables (s .args .p) _ (s .args .c) _ _ (s .args .index .now) (s .pre .0) (s .pre .1) (c .before .entry .ensures) (c .entry2 .ensures)
+    let d = c .before in
+    let s = d .before .before .before in
+    let a = s .args in
+    check-edges (a .p) (length (a .soft .now)) (a .c) (d .before .start .result) (d .degree .result) (a .index .now) (s .pre .0) (d .before .start .ensures) (ap (λ (z : ℕ). z + d .degree .result) (d .before .start .ensures) ∙ d .degree .ensures) (s .pre .1)
 
 returns : tie.Need-returns
 returns c =
-    let e = c .before in
-    let a = e .before .before .before .args in
-    ap (λ (z : ℕ). eqb z 1) (unmet-of (a .p) (a .c) (e .before .entry .result) (e .entry2 .result) (c .negative .result) (a .index .now) (values (a .soft .now)) (e .before .entry .ensures) (e .entry2 .ensures) (c .negative .ensures))
+    let d = c .before .before in
+    let s = d .before .before .before in
+    let a = s .args in
+    ap (λ (z : ℕ). eqb z 1)
+    (unmet-of (a .p) (length (a .soft .now)) (a .c) (d .before .start .result) (d .degree .result) (a .index .now) (s .pre .0) (d .before .start .ensures)
+    (ap (λ (z : ℕ). z + d .degree .result) (d .before .start .ensures) ∙ d .degree .ensures) (c .negative .result) (values (a .soft .now)) (c .negative .ensures))
 
 pub odd-spec : {M : Type 1} → statement M
 odd-spec =
     tie.close
     (tie.spec
-    entry-requires
-    add-entry
-    entry-requires-2
-    sub-d
-    add-negative
-    add-negative-2
+    start-requires
+    degree-requires
+    add-base
+    mul-negative
+    sub-negative
+    part-negative-start
+    part-negative-end
     negative-requires
     returns)

@@ -45,7 +45,7 @@ returns c =
     let s = k .before .before .before .before in
     let a = s .args in
     sym (met-not (codeAt s) (wordAt s) (h .loop .c) (pOf (a .n) (a .lens .now)) (omega (arith, c .before .before .loop-test .taken, k .checks .ensures))
-    (odd-is (s .pre) (k .checks .result) (h .loop .c) _ true (k .checks .ensures) (c .before .before .loop-test .taken) (c .before .odd .ensures) (c .if1 .taken)))
+    (odd-is (s .pre) (k .checks .result) (h .loop .c) _ true (k .checks .ensures) (c .before .odd .ensures) (c .if1 .taken)))
 
 add-c : tie.Need-add-c Inv-loop μ-loop
 add-c c = search needs
@@ -59,7 +59,7 @@ loop-again c =
     let k = h .before in
     let s = k .before .before .before .before in (
       search needs,
-      met-again (codeAt s) (wordAt s) (h .loop .c) (odd-is (s .pre) (k .checks .result) (h .loop .c) _ false (k .checks .ensures) (c .before .before .loop-test .taken) (c .before .odd .ensures) (c .if1 .left)) (h .loop .inv .1),
+      met-again (codeAt s) (wordAt s) (h .loop .c) (odd-is (s .pre) (k .checks .result) (h .loop .c) _ false (k .checks .ensures) (c .before .odd .ensures) (c .if1 .left)) (h .loop .inv .1),
     )
 
 returns-2 : tie.Need-returns-2 Inv-loop μ-loop

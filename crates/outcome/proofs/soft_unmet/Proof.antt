@@ -61,9 +61,9 @@ loop-again c =
       search needs,
       ⊎-elim
           (λ w. counted-more (codeAt s) (wordAt s) (c .if1 .count) (c .if1 .check)
-          (odd-is (s .pre) (k .checks .result) (h .loop .c) _ true (k .checks .ensures) (c .before .before .loop-test .taken) (c .before .odd .ensures) (w .0 .taken)) (h .loop .inv .1) (w .1) (w .2))
+          (odd-is (s .pre) (k .checks .result) (h .loop .c) _ true (k .checks .ensures) (c .before .odd .ensures) (w .0 .taken)) (h .loop .inv .1) (w .1) (w .2))
           (λ w. counted-same (codeAt s) (wordAt s) (c .if1 .count) (c .if1 .check)
-          (odd-is (s .pre) (k .checks .result) (h .loop .c) _ false (k .checks .ensures) (c .before .before .loop-test .taken) (c .before .odd .ensures) (w .0 .left)) (h .loop .inv .1) (w .1) (w .2))
+          (odd-is (s .pre) (k .checks .result) (h .loop .c) _ false (k .checks .ensures) (c .before .odd .ensures) (w .0 .left)) (h .loop .inv .1) (w .1) (w .2))
           (c .if1 .came),
     )
 
