@@ -95,6 +95,21 @@ applied-rest base E v s p (suc d) f h u q =
     put-other (applied base E v s p d f) (v (s + d)) (satZ (f (base + E + (p + d)) +ℤ f (base + (s + d)))) u (λ e. omega (arith, h d (omega arith)))
     ∙ applied-rest base E v s p d f (λ k r. h k (omega arith)) u q
 
+-- one edge: rows tu and u are added into row v, of the w lanes from at
+pub record Edge (w lanes v tu u at : ℕ) (a a′ : List ℤ) : Type 0 where
+  pub inside : (k : ℕ) → k < w → column lanes a′ (at + k) ≡ put (column lanes a (at + k)) v (satZ (column lanes a (at + k) tu +ℤ column lanes a (at + k) u))
+  pub outside : (i : ℕ) → i < lanes → Off at w i → column lanes a′ i ≡ column lanes a i
+
+pub edge-is : {w lanes v tu u at : ℕ} {a a′ x m y : List ℤ} → w ≤ 16 → ((k : ℕ) → k < 16 → z x k ≡ column lanes a (at + k) tu) → ((k : ℕ) → k < 16 → z m k ≡ column lanes a (at + k) u) → Added x m y → Stored w lanes v at y a a′ → Edge w lanes v tu u at a a′
+edge-is {w} {lanes} {v} {tu} {u} {at} {a} narrow hx hm e st =
+    record {
+      inside = λ k q. st .inside k q ∙ ap (put (column lanes a (at + k)) v) (e .is k (omega arith) ∙ (λ i. satZ (hx k (omega arith) i +ℤ hm k (omega arith) i)));
+      outside = st .outside;
+    }
+
+pub edge-width : {w w′ lanes v tu u at : ℕ} {a a′ : List ℤ} → w ≡ w′ → Edge w lanes v tu u at a a′ → Edge w′ lanes v tu u at a a′
+edge-width {w} {w′} {lanes} {v} {tu} {u} {at} {a} {a′} e c = subst (λ (j : ℕ). Edge j lanes v tu u at a a′) e c
+
 pub record Applying (w : ℕ) (v : ℕ → ℕ) (s base E p lanes at : ℕ) (a : List ℤ) (d : ℕ) (a′ : List ℤ) : Type 0 where
   pub inside : (k : ℕ) → k < w → column lanes a′ (at + k) ≡ applied base E v s p d (column lanes a (at + k))
   pub outside : (i : ℕ) → i < lanes → Off at w i → column lanes a′ i ≡ column lanes a i
@@ -103,18 +118,14 @@ pub applying-start : (w : ℕ) (v : ℕ → ℕ) (s base E p lanes at : ℕ) (a 
 unfolding applied
 applying-start w v s base E p lanes at a = record { inside = λ k q. refl; outside = λ i q f. refl }
 
-module _ {w : ℕ} {v : ℕ → ℕ} {s base E p lanes at : ℕ} {a : List ℤ} {d : ℕ} {a′ a″ x m y : List ℤ} {u : ℕ} where
-  pub applying-again : w ≤ 16 → ((k : ℕ) → k < d → v (s + k) < base) → Applying w v s base E p lanes at a d a′ → u ≡ v (s + d)
-      → ((k : ℕ) → k < 16 → z x k ≡ column lanes a′ (at + k) (base + E + (p + d))) → ((k : ℕ) → k < 16 → z m k ≡ column lanes a′ (at + k) (base + (s + d)))
-      → Added x m y → Stored w lanes u at y a′ a″ → Applying w v s base E p lanes at a (d + 1) a″
+module _ {w : ℕ} {v : ℕ → ℕ} {s base E p lanes at : ℕ} {a : List ℤ} {d : ℕ} {a′ a″ : List ℤ} {u : ℕ} where
+  pub applying-again : ((k : ℕ) → k < d → v (s + k) < base) → Applying w v s base E p lanes at a d a′ → u ≡ v (s + d) → Edge w lanes u (base + E + (p + d)) (base + (s + d)) at a′ a″ → Applying w v s base E p lanes at a (d + 1) a″
   unfolding applied
-  applying-again narrow low c edge hx hm e st =
+  applying-again low c edge e =
       subst (λ (j : ℕ). Applying w v s base E p lanes at a j a″) (sym (add-one d))
       (record {
-        inside =
-            λ k q. st .inside k q
-            ∙ (λ i. put (c .inside k q i) (edge i) ((e .is k (omega arith) ∙ (λ j. satZ ((hx k (omega arith) ∙ at-row k q (base + E + (p + d)) (omega arith)) j +ℤ (hm k (omega arith) ∙ at-row k q (base + (s + d)) (omega arith)) j))) i));
-        outside = λ i q f. st .outside i q f ∙ c .outside i q f;
+        inside = λ k q. e .inside k q ∙ (λ i. put (c .inside k q i) (edge i) (satZ (at-row k q (base + E + (p + d)) (omega arith) i +ℤ at-row k q (base + (s + d)) (omega arith) i)));
+        outside = λ i q f. e .outside i q f ∙ c .outside i q f;
       })
     where
       at-row : (k : ℕ) → k < w → (r : ℕ) → base ≤ r → column lanes a′ (at + k) r ≡ column lanes a (at + k) r

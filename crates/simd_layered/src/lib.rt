@@ -5,7 +5,7 @@ ghost use lib.ListN.{length};
 ghost use Rattle.lane16.specs.Lanes.{NoneNegative};
 ghost use Rattle.lane_memory.specs.Column.{Part};
 ghost use Rattle.lane_memory.specs.Room.{var, Room, Width};
-ghost use Rattle.simd_layered.specs.Pass.{Kept, messagesColumn, applied};
+ghost use Rattle.simd_layered.specs.Pass.{Kept, Edge, messagesColumn, applied};
 ghost use Rattle.simd_layered.specs.Words.{CheckMessages, ApplyMessages};
 
 // The second pass of the layered schedule: each edge's t and old message go to the rows of the run's edges, from `place` on, then its new
@@ -103,6 +103,39 @@ pub fn check_messages(
     }
 }
 
+// Rows tu and u, t and a message, added into row v, of the w lanes from `at`.
+fn apply_edge(a: &mut [i8], v: usize, tu: usize, u: usize, lanes: usize, at: usize, w: usize)
+    requires { ⌜ (tu * lanes + at + 16 ≤ length (now a)) × (u * lanes + at + 16 ≤ length (now a)) ⌝ }
+    requires { ⌜ (v * lanes + lanes ≤ length (now a)) × ((at + w ≤ lanes) × (w ≤ 16)) ⌝ }
+    ensures { λ _. ⌜ Edge w lanes v tu u at (now (a .entry)) (now (a .exit)) ⌝ }
+{
+    let x = lane_memory::load(a, tu, lanes, at);
+    let m = lane_memory::load(a, u, lanes, at);
+    let y = lane16::add(x, m);
+    lane_memory::store(a, v, lanes, at, y, w);
+}
+
+// The same, with a constant width in each arm.
+fn apply_edge_lanes(a: &mut [i8], v: usize, tu: usize, u: usize, lanes: usize, at: usize, w: usize)
+    requires { ⌜ (tu * lanes + at + 16 ≤ length (now a)) × (u * lanes + at + 16 ≤ length (now a)) ⌝ }
+    requires { ⌜ (v * lanes + lanes ≤ length (now a)) × ((at + w ≤ lanes) × Width w) ⌝ }
+    ensures { λ _. ⌜ Edge w lanes v tu u at (now (a .entry)) (now (a .exit)) ⌝ }
+{
+    if w == 16 {
+        apply_edge(a, v, tu, u, lanes, at, 16);
+        return;
+    }
+    if w == 8 {
+        apply_edge(a, v, tu, u, lanes, at, 8);
+        return;
+    }
+    if w == 4 {
+        apply_edge(a, v, tu, u, lanes, at, 4);
+        return;
+    }
+    apply_edge(a, v, tu, u, lanes, at, 1);
+}
+
 // A check's values after its messages, of the w lanes from `at`.
 fn apply_chunk(
     rows: &[u32],
@@ -126,11 +159,8 @@ fn apply_chunk(
         let v = lane_memory::variable(rows, e);
         let f = place + k;
         let tu = n + edges + f;
-        let x = lane_memory::load(a, tu, lanes, at);
         let u = n + e;
-        let m = lane_memory::load(a, u, lanes, at);
-        let y = lane16::add(x, m);
-        lane_memory::store_lanes(a, v, lanes, at, y, w);
+        apply_edge_lanes(a, v, tu, u, lanes, at, w);
         k += 1;
     }
 }

@@ -43,55 +43,42 @@ add-tu-2 c =
     let q : c .before .before .loop .k < s .args .d = c .before .loop-test .taken in
     record { fits = omega (arith, row-fits (s .pre .0) (s .args .n + 3 * length (s .args .rows .now)) (omega arith), s .pre .0 .edges, s .pre .1 .1 .1, q, s .good) }
 
-load-requires : tie.Need-load-requires Inv-loop μ-loop
-load-requires c κs =
-    let s = c .before .before .before .before .before in
-    let h = c .before .before .before in
-    let q : h .loop .k < s .args .d = c .before .before .loop-test .taken in
-    let r : s .args .at < s .args .lanes = omega (arith, s .pre .1 .0, s .pre .1 .1 .0 .some) in
-    omega (arith, load-room (s .pre .0) (s .args .n + length (s .args .rows .now) + (s .args .place + h .loop .k)) (s .args .at) (omega (arith, s .pre .0 .edges, s .pre .1 .1 .1, q)) r, h .loop .inv .1 .0)
-
 add-u : tie.Need-add-u Inv-loop μ-loop
 add-u c =
-    let s = c .before .before .before .before .before .before in
-    let q : c .before .before .before .before .loop .k < s .args .d = c .before .before .before .loop-test .taken in
+    let s = c .before .before .before .before in
+    let q : c .before .before .loop .k < s .args .d = c .before .loop-test .taken in
     record { fits = omega (arith, row-fits (s .pre .0) (s .args .n + 3 * length (s .args .rows .now)) (omega arith), s .pre .0 .edges, s .pre .1 .1 .1, q, s .good) }
 
-load-requires-2 : tie.Need-load-requires-2 Inv-loop μ-loop
-load-requires-2 c κs =
-    let s = c .before .before .before .before .before .before .before in
-    let h = c .before .before .before .before .before in
-    let q : h .loop .k < s .args .d = c .before .before .before .before .loop-test .taken in
+apply-edge-lanes-requires : tie.Need-apply-edge-lanes-requires Inv-loop μ-loop
+apply-edge-lanes-requires c κs =
+    let s = c .before .before .before .before .before in
+    let h = c .before .before .before in
+    let v = c .before .variable in
+    let q : h .loop .k < s .args .d = c .before .before .loop-test .taken in
     let r : s .args .at < s .args .lanes = omega (arith, s .pre .1 .0, s .pre .1 .1 .0 .some) in
-    omega (arith, load-room (s .pre .0) (s .args .n + (s .args .s + h .loop .k)) (s .args .at) (omega (arith, s .pre .0 .edges, s .pre .1 .1 .1, q)) r, h .loop .inv .1 .0)
-
-add-requires : tie.Need-add-requires Inv-loop μ-loop
-add-requires c κs = search needs
-
-store-lanes-requires : tie.Need-store-lanes-requires Inv-loop μ-loop
-store-lanes-requires c κs =
-    let s = c .before .before .before .before .before .before .before .before .before .before in
-    let h = c .before .before .before .before .before .before .before .before in
-    let v = c .before .before .before .before .before .before .variable in
-    let q : v .result < s .args .n = omega (arith, v .ensures, value-row (s .pre .0) (h .loop .k) (c .before .before .before .before .before .before .before .loop-test .taken)) in
-    (omega (arith, row-room (s .pre .0) (v .result) (omega arith), h .loop .inv .1 .0), (s .pre .1 .0, s .pre .1 .1 .0))
+    let l : v .result < s .args .n = omega (arith, v .ensures, value-row (s .pre .0) (h .loop .k) q) in (
+      (
+        omega (arith, load-room (s .pre .0) (s .args .n + length (s .args .rows .now) + (s .args .place + h .loop .k)) (s .args .at) (omega (arith, s .pre .1 .1 .1, q)) r, h .loop .inv .1 .0),
+        omega (arith, load-room (s .pre .0) (s .args .n + (s .args .s + h .loop .k)) (s .args .at) (omega (arith, s .pre .0 .edges, q)) r, h .loop .inv .1 .0),
+      ),
+      (omega (arith, row-room (s .pre .0) (v .result) (omega arith), h .loop .inv .1 .0), (s .pre .1 .0, s .pre .1 .1 .0)),
+    )
 
 add-k : tie.Need-add-k Inv-loop μ-loop
-add-k c = record { fits = omega (arith, c .before .before .before .before .before .before .before .before .before .loop-test .taken, c .before .before .before .before .before .before .before .before .before .before .before .before .fits .d .fits) }
+add-k c = search needs
 
 loop-less : tie.Need-loop-less Inv-loop μ-loop
-loop-less c = omega (arith, c .before .before .before .before .before .before .before .before .before .loop-test .taken)
+loop-less c = search needs
 
 loop-again : tie.Need-loop-again Inv-loop μ-loop
 loop-again c =
-    let s = c .before .before .before .before .before .before .before .before .before .before .before .before in
-    let h = c .before .before .before .before .before .before .before .before .before .before in
-    let q : h .loop .k < s .args .d = c .before .before .before .before .before .before .before .before .before .loop-test .taken in (
+    let s = c .before .before .before .before .before .before .before in
+    let h = c .before .before .before .before .before in
+    let q : h .loop .k < s .args .d = c .before .before .before .before .loop-test .taken in (
       omega (arith, q),
       (
-        omega (arith, c .before .store-lanes .kept, h .loop .inv .1 .0),
-        applying-again (s .pre .1 .1 .0 .few) (λ k r. value-row (s .pre .0) k (omega arith)) (h .loop .inv .1 .1) (c .before .before .before .before .before .before .before .before .variable .ensures) (c .before .before .before .before .before .before .load .ensures) (c .before .before .before .before .load2 .ensures)
-            (c .before .before .before .add .ensures) (c .before .store-lanes .ensures),
+        omega (arith, c .before .apply-edge-lanes .kept, h .loop .inv .1 .0),
+        applying-again (λ k r. value-row (s .pre .0) k (omega arith)) (h .loop .inv .1 .1) (c .before .before .before .variable .ensures) (c .before .apply-edge-lanes .ensures),
       ),
     )
 
@@ -113,11 +100,8 @@ apply-chunk-spec =
     add-f
     add-tu
     add-tu-2
-    load-requires
     add-u
-    load-requires-2
-    add-requires
-    store-lanes-requires
+    apply-edge-lanes-requires
     add-k
     loop-less
     loop-again

@@ -1,0 +1,68 @@
+-- The layered iteration of an accepted code.
+use mathlib.Core.Path.{_≡_, refl, sym, ap, _∙_, subst}
+use mathlib.Core.Bool.{Bool}
+use mathlib.Core.List.{List}
+use Prim.Native.Nat.{ℕ, zero, suc, _+_, _*_, _-_, _/_, _≤_, _<_}
+use native.Mathlib.Omega.{arith}
+use lib.ListN.{getD, length}
+use lib.IntN.{ℤ}
+use Rattle.lane_math.specs.Check.{Word}
+use Rattle.lane_math.specs.Iteration.{Code, layered}
+use Rattle.lane_memory.specs.Column.{column}
+use Rattle.simd.specs.Words.{word}
+use Rattle.ldpc_shape.specs.Shape.{kOf, pOf, qOf, eOf, refusalOf}
+use Rattle.ldpc_shape.specs.Accepted.{Accepted, accepted, p-is, p-le, q-le, q-pos, n-is, addrs-le}
+use Rattle.ldpc_edges.specs.Code.{edgeLists}
+use Rattle.fixed_code.specs.Lists.{edgesIn, codeIn, Memory}
+use Rattle.fixed_code.specs.Code.{codeOf, code-in, edges-are, lists-in}
+use Rattle.fixed_conflicts.specs.Conflicts.{Worked, shares}
+use Rattle.fixed_layered.specs.Full.{Full, layersFull, layers-word, full}
+use Rattle.fixed_layered.specs.Runs.{LayersMade, InLayer, AllLayers}
+
+-- THE COLUMN LAW: every lane's word is iterated as that word alone. Of the scratch rows too it is said what they hold: `layersFull` is the iteration of
+-- a word with its rows of t and of old messages. All behind the n + 3E rows is as it was.
+pub record Layered (n : ℕ) (lens addrs : List ℕ) (lanes : ℕ) (o : ℤ) (s : ℕ) (a a′ : List ℤ) : Type 0 where
+  pub words : (i : ℕ) → i < lanes → word n (eOf n lens addrs) lanes a′ i ≡ layered o (codeOf n lens addrs) (qOf n lens) s (word n (eOf n lens addrs) lanes a i)
+  pub fulls : (i : ℕ) → i < lanes → full n (eOf n lens addrs) lanes a′ i ≡ layersFull o (codeOf n lens addrs) (qOf n lens) s (qOf n lens) (full n (eOf n lens addrs) lanes a i)
+  pub rest : (i : ℕ) → i < lanes → (u : ℕ) → n + 3 * eOf n lens addrs ≤ u → column lanes a′ i u ≡ column lanes a i u
+
+module _ (n : ℕ) (lens addrs : List ℕ) (A : Accepted n lens addrs) (index : List ℕ) (is : index ≡ edgeLists n lens addrs) where
+  few-edges : eOf n lens addrs ≤ 6000000
+  unfolding eOf
+  few-edges = omega (arith, addrs-le n lens addrs A, p-le n lens addrs A)
+
+  pub all-layers : {lanes s : ℕ} {a : List ℤ} {starts : List ℕ} {flags busy : List Bool} → 0 < lanes → lanes ≤ 64 → (n + 3 * eOf n lens addrs) * lanes ≤ length a → 0 < s → s ≤ 4294967295
+      → Worked n lens addrs starts flags busy → AllLayers (kOf lens) n (pOf n lens) lanes (qOf n lens) s index a addrs starts flags busy
+  all-layers {lanes} {s} {a} {starts} {flags} {busy} some few long step small w =
+      record {
+        layer =
+            λ l h. record {
+              memory =
+                  record {
+                    lists = lists-in n lens addrs A index is;
+                    long = subst (λ (e : ℕ). (n + 3 * e) * lanes ≤ length a) (sym (edges-are n lens addrs A index is)) long;
+                    some-lanes = some;
+                    few-lanes = few;
+                  };
+              whole = p-is n lens addrs A;
+              layer = h;
+              few-edges = omega (arith, edges-are n lens addrs A index is, few-edges);
+              few-checks = p-le n lens addrs A;
+              step = step;
+              small-step = small;
+            };
+        shares = λ l h. shares n lens addrs A index is w l h;
+        few-layers = q-le n lens addrs A;
+        bits = n-is n lens addrs A;
+      }
+
+  pub layered-law : {lanes s : ℕ} {o : ℤ} {a a′ : List ℤ} → LayersMade n (pOf n lens) lanes o index (qOf n lens) s a (qOf n lens) a′ → Layered n lens addrs lanes o s a a′
+  layered-law {lanes} {s} {o} {a} {a′} v = record { words = λ i h. ap (λ (f : Full). f .word) (made i h) ∙ layers-word o (codeOf n lens addrs) (qOf n lens) s (qOf n lens) (full n (eOf n lens addrs) lanes a i); fulls = made; rest = behind }
+    where
+      made : (i : ℕ) → i < lanes → full n (eOf n lens addrs) lanes a′ i ≡ layersFull o (codeOf n lens addrs) (qOf n lens) s (qOf n lens) (full n (eOf n lens addrs) lanes a i)
+      made i h =
+          subst (λ (c : Code). full n (eOf n lens addrs) lanes a′ i ≡ layersFull o c (qOf n lens) s (qOf n lens) (full n (eOf n lens addrs) lanes a i)) (code-in n lens addrs index is)
+          (subst (λ (e : ℕ). full n e lanes a′ i ≡ layersFull o (codeIn (pOf n lens) index) (qOf n lens) s (qOf n lens) (full n e lanes a i)) (edges-are n lens addrs A index is) (v .fulls i h))
+
+      behind : (i : ℕ) → i < lanes → (u : ℕ) → n + 3 * eOf n lens addrs ≤ u → column lanes a′ i u ≡ column lanes a i u
+      behind i h u k = v .rest i h u (omega (arith, edges-are n lens addrs A index is))
