@@ -19,6 +19,39 @@ use Rattle.fixed_lanes.specs.Place.{Placed}
 abbrev pub on : List Bool → ℕ → Bool
 on fresh i = getD fresh i false
 
+-- whether one of the first k lanes is fresh
+unfoldable pub someFresh : List Bool → ℕ → Bool
+someFresh fresh zero = false
+someFresh fresh (suc k) = cond (on fresh k) true (someFresh fresh k)
+
+pub none-start : (fresh : List Bool) → someFresh fresh 0 ≡ false
+unfolding someFresh
+none-start fresh = refl
+
+pub none-again : (fresh : List Bool) (k : ℕ) → on fresh k ≡ false → someFresh fresh k ≡ false → someFresh fresh (k + 1) ≡ false
+unfolding someFresh
+none-again fresh k e v = ap (someFresh fresh) (add-one k) ∙ ap (λ (b : Bool). cond b true (someFresh fresh k)) e ∙ v
+
+pub some-at : (fresh : List Bool) (i k : ℕ) → i < k → on fresh i ≡ true → someFresh fresh k ≡ true
+unfolding someFresh
+some-at fresh i zero h e = absurd (omega (arith, h))
+some-at fresh i (suc k) h e = go (ℕ-discrete i k) (some-at fresh i k)
+  where
+    same : (b : Bool) → cond b true true ≡ true
+    same true = refl
+    same false = refl
+
+    go : Dec (i ≡ k) → (i < k → on fresh i ≡ true → someFresh fresh k ≡ true) → cond (on fresh k) true (someFresh fresh k) ≡ true
+    go (yes z) ih = ap (λ (b : Bool). cond b true (someFresh fresh k)) (ap (on fresh) (sym z) ∙ e)
+    go (no z) ih = ap (λ (b : Bool). cond (on fresh k) true b) (ih (omega arith) e) ∙ same (on fresh k)
+
+pub none-at : (fresh : List Bool) (i k : ℕ) → i < k → someFresh fresh k ≡ false → on fresh i ≡ false
+none-at fresh i k h e = go (on fresh i) refl
+  where
+    go : (b : Bool) → on fresh i ≡ b → b ≡ false
+    go true f = sym (some-at fresh i k h f) ∙ e
+    go false f = refl
+
 -- ---- row u, of the first k lanes
 pub record RowCleared (lanes u : ℕ) (fresh : List Bool) (a : List ℤ) (k : ℕ) (a′ : List ℤ) : Type 0 where
   pub done : (i : ℕ) → i < k → i < lanes → column lanes a′ i ≡ cond (on fresh i) (put (column lanes a i) u (pos 0)) (column lanes a i)
@@ -89,6 +122,11 @@ clear-start n lanes fresh a = record { columns = λ i q. same (on fresh i) (colu
     same : (b : Bool) (f : ℕ → ℤ) → f ≡ cond b f f
     same true f = refl
     same false f = refl
+
+-- no lane is fresh
+pub clear-none : (n lanes : ℕ) (fresh : List Bool) (a : List ℤ) (e : ℕ) → someFresh fresh lanes ≡ false → Cleared n lanes fresh a e a
+clear-none n lanes fresh a e none =
+    record { columns = λ i q. sym (ap (λ (b : Bool). cond b (blank n e (column lanes a i)) (column lanes a i)) (none-at fresh i lanes q none)) }
 
 pub clear-again : {n lanes : ℕ} {fresh : List Bool} {a a′ a″ : List ℤ} {k : ℕ} → Cleared n lanes fresh a k a′ → RowCleared lanes (n + k) fresh a′ lanes a″ → Cleared n lanes fresh a (k + 1) a″
 unfolding blank

@@ -9,7 +9,7 @@ ghost use Rattle.simd.specs.Words.{within};
 ghost use Rattle.fixed_lanes.specs.Place.{Placed};
 ghost use Rattle.fixed_lanes.specs.Load.{Loaded};
 ghost use Rattle.fixed_lanes.specs.Read.{decisions};
-ghost use Rattle.fixed_lanes.specs.Clear.{RowCleared, Cleared};
+ghost use Rattle.fixed_lanes.specs.Clear.{RowCleared, Cleared, someFresh};
 
 // Row u of one lane.
 pub fn value(work: &[i8], u: usize, lanes: usize, lane: usize) -> i8
@@ -73,11 +73,29 @@ fn clear_row(work: &mut [i8], u: usize, lanes: usize, fresh: &[bool; 64])
     }
 }
 
-// The e message rows behind row n to 0 in the fresh lanes, in one pass.
+// Whether one of the lanes is fresh.
+fn some_fresh(fresh: &[bool; 64], lanes: usize) -> bool
+    requires { ⌜ lanes ≤ 64 ⌝ }
+    ensures { λ r. ⌜ r ≡ someFresh (now (fresh .entry)) lanes ⌝ }
+{
+    let mut i: usize = 0;
+    while i < lanes {
+        if fresh[i] {
+            return true;
+        }
+        i += 1;
+    }
+    false
+}
+
+// The e message rows behind row n to 0 in the fresh lanes, in one pass, and in none where no lane is fresh.
 pub fn clear_messages(work: &mut [i8], n: usize, e: usize, lanes: usize, fresh: &[bool; 64])
     requires { ⌜ ((n + e) * lanes ≤ length (now work)) × ((0 < lanes) × (lanes ≤ 64)) ⌝ }
     ensures { λ _. ⌜ Cleared n lanes (now (fresh .entry)) (now (work .entry)) e (now (work .exit)) ⌝ }
 {
+    if !some_fresh(fresh, lanes) {
+        return;
+    }
     let mut k: usize = 0;
     while k < e {
         clear_row(work, n + k, lanes, fresh);
