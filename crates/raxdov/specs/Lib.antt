@@ -1,0 +1,2 @@
+-- The numbers that the archive returns and writes.
+pub mod Numbers
