@@ -3,7 +3,6 @@ use mathlib.Core.Path.{sym, ap, _∙_}
 use borrow.Author.Needs.{needs}
 use Rattle.ldpc.specs.declared.Counted.{Counted}
 use Rattle.ldpc.specs.Answers.{countedNumber}
-use Rattle.ldpc.proofs.syndrome_weight.Reads as syndrome-weight-reads
 use Rattle.raxdov.specs.Numbers.{countOf}
 use Rattle.raxdov.proofs.raxdov_ldpc_syndrome_weight.Statement.{statement}
 use Rattle.raxdov.proofs.raxdov_ldpc_syndrome_weight.Tie as tie
