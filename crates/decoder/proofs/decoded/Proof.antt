@@ -1,0 +1,130 @@
+-- `decoder::decoded` meets its contract: the order is filled, the run made over zeros, and the tally counted from its records.
+-- Assumes nothing.
+use mathlib.Core.Path.{_≡_, refl, sym, ap, _∙_, subst}
+use mathlib.Core.List.{List}
+use Prim.Native.Nat.{ℕ, _≤_}
+use native.Mathlib.Omega.{arith}
+use borrow.Author.Needs.{needs}
+use lib.ListN.{length, take, length-replicate}
+use lib.Seq.{length-take-le}
+use Rattle.laws.specs.Signed.{plain}
+use Rattle.schedule.specs.Status.{count}
+use Rattle.schedule.specs.Theorem.{input-order, input-once}
+use Rattle.decoder_assign.specs.Assign.{Ordered}
+use Rattle.decoder.specs.Accept.{order-so, order-is, zero-blank, zero-room, ends-so, iterations-few, next-le, decoded-to}
+use Rattle.decoder.proofs.decoded.Statement.{statement}
+use Rattle.decoder.proofs.decoded.Tie as tie
+
+slice-aggregate-number : tie.Need-slice-aggregate-number
+slice-aggregate-number c = search needs
+
+number-requires : tie.Need-number-requires
+number-requires c κs = search needs
+
+array-share-prefix-order : tie.Need-array-share-prefix-order
+array-share-prefix-order c = search needs
+
+slice-aggregate-complete : tie.Need-slice-aggregate-complete
+slice-aggregate-complete c =
+    let h : c .before .before .before .before .before .before .before .before .args .plan .words ≤ length (c .before .before .number .last .0) = omega (arith, c .before .before .before .before .before .before .before .before .pre .0 .0 .few-words, c .before .before .number .kept .0, length-replicate {A = ℕ} 4096 0) in
+    sym (length-take-le _ (c .before .before .number .last .0) h)
+
+slice-aggregate-complete-2 : tie.Need-slice-aggregate-complete-2
+slice-aggregate-complete-2 c = search needs
+
+slice-aggregate-complete-3 : tie.Need-slice-aggregate-complete-3
+slice-aggregate-complete-3 c = search needs
+
+slice-aggregate-complete-4 : tie.Need-slice-aggregate-complete-4
+slice-aggregate-complete-4 c = search needs
+
+slice-aggregate-complete-5 : tie.Need-slice-aggregate-complete-5
+slice-aggregate-complete-5 c = search needs
+
+slice-aggregate-complete-6 : tie.Need-slice-aggregate-complete-6
+slice-aggregate-complete-6 c = search needs
+
+complete-requires : tie.Need-complete-requires
+complete-requires c κs =
+    let G = c .before .before .before .before .before .before .before .before .before .before .before .before .before .before .before .pre .0 .0 in
+    let o : take (c .before .before .before .before .before .before .before .before .before .before .before .before .before .before .before .args .plan .words) (c .before .before .before .before .before .before .before .before .before .number .last .0) ≡ input-order (c .before .before .before .before .before .before .before .before .before .before .before .before .before .before .before .args .plan .words) = order-is (c .before .before .before .before .before .before .before .before .before .before .before .before .before .before .before .args .plan .words) (c .before .before .before .before .before .before .before .before .before .number .last .0) (G .few-words) (c .before .before .before .before .before .before .before .before .before .number .ensures ∙ ap input-order (length-replicate {A = ℕ} 4096 0)) in (
+      (G, subst (λ (l : List ℕ). Ordered (c .before .before .before .before .before .before .before .before .before .before .before .before .before .before .before .args .plan) l) (sym o) (order-so (c .before .before .before .before .before .before .before .before .before .before .before .before .before .before .before .args .plan)), c .before .before .before .before .before .before .before .before .before .before .before .before .before .before .before .pre .0 .2),
+      (
+        c .before .before .before .before .before .before .before .before .before .before .before .before .before .before .before .pre .1,
+        (
+          zero-room _ _ 4096 _ refl (c .before .before .before .before .before .before .before .before .before .before .before .before .before .before .before .pre .0 .1),
+          (
+            zero-blank (c .before .before .before .before .before .before .before .before .before .before .before .before .before .before .before .args .plan) 4096 (c .before .before .before .before .before .before .before .before .before .before .before .before .before .before .before .args .out .now),
+            λ w. subst (λ (l : List ℕ). count w l ≤ 1) (sym o) (input-once (c .before .before .before .before .before .before .before .before .before .before .before .before .before .before .before .args .plan .words) w),
+          ),
+        ),
+      ),
+    )
+
+slice-aggregate-tally : tie.Need-slice-aggregate-tally
+slice-aggregate-tally c = search needs
+
+slice-aggregate-tally-2 : tie.Need-slice-aggregate-tally-2
+slice-aggregate-tally-2 c = search needs
+
+slice-aggregate-tally-3 : tie.Need-slice-aggregate-tally-3
+slice-aggregate-tally-3 c = search needs
+
+tally-requires : tie.Need-tally-requires
+tally-requires c κs =
+    let G = c .before .before .before .before .before .before .before .before .before .before .before .before .before .before .before .before .before .before .before .before .before .before .before .before .before .before .before .pre .0 .0 in
+    let o : take (c .before .before .before .before .before .before .before .before .before .before .before .before .before .before .before .before .before .before .before .before .before .before .before .before .before .before .before .args .plan .words) (c .before .before .before .before .before .before .before .before .before .before .before .before .before .before .before .before .before .before .before .before .before .number .last .0) ≡ input-order (c .before .before .before .before .before .before .before .before .before .before .before .before .before .before .before .before .before .before .before .before .before .before .before .before .before .before .before .args .plan .words) = order-is (c .before .before .before .before .before .before .before .before .before .before .before .before .before .before .before .before .before .before .before .before .before .before .before .before .before .before .before .args .plan .words) (c .before .before .before .before .before .before .before .before .before .before .before .before .before .before .before .before .before .before .before .before .before .number .last .0) (G .few-words) (c .before .before .before .before .before .before .before .before .before .before .before .before .before .before .before .before .before .before .before .before .before .number .ensures ∙ ap input-order (length-replicate {A = ℕ} 4096 0)) in
+    let z = length-replicate {A = ℕ} 4096 0 in (
+      (G .few-words, c .before .before .before .before .before .before .before .before .before .before .before .complete .ensures .same .state ∙ z, c .before .before .before .before .before .before .before .before .before .before .before .complete .ensures .same .iterations ∙ z, c .before .before .before .before .before .before .before .before .before .before .before .complete .ensures .same .bch ∙ z),
+      iterations-few _ _ _ _ _ _ _ _ _ _ _ _ _ (ends-so _ _ _ _ _ _ _ _ _ _ _ _ _ _ _ o refl (c .before .before .before .before .before .before .before .before .before .before .before .complete .ensures)) (G .some-lanes) (G .limit-fits),
+    )
+
+cast-loaded : tie.Need-cast-loaded
+cast-loaded c =
+    let G = c .before .before .before .before .before .before .before .before .before .before .before .before .before .before .before .before .before .before .before .before .before .before .before .before .before .before .before .before .before .pre .0 .0 in
+    let o : take (c .before .before .before .before .before .before .before .before .before .before .before .before .before .before .before .before .before .before .before .before .before .before .before .before .before .before .before .before .before .args .plan .words) (c .before .before .before .before .before .before .before .before .before .before .before .before .before .before .before .before .before .before .before .before .before .before .before .number .last .0) ≡ input-order (c .before .before .before .before .before .before .before .before .before .before .before .before .before .before .before .before .before .before .before .before .before .before .before .before .before .before .before .before .before .args .plan .words) = order-is (c .before .before .before .before .before .before .before .before .before .before .before .before .before .before .before .before .before .before .before .before .before .before .before .before .before .before .before .before .before .args .plan .words) (c .before .before .before .before .before .before .before .before .before .before .before .before .before .before .before .before .before .before .before .before .before .before .before .number .last .0) (G .few-words) (c .before .before .before .before .before .before .before .before .before .before .before .before .before .before .before .before .before .before .before .before .before .before .before .number .ensures ∙ ap input-order (length-replicate {A = ℕ} 4096 0)) in
+    let n : c .before .before .before .before .before .before .before .before .before .before .before .before .before .complete .result .next ≤ c .before .before .before .before .before .before .before .before .before .before .before .before .before .before .before .before .before .before .before .before .before .before .before .before .before .before .before .before .before .args .plan .words = next-le _ _ _ _ _ _ _ _ _ _ _ _ _ (ends-so _ _ _ _ _ _ _ _ _ _ _ _ _ _ _ o refl (c .before .before .before .before .before .before .before .before .before .before .before .before .before .complete .ensures)) (G .some-lanes) in
+    omega (arith, n, G .few-words)
+
+same-length : tie.Need-same-length
+same-length c = search needs
+
+same-length-2 : tie.Need-same-length-2
+same-length-2 c = search needs
+
+returns : tie.Need-returns
+returns c =
+    let G = c .before .before .before .before .before .before .before .before .before .before .before .before .before .before .before .before .before .before .before .before .before .before .before .before .before .before .before .before .before .pre .0 .0 in
+    let o : take (c .before .before .before .before .before .before .before .before .before .before .before .before .before .before .before .before .before .before .before .before .before .before .before .before .before .before .before .before .before .args .plan .words) (c .before .before .before .before .before .before .before .before .before .before .before .before .before .before .before .before .before .before .before .before .before .before .before .number .last .0) ≡ input-order (c .before .before .before .before .before .before .before .before .before .before .before .before .before .before .before .before .before .before .before .before .before .before .before .before .before .before .before .before .before .args .plan .words) = order-is (c .before .before .before .before .before .before .before .before .before .before .before .before .before .before .before .before .before .before .before .before .before .before .before .before .before .before .before .before .before .args .plan .words) (c .before .before .before .before .before .before .before .before .before .before .before .before .before .before .before .before .before .before .before .before .before .before .before .number .last .0) (G .few-words) (c .before .before .before .before .before .before .before .before .before .before .before .before .before .before .before .before .before .before .before .before .before .before .before .number .ensures ∙ ap input-order (length-replicate {A = ℕ} 4096 0)) in
+    decoded-to (plain (c .before .before .before .before .before .before .before .before .before .before .before .before .before .before .before .before .before .before .before .before .before .before .before .before .before .before .before .before .before .args .offset) (c .before .before .before .before .before .before .before .before .before .before .before .before .before .before .before .before .before .before .before .before .before .before .before .before .before .before .before .before .before .fits .offset))
+    (record {
+      number = refl;
+      words-are = refl;
+      runs = ends-so _ _ _ _ _ _ _ _ _ _ _ _ _ _ _ o refl (c .before .before .before .before .before .before .before .before .before .before .before .before .before .complete .ensures);
+      given-are = c .before .tally .ensures .0;
+      kept-are = c .before .tally .ensures .1;
+      lost-are = c .before .tally .ensures .2;
+    })
+
+pub decoded-spec : {M : Type 1} → statement M
+decoded-spec =
+    tie.close
+    (tie.spec
+    slice-aggregate-number
+    number-requires
+    array-share-prefix-order
+    slice-aggregate-complete
+    slice-aggregate-complete-2
+    slice-aggregate-complete-3
+    slice-aggregate-complete-4
+    slice-aggregate-complete-5
+    slice-aggregate-complete-6
+    complete-requires
+    slice-aggregate-tally
+    slice-aggregate-tally-2
+    slice-aggregate-tally-3
+    tally-requires
+    cast-loaded
+    same-length
+    same-length-2
+    returns)

@@ -1,0 +1,6 @@
+-- The run's contract: demand 3 whole.
+pub mod Settings
+pub mod Demand
+pub mod Runs
+pub mod Accept
+pub mod Core

@@ -1,0 +1,69 @@
+-- One iteration of a word, by the schedule: sequential, or layered with its step. q = P / 374.
+use mathlib.Core.Path.{_≡_, refl, sym, ap, _∙_}
+use mathlib.Core.Bool.{Bool, true, false}
+use mathlib.Core.List.{List}
+use Prim.Native.Nat.{ℕ, _+_, _*_, _/_, _≤_, _<_}
+use native.Mathlib.Omega.{arith}
+use lib.IntN.{ℤ}
+use lib.ListN.{length}
+use Rattle.lane_math.specs.Check.{Word}
+use Rattle.lane_math.specs.Iteration.{Code, sequential, layered}
+use Rattle.simd.specs.Words.{word}
+use Rattle.ldpc_shape.specs.Shape.{pOf, qOf, eOf, refusalOf}
+use Rattle.ldpc_shape.specs.Accepted.{Accepted, accepted}
+use Rattle.ldpc_edges.specs.Code.{edgeLists}
+use Rattle.fixed_code.specs.Lists.{edgesIn}
+use Rattle.fixed_code.specs.Code.{codeOf, code-in, edges-are}
+use Rattle.fixed_layered.specs.Layered.{Layered}
+use Rattle.decoder_words.specs.declared.Plan.{Plan}
+use Rattle.decoder_lanes.specs.Lane.{Working, laneWord, laneCode}
+
+unfoldable pub iterationOf : Bool → ℕ → ℤ → Code → ℕ → Word → Word
+iterationOf false step offset code p x = sequential offset code p x
+iterationOf true step offset code p x = layered offset code (p / 374) step x
+
+-- every lane's word has had an iteration
+abbrev pub Iterates : Bool → ℕ → ℤ → Plan → List ℕ → List ℤ → List ℤ → Type 0
+Iterates layers step offset plan index work work′ =
+    (l : ℕ) → l < plan .lanes → laneWord plan index work′ l ≡ iterationOf layers step offset (laneCode plan index) (plan .p) (laneWord plan index work l)
+
+-- the slice holds an accepted code's lists
+pub record Coded (plan : Plan) (lens addrs index : List ℕ) : Type 0 where
+  pub code : refusalOf (plan .n) lens addrs ≡ 0
+  pub lists : index ≡ edgeLists (plan .n) lens addrs
+  pub checks : plan .p ≡ pOf (plan .n) lens
+
+-- a layered schedule has a step
+abbrev pub Stepped : Bool → ℕ → Type 0
+Stepped layers step = layers ≡ true → 0 < step
+
+module _ (layers : Bool) (step : ℕ) (offset offset′ : ℤ) (code : Code) (p : ℕ) (x y : Word) (same : offset′ ≡ offset) where
+  pub by-sequence : layers ≡ false → y ≡ sequential offset′ code p x → y ≡ iterationOf layers step offset code p x
+  unfolding iterationOf
+  by-sequence is e = e ∙ ap (λ o. sequential o code p x) same ∙ sym (ap (λ b. iterationOf b step offset code p x) is)
+
+  pub by-layers : layers ≡ true → y ≡ layered offset′ code (p / 374) step x → y ≡ iterationOf layers step offset code p x
+  unfolding iterationOf
+  by-layers is e = e ∙ ap (λ o. layered o code (p / 374) step x) same ∙ sym (ap (λ b. iterationOf b step offset code p x) is)
+
+-- ---- the layered column law over the lanes' words
+module _ (plan : Plan) (lens addrs index : List ℕ) (C : Coded plan lens addrs index) where
+  edges-same : edgesIn (plan .p) index ≡ eOf (plan .n) lens addrs
+  edges-same = ap (λ p. edgesIn p index) (C .checks) ∙ edges-are (plan .n) lens addrs (accepted (plan .n) lens addrs (C .code)) index (C .lists)
+
+  code-same : laneCode plan index ≡ codeOf (plan .n) lens addrs
+  code-same = (λ i. laneCode (record { n = plan .n; p = C .checks i; lanes = plan .lanes; limit = plan .limit; first = plan .first; size = plan .size; words = plan .words }) index)
+      ∙ code-in (plan .n) lens addrs index (C .lists)
+
+  layers-same : plan .p / 374 ≡ qOf (plan .n) lens
+  unfolding qOf
+  layers-same = ap (λ p. p / 374) (C .checks)
+
+  pub room-for : (work : List ℤ) → Working plan index work → (plan .n + 3 * eOf (plan .n) lens addrs) * plan .lanes ≤ length work
+  room-for work g = omega (arith, g .memory .long, ap (λ e. (plan .n + 3 * e) * plan .lanes) edges-same)
+
+  pub layered-words : (o : ℤ) (s : ℕ) (a a′ : List ℤ) → Layered (plan .n) lens addrs (plan .lanes) o s a a′ → (l : ℕ) → l < plan .lanes
+      → laneWord plan index a′ l ≡ layered o (laneCode plan index) (plan .p / 374) s (laneWord plan index a l)
+  layered-words o s a a′ v l h =
+      ap (λ e. word (plan .n) e (plan .lanes) a′ l) edges-same ∙ v .words l h
+      ∙ sym (λ i. layered o (code-same i) (layers-same i) s (word (plan .n) (edges-same i) (plan .lanes) a l))

@@ -1,0 +1,2 @@
+-- One iteration, by the schedule.
+pub mod Iterate

@@ -1,0 +1,87 @@
+-- One lane's word read out of the memory: its bits and what was counted.
+use mathlib.Core.Path.{_≡_, refl, sym, ap, _∙_}
+use mathlib.Core.List.{List, [], _∷_, _++_, append-nil}
+use Prim.Native.Nat.{ℕ, zero, suc, _+_, _-_, _*_, _≤_, _<_}
+use native.Mathlib.Nat.{mul-le-mul, mul-le-mul-right}
+use native.Mathlib.Omega.{arith}
+use lib.IntN.{ℤ}
+use lib.ListN.{length, take, drop, length-drop, drop-of-length-le}
+use lib.Seq.{length-take-le}
+use Rattle.lane_math.specs.Check.{Word}
+use Rattle.lane_math.specs.Iteration.{Code, hard, unsatisfiedCount}
+use Rattle.lane_memory.specs.Column.{column}
+use Rattle.simd.specs.Words.{within, wordOf, word}
+use Rattle.fixed_code.specs.Lists.{edgesIn, codeIn, Memory}
+use Rattle.fixed_lanes.specs.Read.{decisions}
+use Rattle.fixed_syndrome.specs.Unmet as syndrome
+use Rattle.fixed_syndrome.specs.declared.Unmet.{Unmet}
+use Rattle.outcome.specs.Outcome.{ownWord, bitsFrom, bitsOf, unmetOf, Names}
+use Rattle.outcome.specs.Scan.{Counted}
+use Rattle.decoder_words.specs.Part.{word-ends}
+use Rattle.decoder_words.specs.declared.Plan.{Plan}
+
+-- what a run over lanes may count on
+pub record Working (plan : Plan) (index : List ℕ) (work : List ℤ) : Type 0 where
+  pub memory : Memory (plan .n) (plan .p) (plan .lanes) index work
+  pub n-le : plan .n ≤ 44880
+  pub p-le : plan .p ≤ 44880
+  pub few-words : plan .words ≤ 4096
+  pub limit-fits : plan .limit ≤ 65535
+  pub part-long : 193 ≤ plan .size
+  pub part-short : plan .size ≤ 65535
+  pub part-within : plan .first + plan .size ≤ plan .n
+
+-- the word of a lane, and the code
+abbrev pub laneWord : Plan → List ℕ → List ℤ → ℕ → Word
+laneWord plan index work l = word (plan .n) (edgesIn (plan .p) index) (plan .lanes) work l
+
+abbrev pub laneCode : Plan → List ℕ → Code
+laneCode plan index = codeIn (plan .p) index
+
+decisions-are : (x : Word) (u d : ℕ) → decisions (x .L) u d ≡ bitsFrom x u d
+unfolding decisions bitsFrom
+decisions-are x u zero = refl
+decisions-are x u (suc d) = ap (λ l. hard (x .L u) ∷ l) (decisions-are x (suc u) d)
+
+pub lane-bits : (n E lanes l : ℕ) (work : List ℤ) (part part′ : List ℕ) → part′ ≡ decisions (within n (column lanes work l)) 0 n ++ drop n part → length part ≡ n
+    → part′ ≡ bitsOf n (word n E lanes work l)
+unfolding wordOf bitsOf
+lane-bits n E lanes l work part part′ e s =
+    let h : length part ≤ n = omega arith in
+    e ∙ ap (λ r. decisions (within n (column lanes work l)) 0 n ++ r) (drop-of-length-le part h) ∙ append-nil _
+    ∙ decisions-are (wordOf n E (column lanes work l)) 0 n
+
+pub lane-counted : (code : Code) (p : ℕ) (x : Word) (u : Unmet) → syndrome.Counted code p (x .L) u → Counted code p x (u .count) (u .check)
+unfolding unmetOf
+lane-counted code p x u k =
+    record {
+      all = k .count-is;
+      named =
+          record {
+            some = λ h. k .one (λ z. omega (arith, h, z, k .count-is));
+            none = λ z. k .none (k .count-is ∙ z);
+          };
+    }
+
+module _ (plan : Plan) (index : List ℕ) (work : List ℤ) (G : Working plan index work) where
+  pub all-le : plan .words * plan .n ≤ 183828480
+  all-le = omega (arith, mul-le-mul {n₁ = plan .words} {m₁ = plan .n} {n₂ = 4096} {m₂ = 44880} (G .few-words) (G .n-le))
+
+  -- the values' rows lie in the memory
+  pub rows-fit : plan .n * plan .lanes ≤ length work
+  rows-fit = omega (arith, G .memory .long, mul-le-mul-right {m = plan .n} {n = plan .n + 3 * edgesIn (plan .p) index} (plan .lanes) (omega arith))
+
+  -- and so do the messages'
+  pub messages-fit : (plan .n + edgesIn (plan .p) index) * plan .lanes ≤ length work
+  messages-fit = omega (arith, G .memory .long, mul-le-mul-right {m = plan .n + edgesIn (plan .p) index} {n = plan .n + 3 * edgesIn (plan .p) index} (plan .lanes) (omega arith))
+
+-- word w's part of a list as lent
+pub middle : {A : Type 0} (n words w : ℕ) (out : List A) → w < words → words * n ≤ length out → length (take (w * n + n - w * n) (drop (w * n) out)) ≡ n
+middle n words w out h fits =
+    let g = word-ends n w words h in
+    let e : w * n + n - w * n ≡ n = omega arith in
+    ap (λ k. length (take k (drop (w * n) out))) e ∙ length-take-le n (drop (w * n) out) (omega (arith, length-drop (w * n) out))
+
+pub own : (n w : ℕ) (soft : List ℤ) → take (w * n + n - w * n) (drop (w * n) soft) ≡ ownWord n w soft
+unfolding ownWord
+own n w soft = let e : w * n + n - w * n ≡ n = omega arith in ap (λ k. take k (drop (w * n) soft)) e

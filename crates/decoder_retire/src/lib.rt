@@ -1,0 +1,125 @@
+// After an iteration: one iteration more for each held word, and a word that is over leaves its lane. After the last round: the words
+// still held are written.
+ghost use mathlib.Core.Path.{_≡_};
+ghost use mathlib.Core.Bool.{_||_, false};
+ghost use lib.Dec.{eqb};
+ghost use lib.ListN.{getD};
+ghost use Rattle.schedule.specs.Lanes.{Sized};
+ghost use Rattle.decoder_words.specs.Book.{book, Room};
+ghost use Rattle.decoder_lanes.specs.Lane.{Working, laneWord, laneCode};
+ghost use Rattle.decoder_retire.specs.Retire.{Readied, Judged, Retires};
+ghost use Rattle.decoder_retire.specs.Close.{Closes};
+use decoder_assign::Lanes;
+use decoder_words::Plan;
+
+// Every check is met, or the limit is reached.
+fn over(met: bool, i: u32, limit: u32) -> bool
+    ensures { λ r. ⌜ r ≡ (met || eqb i limit) ⌝ }
+{
+    if met {
+        return true;
+    }
+    i == limit
+}
+
+pub fn retire(
+    plan: Plan,
+    index: &[u32],
+    work: &[i8],
+    verdict: [bool; 64],
+    at: Lanes,
+    out: &mut [u8],
+    state: &mut [u32],
+    iterations: &mut [u32],
+    unsatisfied: &mut [u32],
+    check: &mut [u32],
+    bch: &mut [u32],
+) -> Lanes
+    requires { ⌜ Working plan (now index) (now work) ⌝ }
+    requires { ⌜ Room (plan .n) (plan .words) (book (now state) (now iterations) (now unsatisfied) (now check) (now bch) (now out)) ⌝ }
+    requires { ⌜ Sized (at .held) (at .iters) × Readied plan (at .held) (at .iters) ⌝ }
+    requires { ⌜ Judged (laneCode plan (now index)) plan (at .held) (laneWord plan (now index) (now work)) (λ l. getD verdict l false) ⌝ }
+    ensures { λ r. ⌜ Retires (laneCode plan (now (index .entry))) plan (laneWord plan (now (index .entry)) (now (work .entry))) (at .held) (at .iters) (book (now (state .entry)) (now (iterations .entry)) (now (unsatisfied .entry)) (now (check .entry)) (now (bch .entry)) (now (out .entry))) (r .held) (r .iters) (book (now (state .exit)) (now (iterations .exit)) (now (unsatisfied .exit)) (now (check .exit)) (now (bch .exit)) (now (out .exit))) ⌝ }
+    ensures { λ r. ⌜ r .next ≡ at .next ⌝ }
+{
+    let mut held = at.held;
+    let mut iters = at.iters;
+    let lanes = plan.lanes;
+    let limit = plan.limit;
+    let mut l: usize = 0;
+    while l < lanes {
+        let h = held[l];
+        if h != 0 {
+            let i = iters[l] + 1;
+            iters[l] = i;
+            if over(verdict[l], i, limit) {
+                let w = (h - 1) as usize;
+                decoder_lanes::leave(
+                    plan,
+                    w,
+                    l,
+                    i,
+                    index,
+                    work,
+                    out,
+                    state,
+                    iterations,
+                    unsatisfied,
+                    check,
+                    bch,
+                );
+                held[l] = 0;
+            }
+        }
+        l += 1;
+    }
+    Lanes {
+        held: held,
+        iters: iters,
+        next: at.next,
+        busy: at.busy,
+    }
+}
+
+pub fn close(
+    plan: Plan,
+    index: &[u32],
+    work: &[i8],
+    held: [u32; 64],
+    iters: [u32; 64],
+    out: &mut [u8],
+    state: &mut [u32],
+    iterations: &mut [u32],
+    unsatisfied: &mut [u32],
+    check: &mut [u32],
+    bch: &mut [u32],
+)
+    requires { ⌜ Working plan (now index) (now work) ⌝ }
+    requires { ⌜ Room (plan .n) (plan .words) (book (now state) (now iterations) (now unsatisfied) (now check) (now bch) (now out)) ⌝ }
+    requires { ⌜ Sized held iters × Readied plan held iters ⌝ }
+    ensures { λ _. ⌜ Closes (laneCode plan (now (index .entry))) plan held iters (laneWord plan (now (index .entry)) (now (work .entry))) (book (now (state .entry)) (now (iterations .entry)) (now (unsatisfied .entry)) (now (check .entry)) (now (bch .entry)) (now (out .entry))) (plan .lanes) (book (now (state .exit)) (now (iterations .exit)) (now (unsatisfied .exit)) (now (check .exit)) (now (bch .exit)) (now (out .exit))) ⌝ }
+{
+    let lanes = plan.lanes;
+    let mut l: usize = 0;
+    while l < lanes {
+        let h = held[l];
+        if h != 0 {
+            let w = (h - 1) as usize;
+            decoder_lanes::hold(
+                plan,
+                w,
+                l,
+                iters[l],
+                index,
+                work,
+                out,
+                state,
+                iterations,
+                unsatisfied,
+                check,
+                bch,
+            );
+        }
+        l += 1;
+    }
+}

@@ -1,0 +1,58 @@
+-- `decoder_words::at_once` meets its contract: the part of the soft values that is lent is the word's own.
+-- Assumes nothing.
+use mathlib.Core.Path.{sym, ap₂, _∙_}
+use mathlib.Core.Bool.{_||_}
+use mathlib.Core.List.{List}
+use Prim.Native.Nat.{ℕ}
+use native.Mathlib.Omega.{arith}
+use borrow.Author.Needs.{needs}
+use lib.Dec.{eqb}
+use lib.IntN.{ℤ}
+use Rattle.outcome.specs.Code.{codeOf}
+use Rattle.outcome.specs.Outcome.{begin, metOf}
+use Rattle.decoder_words.specs.Given.{all-le, own-within, own-soft, own-lent}
+use Rattle.decoder_words.proofs.at_once.Statement.{statement}
+use Rattle.decoder_words.proofs.at_once.Tie as tie
+
+cast-n : tie.Need-cast-n
+cast-n c = search needs
+
+mul-a : tie.Need-mul-a
+mul-a c = omega (arith, own-within _ _ _ _ _ (c .before .before .before .before .pre .0) (c .before .before .before .before .args .w) (c .before .before .before .before .pre .1), all-le _ _ _ _ _ (c .before .before .before .before .pre .0))
+
+add-b : tie.Need-add-b
+add-b c = omega (arith, own-within _ _ _ _ _ (c .before .before .before .before .pre .0) (c .before .before .before .before .args .w) (c .before .before .before .before .pre .1), all-le _ _ _ _ _ (c .before .before .before .before .pre .0))
+
+sub-soft-met : tie.Need-sub-soft-met
+sub-soft-met c = search needs
+
+part-soft-met-start : tie.Need-part-soft-met-start
+part-soft-met-start c = search needs
+
+part-soft-met-end : tie.Need-part-soft-met-end
+part-soft-met-end c = omega (arith, own-within _ _ _ _ _ (c .before .before .before .before .pre .0) (c .before .before .before .before .args .w) (c .before .before .before .before .pre .1), c .before .before .before .before .pre .0 .soft-long)
+
+soft-met-requires : tie.Need-soft-met-requires
+soft-met-requires c κs = own-lent _ _ _ _ _ (c .before .before .before .before .before .pre .0) (c .before .before .before .before .before .args .w) (c .before .before .before .before .before .pre .1)
+
+returns : tie.Need-returns
+returns c = let e = ap₂ (λ (q : ℕ) (s : List ℤ). metOf (codeOf (c .before .before .before .before .before .before .before .args .plan .n) (c .before .before .before .before .before .before .before .args .lens .now) (c .before .before .before .before .before .before .before .args .addrs .now)) q (begin (c .before .before .before .before .before .before .before .args .plan .n) s)) (c .before .before .before .before .before .before .before .pre .0 .checks) (sym (own-soft _ _ _ _ _ (c .before .before .before .before .before .before .before .pre .0) (c .before .before .before .before .before .before .before .args .w) (c .before .before .before .before .before .before .before .pre .1))) ∙ sym (c .before .soft-met .ensures) ∙ c .if1 .taken in
+    sym (λ i. e i || eqb 0 (c .before .before .before .before .before .before .before .args .plan .limit))
+
+returns-2 : tie.Need-returns-2
+returns-2 c = let e = ap₂ (λ (q : ℕ) (s : List ℤ). metOf (codeOf (c .before .before .before .before .before .before .before .before .args .plan .n) (c .before .before .before .before .before .before .before .before .args .lens .now) (c .before .before .before .before .before .before .before .before .args .addrs .now)) q (begin (c .before .before .before .before .before .before .before .before .args .plan .n) s)) (c .before .before .before .before .before .before .before .before .pre .0 .checks) (sym (own-soft _ _ _ _ _ (c .before .before .before .before .before .before .before .before .pre .0) (c .before .before .before .before .before .before .before .before .args .w) (c .before .before .before .before .before .before .before .before .pre .1))) ∙ sym (c .before .before .soft-met .ensures) ∙ c .before .if1 .left in
+    sym (λ i. e i || eqb 0 (c .before .before .before .before .before .before .before .before .args .plan .limit))
+
+pub at-once-spec : {M : Type 1} → statement M
+at-once-spec =
+    tie.close
+    (tie.spec
+    cast-n
+    mul-a
+    add-b
+    sub-soft-met
+    part-soft-met-start
+    part-soft-met-end
+    soft-met-requires
+    returns
+    returns-2)
