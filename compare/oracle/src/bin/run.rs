@@ -7,8 +7,8 @@
 //! (n bits each, one behind the other, lowest bit of a byte first), the recipes (12 bytes each), and a map of P bits for each
 //! word: its unsatisfied checks. Bits behind the end of what is stored are 0.
 //!
-//! Word w is made by recipe w mod recipes: bytes base, a, b, c, d, e, two of 0, and a seed of four. The state starts at the
-//! seed plus w. For each place six numbers are drawn: the value is a, or -a where the base word has a 1, and noise of -b to b;
+//! Word w is made by recipe w mod recipes: two bytes for the bit at which its base word starts, bytes a, b, c, d, e and 0, and
+//! a seed of four. The state starts at the seed plus w. For each place six numbers are drawn: the value is a, or -a where the base word has a 1, and noise of -b to b;
 //! it is negated by chance of c in 256, any value by chance of d, one of -128, -1, 0, 1, 127 by chance of e; then clamped.
 //!
 //! The output is lent with (7i + 13) mod 251 at place i, work with 77 and index with 777,777,777.
@@ -206,7 +206,8 @@ impl Case {
         }
         r.extend(packed);
         for q in &self.recipes {
-            r.extend([q.base, q.a, q.b, q.c, q.d, q.e, 0, 0]);
+            r.extend((u16::from(q.base) * self.n as u16).to_le_bytes());
+            r.extend([q.a, q.b, q.c, q.d, q.e, 0]);
             r.extend(q.seed.to_le_bytes());
         }
         r.extend(map);
