@@ -397,7 +397,7 @@ impl Choice {
         let near = |q: &mut Self| 1 + q.below(6) as u8;
         match kind {
             0 => Recipe { a: self.of(&[1, 2, 5, 20, 127, 128]), ..plain },
-            1 => Recipe { a: 20, b: 12 + self.below(16) as u8, ..plain },
+            1 => Recipe { a: 20, b: 12 + self.below(24) as u8, ..plain },
             2 => Recipe { a: self.of(&[4, 10, 30]), c: near(self), ..plain },
             3 => Recipe { d: 255, ..plain },
             4 => Recipe { e: 255, ..plain },
@@ -484,14 +484,18 @@ fn case(choice: &mut Choice, t: usize, (n, lens, addrs): &(u32, Vec<u32>, Vec<u1
     let lanes = if wide { choice.of(&[1, 2, 3, 4]) } else { LANES[t * 3 % 10] };
     let set = Settings {
         lanes,
-        limit: choice.of(&LIMITS),
+        limit: if wide { choice.of(&LIMITS[..3]) } else { choice.of(&LIMITS) },
         step: if t % 3 == 0 { None } else { Some(STEPS[(t / 3 * 2 + t % 3 - 1) % 9]) },
         offset: if t % 2 == 0 { choice.of(&OFFSETS) } else { choice.of(&[0, 1, 2]) },
         rounds: u32::MAX,
         first: part.0,
         length: part.1,
     };
-    let words = if wide || *n > 1122 { choice.of(&COUNTS[..8]) } else { choice.of(&COUNTS) };
+    let words = match (wide, *n > 1122) {
+        (true, _) => 1 + choice.below(3) as usize,
+        (_, true) => choice.of(&COUNTS[..8]),
+        _ => choice.of(&COUNTS),
+    };
     let bases: Vec<Vec<u8>> = (0..4)
         .map(|b| {
             let kind = match choice.below(5) {
@@ -524,6 +528,22 @@ fn case(choice: &mut Choice, t: usize, (n, lens, addrs): &(u32, Vec<u32>, Vec<u1
     let tail = |choice: &mut Choice| choice.of(&[0, 1, 5, 40]);
     let (a, b, c, d) = (tail(choice), tail(choice), tail(choice), tail(choice));
     case.lend(a, b, c, d);
+    case
+}
+
+/// Words that take many iterations.
+fn slow(choice: &mut Choice, t: usize, code: &(u32, Vec<u32>, Vec<u16>)) -> Case {
+    let mut case = case(choice, t, code);
+    case.set.limit = 30;
+    case.set.offset = choice.of(&[0, 1, 2]);
+    case.soft = 12 * case.n as usize;
+    case.recipes = (0..12)
+        .map(|_| {
+            let kind = choice.of(&[1, 9]);
+            choice.recipe(kind, 3)
+        })
+        .collect();
+    case.lend(1, 2, 3, 4);
     case
 }
 
@@ -574,7 +594,7 @@ fn plain() -> Case {
 /// At the limits: as many words, edges, lanes and iterations as there may be, and n 44,880.
 fn edges(choice: &mut Choice, seen: &mut Seen) {
     let recipe = |a, c, seed| Recipe { a, c, seed, ..Recipe::default() };
-    let mut many = Case { n: 374, lens: vec![], addrs: vec![], soft: 4096 * 374, bases: vec![], ..plain() };
+    let mut many = Case { n: 374, lens: vec![], addrs: vec![], soft: 4096 * 374, bases: vec![vec![0; 374]], ..plain() };
     many.set = Settings { lanes: 64, limit: 65_535, step: None, offset: 0, rounds: 0, first: 181, length: 193 };
     many.recipes = vec![recipe(1, 0, 1), recipe(127, 0, 2), recipe(0, 0, 3)];
     many.lend(5, 0, 5, 5);
@@ -688,6 +708,11 @@ fn main() {
             limited(&mut choice, &mut seen, case);
             t += 1;
         }
+    }
+    for code in list.iter().filter(|code| code.2.len() > 5 && code.2.len() < 100) {
+        let case = slow(&mut choice, t, code);
+        limited(&mut choice, &mut seen, case);
+        t += 1;
     }
     edges(&mut choice, &mut seen);
     refusals(&mut seen);
