@@ -22,7 +22,8 @@
 //! low bit alone; their codeword; the errors flipped; the pattern times x^shift added; and, where bytes
 //! have high bits, twice (place mod 128) added to the parity bytes.
 
-use oracle::bch::{PARITY, TABLE_3_4_1, decode, encode};
+use oracle::bch::{PARITY, decode, encode};
+use oracle::poly::{Poly, add, power, product, times};
 use std::io::Write;
 
 const N_MAX: u32 = 65_535;
@@ -37,52 +38,6 @@ fn sum(bytes: &[u8]) -> u64 {
     bytes.iter().fold(0, |h, &b| {
         (h * 16_411 + u64::from(b) + 1) % 281_474_976_710_597
     })
-}
-
-/// A polynomial of at most 192 coefficients, a byte each.
-type Poly = Vec<u8>;
-
-fn times(a: &[u8], b: &[u8]) -> Poly {
-    let mut out = vec![0; a.len() + b.len() - 1];
-    for (i, &x) in a.iter().enumerate() {
-        for (j, &y) in b.iter().enumerate() {
-            out[i + j] ^= x & y;
-        }
-    }
-    out
-}
-
-/// The product of the first entries of the table.
-fn product(entries: usize) -> Poly {
-    TABLE_3_4_1[..entries].iter().fold(vec![1], |g, exponents| {
-        let mut f = vec![0; 17];
-        for &e in *exponents {
-            f[e as usize] = 1;
-        }
-        times(&g, &f)
-    })
-}
-
-/// x^p mod g.
-fn power(p: u32) -> Poly {
-    let g = product(12);
-    let mut r = vec![0; PARITY];
-    r[0] = 1;
-    for _ in 0..p {
-        let top = r[PARITY - 1];
-        r.rotate_right(1);
-        r[0] = 0;
-        for (x, &c) in r.iter_mut().zip(&g) {
-            *x ^= top & c;
-        }
-    }
-    r
-}
-
-fn add(a: &mut [u8], b: &[u8]) {
-    for (x, y) in a.iter_mut().zip(b) {
-        *x ^= y;
-    }
 }
 
 struct Case {
