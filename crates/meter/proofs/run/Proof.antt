@@ -1,7 +1,7 @@
 -- `meter::run` meets its contract: a walk of its MIR, by hand. The tally is read, the core is called, `write` writes the records, and the new tally is stored.
 -- `out`, `records`, `work` and `index` are given up for good to their callees, at their own lifetimes and ghost names. What the core returned is a value that this proof never opens.
 -- Assumes nothing.
-use mathlib.Core.Path.{_≡_, refl, _∙_, ap}
+use mathlib.Core.Path.{_≡_, refl}
 use Prim.Native.Nat.{ℕ, _<_, _≤_, _^_}
 use mathlib.Core.List.{[], _∷_, List}
 use lib.IntN.{ℤ}
@@ -50,8 +50,8 @@ use Rattle.decoder.proofs.Ran as R
 use Rattle.decoder.proofs.Ran.Laws as R′
 use Rattle.decoder.proofs.Settings as S
 use Rattle.decoder.proofs.Settings.Laws as S′
-use Rattle.meter.specs.Metered.{Metered, answerOf, numberOf, recordsOf, tallyOf}
-use Rattle.meter.specs.Laws.{answer-number}
+use Rattle.meter.specs.Metered.{Metered, answerOf, recordsOf, tallyOf}
+use Rattle.meter.specs.Laws.{metered}
 use Rattle.meter.specs.declared.Answer.{Answer}
 use Rattle.meter.specs.declared.Tally.{Tally}
 use Rattle.meter.specs.declared.WordRecord.{WordRecord}
@@ -175,7 +175,12 @@ module _ {M : Type 1} (𝓤 : URA M) (H : Heap 𝓤) (A : Atoms 𝓤) (W : Given
   exits m w zs ws t us is n-fits set-is e e₃ e₄ e₆ e₇ =
       qed W (Last m w zs ws t us is) ∵
       suffices ! _ (ends-at 𝓤 H A f.ended stayed (f.clauses 𝓤 H A at-mem run) W (((κ₀, (κ₁, (κ₂, (κ₃, (κ₄, (κ₅, (κ₆, (κ₇, tt)))))))), (q₀, (q₁, (q₂, (q₃, (q₄, (q₅, (q₆, (q₇, tt)))))))), tt, a, at), tt) w m (tt, (tt, (tt, (tt, (tt, (zs, (ws, (t, (us, (is, tt)))))))))) (tt, (tt, (tt, (tt, (tt, (e₃, (e₄, (tt, (e₆, (e₇, tt))))))))))) $ says ! e $
-@EXITS@
+      -- the tokens
+      move ! (4 ∷ []) $ split ! $ move ! (1 ∷ []) $ drop ! $ move ! (6 ∷ []) $ split ! $ move ! (1 ∷ []) $ split ! $ move ! (1 ∷ []) $ split ! $ move ! (1 ∷ []) $ split ! $ move ! (1 ∷ []) $ split ! $ move ! (1 ∷ []) $ split ! $
+      join ! $ move ! (1 ∷ 0 ∷ []) $ join ! $ move ! (9 ∷ 0 ∷ []) $ join ! $ move ! (5 ∷ 0 ∷ []) $ join ! $ move ! (1 ∷ 0 ∷ []) $ join ! $ move ! (1 ∷ 0 ∷ []) $ join ! $ move ! (1 ∷ 0 ∷ []) $ join ! $ move ! (1 ∷ 0 ∷ []) $ join ! $ frame ! $
+      -- what is had of the parameters
+      nothing ! $ move ! (5 ∷ 0 ∷ []) $ fjoin ! $ move ! (5 ∷ 0 ∷ []) $ fjoin ! $ move ! (2 ∷ 3 ∷ []) $ feqI ! (List Val) (vptr b o ∷ []) (vptr b o ∷ []) refl $ fjoin3 ! $ fjoin ! $
+      move ! (2 ∷ 0 ∷ []) $ fjoin ! $ move ! (2 ∷ 0 ∷ []) $ fjoin ! $ owned ! S.the-row (Is S.the-row) ((LL.makes S.the-type S′.the-plain) 𝓤 H A) set _ set-is $ fjoin ! $ move ! (2 ∷ 0 ∷ []) $ fjoin ! $ move ! (2 ∷ 0 ∷ []) $ fjoin ! $ move ! (2 ∷ 0 ∷ []) $ fjoin ! $ owned ! u32 (Is u32) (uint-makes 𝓤 H A W w32) n _ (refl, n-fits) $ fjoin ! $ frame ! $ done !
 
   -- what each callee's triple binds outside
   abbrev core-κs : Lft × (Lft × (Lft × (Lft × (Lft × (Lft × Unit {0})))))
@@ -231,7 +236,67 @@ module _ {M : Type 1} (𝓤 : URA M) (H : Heap 𝓤) (A : Atoms 𝓤) (W : Given
     walk n-fits room-lens room-addrs room-soft set-is room-out room-recs room-work room-index =
         qed W ((‵ (flft κ₀ q₀) ⊛ (‵ (flft κ₁ q₁) ⊛ (‵ (flft κ₂ q₂) ⊛ (‵ (flft κ₃ q₃) ⊛ (‵ (flft κ₄ q₄) ⊛ (‵ (flft κ₅ q₅) ⊛ (‵ (flft κ₆ q₆) ⊛ (‵ (flft κ₇ q₇) ⊛ ‵ ftrue))))))))
         ∷ ‵ (owns (u32 ∷ ShrSlice (named 0) κ₀ u32 ∷ ShrSlice (named 1) κ₁ u16 ∷ ShrSlice (named 2) κ₂ i8 ∷ S.the-row ∷ MutSlice (named 3) κ₃ u8 ∷ MutSlice (named 4) κ₄ T.the-row ∷ MutRef (named 5) κ₅ Y.the-row ∷ MutSlice (named 6) κ₆ i8 ∷ MutSlice (named 7) κ₇ u32 ∷ []) a at) ∷ []) ∵
-@WALK@
+        split ! $ move ! (1 ∷ []) $ split ! $ move ! (1 ∷ []) $ split ! $ move ! (1 ∷ []) $ split ! $ move ! (1 ∷ []) $ split ! $ move ! (1 ∷ []) $ split ! $ move ! (1 ∷ []) $ split ! $ move ! (1 ∷ []) $ split ! $
+        -- [t7; true; t6; …; t0; what the parameters own]
+        move ! (9 ∷ []) $ fsplit ! $ drop ! $ fsplit ! $ move ! (1 ∷ []) $ fsplit ! $ move ! (1 ∷ []) $ fsplit ! $ move ! (1 ∷ []) $ fsplit ! $ drop ! $ fsplit ! $ move ! (1 ∷ []) $ fsplit ! $ move ! (1 ∷ []) $ fsplit ! $ fsplit3 ! $ drop ! $ move ! (2 ∷ []) $ fsplit ! $ move ! (1 ∷ []) $ fsplit ! $
+        keep ! (3 ∷ 4 ∷ 13 ∷ 5 ∷ 14 ∷ 6 ∷ 2 ∷ 0 ∷ 9 ∷ 8 ∷ 7 ∷ 18 ∷ 17 ∷ 16 ∷ 15 ∷ 12 ∷ 10 ∷ []) $ enter ! C Λ code.function vals _ $
+        alloc1 ! (λ l₀. alloc1 ! (λ l₁. alloc1 ! (λ l₂. alloc1 ! (λ l₃. alloc1 ! (λ l₄. alloc1 ! (λ l₅. alloc1 ! (λ l₆. alloc1 ! (λ l₇. alloc1 ! (λ l₈. alloc1 ! (λ l₉. alloc1 ! (λ l₁₀. alloc1 ! (λ l₁₁. alloc1 ! (λ l₁₂. alloc1 ! (λ l₁₃. alloc1 ! (λ l₁₄. alloc1 ! (λ l₁₅. alloc1 ! (λ l₁₆. alloc1 ! (λ l₁₇. alloc1 ! (λ l₁₈. alloc1 ! (λ l₁₉. alloc1 ! (λ l₂₀. alloc1 ! (λ l₂₁. alloc1 ! (λ l₂₂. alloc1 ! (λ l₂₃. alloc0 ! $ params1 ! $
+        pass1 ! (init ! 44 refl (tt, record { fits = n-fits })) $ pass1 ! (init ! 42 refl (tt, (tt, (record { fits = room-lens .0 }, tt)))) $ pass1 ! (init ! 40 refl (tt, (tt, (record { fits = room-addrs .0 }, tt)))) $ pass1 ! (init ! 38 refl (tt, (tt, (record { fits = room-soft .0 }, tt)))) $ pass1 ! (init ! 36 refl (LL.lawful S.the-type S′.the-laws 𝓤 H A W .typed set _ set-is .0)) $ pass1 ! (init ! 34 refl (tt, (tt, (record { fits = room-out .0 }, tt)))) $ pass1 ! (init ! 32 refl (tt, (tt, (record { fits = room-recs .0 }, tt)))) $ pass1 ! (init ! 30 refl (tt, tt)) $ pass1 ! (init ! 28 refl (tt, (tt, (record { fits = room-work .0 }, tt)))) $ pass1 ! (init ! 26 refl (tt, (tt, (record { fits = room-index .0 }, tt)))) $ pass0 ! $
+        -- the tally is read
+        move ! (48 ∷ 49 ∷ 50 ∷ []) $ opens ! tt Y.the-row {h = h} b o (λ vs. spelt ! Y.the-row (Is Y.the-row) (shows 𝓤 H A Y.the-row) (LL.vals Y.the-type Y′.the-laws) (LL.tells Y.the-type Y′.the-laws) fullShare h vs b o $
+        move ! (1 ∷ []) $ peeks ! Y.the-row (Is Y.the-row) (shows 𝓤 H A Y.the-row) h (vh ∷ []) (λ was. move ! (1 ∷ 0 ∷ []) $
+        assigns ! (of-opd ! (load ! (from ! (hop ! (look ! 35 refl) (stop !))) (look-raw ! 0 refl))) (from ! (stop !)) (init ! 29 refl (LL.lawful Y.the-type Y′.the-laws 𝓤 H A W .typed h _ was .0)) $ closes ! tt Y.the-row h (vh ∷ []) b o $
+        assigns ! (of-opd ! (load ! (from ! (fld ! refl (stop !))) (look-in ! 35 (sub ! 1 refl (whole !))))) (from ! (stop !)) (init ! 25 refl (tt, record { fits = room-recs .0 })) $
+        assigns ! (addr ! (from ! (fld ! refl (hop ! (look-in ! 37 (sub ! 0 refl (whole !))) (stop !))))) (from ! (stop !)) (init ! 21 refl (tt, tt)) $
+        assigns ! (agg ! (and-then ! (load ! (from ! (stop !)) (look ! 21 refl)) (and-then ! (load ! (from ! (fld ! refl (stop !))) (look-in ! 37 (sub ! 1 refl (whole !)))) (no-more !)))) (from ! (stop !)) (init ! 19 refl (tt, (tt, (record { fits = room-out .0 }, tt)))) $
+        assigns ! (addr ! (from ! (fld ! refl (hop ! (look-in ! 31 (sub ! 0 refl (whole !))) (stop !))))) (from ! (stop !)) (init ! 17 refl (tt, tt)) $
+        assigns ! (agg ! (and-then ! (load ! (from ! (stop !)) (look ! 17 refl)) (and-then ! (load ! (from ! (fld ! refl (stop !))) (look-in ! 31 (sub ! 1 refl (whole !)))) (no-more !)))) (from ! (stop !)) (init ! 15 refl (tt, (tt, (record { fits = room-work .0 }, tt)))) $
+        assigns ! (addr ! (from ! (fld ! refl (hop ! (look-in ! 29 (sub ! 0 refl (whole !))) (stop !))))) (from ! (stop !)) (init ! 13 refl (tt, tt)) $
+        assigns ! (agg ! (and-then ! (load ! (from ! (stop !)) (look ! 13 refl)) (and-then ! (load ! (from ! (fld ! refl (stop !))) (look-in ! 29 (sub ! 1 refl (whole !)))) (no-more !)))) (from ! (stop !)) (init ! 11 refl (tt, (tt, (record { fits = room-index .0 }, tt)))) $
+        -- what the three `&` slices own is had twice
+        move ! (56 ∷ []) $ use1 W (‵ S0 ⊛ ‵ S0) (shr-slice-copy 𝓤 H A W (named 0) κ₀ u32 .twice lens (s-lens ∷ [])) $ split ! $ move ! (58 ∷ []) $ use1 W (‵ S1 ⊛ ‵ S1) (shr-slice-copy 𝓤 H A W (named 1) κ₁ u16 .twice addrs (s-addrs ∷ [])) $ split ! $ move ! (60 ∷ []) $ use1 W (‵ S2 ⊛ ‵ S2) (shr-slice-copy 𝓤 H A W (named 2) κ₂ i8 .twice soft (s-soft ∷ [])) $ split ! $
+        -- the core's tokens, and what its parameters own
+        nothing ! $ move ! (68 ∷ 0 ∷ []) $ join ! $ move ! (67 ∷ 0 ∷ []) $ join ! $ move ! (66 ∷ 0 ∷ []) $ join ! $ move ! (65 ∷ 0 ∷ []) $ join ! $ move ! (64 ∷ 0 ∷ []) $ join ! $ move ! (63 ∷ 0 ∷ []) $ join ! $
+        nothing ! $ move ! (63 ∷ 0 ∷ []) $ fjoin ! $ move ! (62 ∷ 0 ∷ []) $ fjoin ! $ move ! (61 ∷ 0 ∷ []) $ fjoin ! $ owned ! usize (Is usize) (uint-makes 𝓤 H A W w64) (length rs) _ (refl, room-recs .0) $ fjoin ! $ owned ! S.the-row (Is S.the-row) ((LL.makes S.the-type S′.the-plain) 𝓤 H A) set _ set-is $ fjoin ! $ move ! (2 ∷ 0 ∷ []) $ fjoin ! $ move ! (3 ∷ 0 ∷ []) $ fjoin ! $ move ! (4 ∷ 0 ∷ []) $ fjoin ! $ owned ! u32 (Is u32) (uint-makes 𝓤 H A W w32) n _ (refl, n-fits) $ fjoin ! $
+        move ! (1 ∷ 0 ∷ []) $ use2 W (raw (Core 𝓤 H A at-mem run .pre to-core)) asks-core $
+        calls-at ! fm (Core 𝓤 H A at-mem run) known-core to-core (and-then ! (load ! (from ! (stop !)) (look ! 51 refl)) (and-then ! (load ! (from ! (stop !)) (look ! 49 refl)) (and-then ! (load ! (from ! (stop !)) (look ! 47 refl)) (and-then ! (load ! (from ! (stop !)) (look ! 45 refl)) (and-then ! (load ! (from ! (stop !)) (look ! 43 refl)) (and-then ! (load ! (from ! (stop !)) (look ! 29 refl)) (and-then ! (load ! (from ! (stop !)) (look ! 23 refl)) (and-then ! (load ! (from ! (stop !)) (look ! 19 refl)) (and-then ! (load ! (from ! (stop !)) (look ! 15 refl)) (no-more !)))))))))) (λ v.
+        use1 W (later (some (λ (r : Ran). (lent ⊛ ‵ (R.the-row .own r (v ∷ []))) ⊛ raw (ensured 𝓤 H A core.ended (core.clauses 𝓤 H A at-mem run) core-κs core-args tt r)))) (id⊢ 𝓤 _) $ await ! tt $ pick ! (λ r.
+        split ! $ move ! (1 ∷ []) $ use1 W (some (λ (zs : Lasts). ‵ (lasts core.ended core-κs core-args zs) ⊛ raw (fact 𝓤 (Ran-of zs r)))) (id⊢ 𝓤 _) $ pick ! (λ zs.
+        split ! $ move ! (1 ∷ []) $ heard ! (Ran-of zs r) (λ e. fsplit ! $ drop ! $ fsplit ! $ drop ! $ fsplit ! $ drop ! $ fsplit ! $ drop ! $ fsplit ! $ drop ! $ fsplit ! $ drop ! $
+        fsplit ! $ fsplit ! $ move ! (1 ∷ []) $ feqL ! (λ len₃. move ! (1 ∷ []) $ fsplit ! $ fsplit ! $ move ! (1 ∷ []) $ feqL ! (λ len₆. move ! (1 ∷ []) $ fsplit ! $ fsplit ! $ move ! (1 ∷ []) $ feqL ! (λ len₇. move ! (1 ∷ []) $ drop ! $
+        move ! (3 ∷ []) $ split ! $ move ! (1 ∷ []) $ peeks ! R.the-row (Is R.the-row) (shows 𝓤 H A R.the-row) r (v ∷ []) (λ is.
+        land ! (from ! (stop !)) (init ! 31 refl (LL.lawful R.the-type R′.the-laws 𝓤 H A W .typed r _ is .0)) $ drop ! $
+        -- `write`
+        assigns ! (addr ! (from ! (fld ! refl (hop ! (look-in ! 42 (sub ! 0 refl (whole !))) (stop !))))) (from ! (stop !)) (init ! 14 refl (tt, tt)) $
+        assigns ! (agg ! (and-then ! (load ! (from ! (stop !)) (look ! 14 refl)) (and-then ! (load ! (from ! (fld ! refl (stop !))) (look-in ! 42 (sub ! 1 refl (whole !)))) (no-more !)))) (from ! (stop !)) (init ! 12 refl (tt, (tt, (record { fits = room-recs .0 }, tt)))) $
+        move ! (59 ∷ 58 ∷ []) $ use2 W (raw (Write 𝓤 H A at-mem run .pre (to-write r v))) (asks-write r v is (e .words-room, e .words-le)) $
+        calls-at ! fm (Write 𝓤 H A at-mem run) known-write (to-write r v) (and-then ! (load ! (from ! (stop !)) (look ! 13 refl)) (and-then ! (load ! (from ! (stop !)) (look ! 31 refl)) (no-more !))) (λ w.
+        use1 W (later (some (λ (z : Unit {0}). ((‵ (flft κ₄ q₄) ⊛ ‵ ftrue) ⊛ ‵ (unit .own z (w ∷ []))) ⊛ raw (ensured 𝓤 H A write.ended (write.clauses 𝓤 H A at-mem run) (κ₄, tt) (recs, (r, tt)) tt z)))) (id⊢ 𝓤 _) $ await ! tt $ pick ! (λ z.
+        split ! $ move ! (1 ∷ []) $ use1 W (some (λ (ws : List WordRecord × (Unit {0} × Unit {0})). ‵ (lasts write.ended (κ₄, tt) (recs, (r, tt)) ws) ⊛ raw (fact 𝓤 (ws .0 ≡ recordsOf r rs)))) (id⊢ 𝓤 _) $ pick ! (λ ws.
+        split ! $ move ! (1 ∷ []) $ heard ! (ws .0 ≡ recordsOf r rs) (λ e₂. fsplit ! $ fsplit ! $ move ! (1 ∷ []) $ feqL ! (λ len₄. move ! (1 ∷ []) $ drop ! $
+        move ! (1 ∷ []) $ split ! $ move ! (1 ∷ []) $ peeks ! unit (Is unit) (shows 𝓤 H A unit) z (w ∷ []) (λ is₂. land ! (from ! (stop !)) (init ! 19 refl (nothing-lawful 𝓤 H A W .typed z _ is₂ .0)) $ drop ! $
+        -- `tally_of`
+        nothing ! $ owned ! Y.the-row (Is Y.the-row) ((LL.makes Y.the-type Y′.the-plain) 𝓤 H A) h _ was $ fjoin ! $ owned ! R.the-row (Is R.the-row) ((LL.makes R.the-type R′.the-plain) 𝓤 H A) r _ is $ fjoin ! $ nothing ! $ use2 W (raw (TallyOf 𝓤 H A at-mem run .pre (to-tally r v))) (asks-tally r v) $
+        calls-at ! fm (TallyOf 𝓤 H A at-mem run) known-tally (to-tally r v) (and-then ! (load ! (from ! (stop !)) (look ! 33 refl)) (and-then ! (load ! (from ! (stop !)) (look ! 37 refl)) (no-more !))) (λ y.
+        use1 W (later (some (λ (t : Tally). (‵ ftrue ⊛ ‵ (Y.the-row .own t (y ∷ []))) ⊛ raw (ensured 𝓤 H A tally.ended (tally.clauses 𝓤 H A at-mem run) tt (r, (h, tt)) tt t)))) (id⊢ 𝓤 _) $ await ! tt $ pick ! (λ t.
+        split ! $ move ! (1 ∷ []) $ use1 W (raw (fact 𝓤 (t ≡ tallyOf r h))) (said-tally 𝓤 H A at-mem run r h t) $ heard ! (t ≡ tallyOf r h) (λ e₃. split ! $ drop ! $ peeks ! Y.the-row (Is Y.the-row) (shows 𝓤 H A Y.the-row) t (y ∷ []) (λ is₃.
+        land ! (from ! (stop !)) (init ! 13 refl (LL.lawful Y.the-type Y′.the-laws 𝓤 H A W .typed t _ is₃ .0)) $
+        -- the new tally is stored
+        move ! (10 ∷ 11 ∷ 12 ∷ []) $ opens ! tt Y.the-row {h = h} b o (λ vs′. spelt ! Y.the-row (Is Y.the-row) (shows 𝓤 H A Y.the-row) (LL.vals Y.the-type Y′.the-laws) (LL.tells Y.the-type Y′.the-laws) fullShare h vs′ b o $
+        assigns ! (of-opd ! (load ! (from ! (stop !)) (look ! 15 refl))) (from ! (hop ! (look ! 45 refl) (stop !))) (store-raw ! 0 refl (LL.lawful Y.the-type Y′.the-laws 𝓤 H A W .typed t _ is₃ .0)) $
+        move ! (1 ∷ []) $ drop ! $ move ! (0 ∷ 4 ∷ []) $ closes ! tt Y.the-row t (y ∷ []) b o $
+        -- `answer_of`
+        nothing ! $ owned ! R.the-row (Is R.the-row) ((LL.makes R.the-type R′.the-plain) 𝓤 H A) r _ is $ fjoin ! $ nothing ! $ use2 W (raw (AnswerOf 𝓤 H A at-mem run .pre (to-answer r v))) (asks-answer r v) $
+        calls-at ! fm (AnswerOf 𝓤 H A at-mem run) known-answer (to-answer r v) (and-then ! (load ! (from ! (stop !)) (look ! 33 refl)) (no-more !)) (λ x.
+        use1 W (later (some (λ (m : Answer). (‵ ftrue ⊛ ‵ (N.the-row .own m (x ∷ []))) ⊛ raw (ensured 𝓤 H A answer.ended (answer.clauses 𝓤 H A at-mem run) tt (r, tt) tt m)))) (id⊢ 𝓤 _) $ await ! tt $ pick ! (λ m.
+        split ! $ move ! (1 ∷ []) $ use1 W (raw (fact 𝓤 (m ≡ answerOf r))) (said-answer 𝓤 H A at-mem run r m) $ heard ! (m ≡ answerOf r) (λ e₄. split ! $ drop ! $ peeks ! N.the-row (Is N.the-row) (shows 𝓤 H A N.the-row) m (x ∷ []) (λ is₄.
+        land ! (from ! (stop !)) (init ! 59 refl (EL.lawful N.the-type N′.the-laws 𝓤 H A W tt .typed m _ is₄ .0)) $
+        returns ! (look ! 59 refl) $ forget ! 13 refl $ forget ! 15 refl $ forget ! 17 refl $ forget ! 19 refl $ forget ! 21 refl $ forget ! 23 refl $ forget ! 25 refl $ forget ! 27 refl $ forget ! 29 refl $ forget ! 31 refl $ forget ! 33 refl $ forget ! 35 refl $ forget ! 37 refl $ forget ! 39 refl $ forget ! 41 refl $ forget ! 43 refl $ forget ! 45 refl $ forget ! 47 refl $ forget ! 49 refl $ forget ! 51 refl $ forget ! 53 refl $ forget ! 55 refl $ forget ! 57 refl $ forget ! 59 refl $
+        move ! (59 ∷ 60 ∷ []) $ free1 ! $ move ! (57 ∷ 58 ∷ []) $ free1 ! $ move ! (55 ∷ 56 ∷ []) $ free1 ! $ move ! (53 ∷ 54 ∷ []) $ free1 ! $ move ! (51 ∷ 52 ∷ []) $ free1 ! $ move ! (49 ∷ 50 ∷ []) $ free1 ! $ move ! (47 ∷ 48 ∷ []) $ free1 ! $ move ! (45 ∷ 46 ∷ []) $ free1 ! $
+        move ! (43 ∷ 44 ∷ []) $ free1 ! $ move ! (41 ∷ 42 ∷ []) $ free1 ! $ move ! (39 ∷ 40 ∷ []) $ free1 ! $ move ! (37 ∷ 38 ∷ []) $ free1 ! $ move ! (35 ∷ 36 ∷ []) $ free1 ! $ move ! (33 ∷ 34 ∷ []) $ free1 ! $ move ! (31 ∷ 32 ∷ []) $ free1 ! $ move ! (29 ∷ 30 ∷ []) $ free1 ! $
+        move ! (27 ∷ 28 ∷ []) $ free1 ! $ move ! (25 ∷ 26 ∷ []) $ free1 ! $ move ! (23 ∷ 24 ∷ []) $ free1 ! $ move ! (21 ∷ 22 ∷ []) $ free1 ! $ move ! (19 ∷ 20 ∷ []) $ free1 ! $ move ! (17 ∷ 18 ∷ []) $ free1 ! $ move ! (15 ∷ 16 ∷ []) $ free1 ! $ move ! (13 ∷ 14 ∷ []) $ free1 ! $
+        free0 ! $
+        by ! (exits m x (zs .1 .1 .1 .1 .1 .1 .0) (ws .0) t (zs .1 .1 .1 .1 .1 .1 .1 .0) (zs .1 .1 .1 .1 .1 .1 .1 .1 .0) n-fits set-is (metered r e e₄ e₂ e₃) len₃ len₄ len₆ len₇))))))))))))))))))))))))))))))))))))))))))))))))))
 
 module _ {M : Type 1} (𝓤 : URA M) (H : Heap 𝓤) (A : Atoms 𝓤) (W : Given 𝓤 H A) (at-mem : Memory → SProp 𝓤) (run : Routine → Fun 𝓤) where
   run-walks : (C : Calls 𝓤 H) (Λ : Loops 𝓤 H) → FmC 𝓤 H (W .laws) C → Triple 𝓤 (C #decoder·core) (Core 𝓤 H A at-mem run) → Triple 𝓤 (C #meter·write) (Write 𝓤 H A at-mem run) → Triple 𝓤 (C #meter·tally-of) (TallyOf 𝓤 H A at-mem run)

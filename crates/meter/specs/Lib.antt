@@ -1,0 +1,2 @@
+pub mod Metered
+pub mod Laws
