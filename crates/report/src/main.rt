@@ -1,4 +1,5 @@
 // Reads a text of the report's form from standard input and writes its report to standard output.
+ghost use mathlib.Core.Path.{_≡_};
 ghost use Prim.Native.Nat.{_≤_};
 ghost use lib.ListN.{length, take};
 ghost use Rattle.report_text.specs.Cut.{Answered};
@@ -12,7 +13,7 @@ struct Input {
 
 // Reads until the buffer is full or the input ends. A read that fails, or that a signal ends before it moves a byte, fails the whole.
 fn read_input(buf: &mut [u8]) -> Input
-    ensures { λ r. ⌜ r .size ≤ length (now (buf .exit)) ⌝ }
+    ensures { λ r. ⌜ r .size ≤ length (now (buf .entry)) ⌝ }
 {
     let mut size: usize = 0;
     while size < buf.len() {
@@ -32,10 +33,10 @@ fn read_input(buf: &mut [u8]) -> Input
     Input { right: true, size }
 }
 
-// The report on what was read. A text of the form has at most 10,501 bytes, so whatever the input has behind its first 10,502 plays no
-// part: this is the report on the whole input.
+// The report on what was read, the input's first 10,502 bytes or all of it. A text of the form has at most 10,501, so what an input has
+// behind those plays no part: this is the report on the whole input.
 fn answer(buf: &[u8], size: usize) -> Output
-    requires { ⌜ size ≤ length (now buf) ⌝ }
+    requires { ⌜ (length (now buf) ≡ 10502) × (size ≤ 10502) ⌝ }
     ensures { λ r. ⌜ Answered (take size (now (buf .entry))) r ⌝ }
 {
     report_text::report(&buf[..size])

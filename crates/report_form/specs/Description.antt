@@ -1,4 +1,4 @@
--- What the report is told, and how it is written: 01's "Report text". A text of the form is the rendering of a description within the limits.
+-- What the report is told, and how it is written: the scope's "Report text". A text of the form is the rendering of a description within the limits.
 use mathlib.Core.Bool.{Bool, true, false}
 use mathlib.Core.List.{List, [], _∷_, _++_, map}
 use Prim.Native.Nat.{ℕ, suc, _≤_, _<_}

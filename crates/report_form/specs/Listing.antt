@@ -1,4 +1,4 @@
--- 01's listing: its description is within the limits, and its text is the listing's input.
+-- The scope's listing: its description is within the limits, and its text is the listing's input.
 use mathlib.Core.Path.{_≡_, refl}
 use mathlib.Core.List.{[], _∷_}
 use native.Mathlib.Omega.{arith}

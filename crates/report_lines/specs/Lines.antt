@@ -1,4 +1,4 @@
--- What the report writes: 01's "Report text", behind the input.
+-- What the report writes: the scope's "Report text", behind the input.
 use mathlib.Core.Bool.{Bool, true, false}
 use mathlib.Core.List.{List, [], _∷_, _++_}
 use Prim.Native.Nat.{ℕ, zero, suc}

@@ -1,4 +1,4 @@
--- 01's listing: its output.
+-- The scope's listing: its output.
 use mathlib.Core.Path.{_≡_, refl}
 use mathlib.Core.Bool.{false}
 use mathlib.Core.List.{[], _∷_}

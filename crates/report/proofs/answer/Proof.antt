@@ -3,12 +3,13 @@
 use mathlib.Core.Path.{sym}
 use lib.Seq.{length-take-le}
 use Rattle.report_text.specs.Cut.{answered}
+use native.Mathlib.Omega.{arith}
 use borrow.Author.Needs.{needs}
 use Rattle.report.proofs.answer.Statement.{statement}
 use Rattle.report.proofs.answer.Tie as tie
 
 slice-aggregate-report : tie.Need-slice-aggregate-report
-slice-aggregate-report c = let s = c .before .before in sym (length-take-le (s .args .size) (s .args .buf .now) (s .pre))
+slice-aggregate-report c = let s = c .before .before in sym (length-take-le (s .args .size) (s .args .buf .now) (omega (arith, s .pre .0, s .pre .1)))
 
 report-requires : tie.Need-report-requires
 report-requires c κs = search needs
