@@ -1,0 +1,3 @@
+-- The numbers that the archive returns and writes, and a run through it.
+pub mod Numbers
+pub mod Run

@@ -1,0 +1,54 @@
+-- Each answer as numbers: the one that is returned (0, or the refusal's), and those that are written (as they were where the call is refused).
+-- `ldpc` has its own for its answers.
+use mathlib.Core.Bool.{cond}
+use mathlib.Core.List.{List, [], _∷_}
+use Prim.Native.Nat.{ℕ, suc, _+_}
+use lib.Dec.{eqb}
+use Rattle.ldpc_shape.specs.Shape.{kOf, pOf, qOf, eOf, refusalOf}
+use Rattle.quantise.specs.declared.Quantised.{Quantised}
+use Rattle.quantise.specs.declared.Quantised.the-variants as quantised
+use Rattle.ldpc.specs.declared.Made.{Made}
+use Rattle.ldpc.specs.declared.Made.the-variants as made
+use Rattle.ldpc.specs.declared.Counted.{Counted}
+use Rattle.ldpc.specs.declared.Counted.the-variants as counted
+use Rattle.bch.specs.declared.Encoded.{Encoded}
+use Rattle.bch.specs.declared.Encoded.the-variants as encoded
+use Rattle.bch.specs.declared.Decoded.{Decoded}
+use Rattle.bch.specs.declared.Decoded.the-variants as decoded
+use Rattle.outcome.specs.Outcome.{lost}
+
+-- ---- returned
+abbrev pub quantisedNumber : Quantised → ℕ
+quantisedNumber quantised.Done = 0
+quantisedNumber (quantised.Refused r) = r
+
+abbrev pub encodedNumber : Encoded → ℕ
+encodedNumber encoded.Done = 0
+encodedNumber (encoded.Refused r) = r
+
+-- "lost" and "uncorrectable" are answers and no refusals
+abbrev pub decodedNumber : Decoded → ℕ
+decodedNumber (decoded.Corrected m) = 0
+decodedNumber decoded.Uncorrectable = 0
+decodedNumber (decoded.Refused r) = r
+
+-- ---- written
+-- k, P, q, E
+abbrev pub numbersOf : Made → List ℕ → List ℕ
+numbersOf (made.Refused r) code = code
+numbersOf (made.Code k p q e) code = k ∷ p ∷ q ∷ e ∷ []
+
+abbrev pub countOf : Counted → ℕ → ℕ
+countOf (counted.Refused r) count = count
+countOf (counted.Count m) count = m
+
+-- the corrected count, or lost, as a word's record has it
+abbrev pub resultOf : Decoded → ℕ → ℕ
+resultOf (decoded.Corrected m) result = m
+resultOf decoded.Uncorrectable result = lost
+resultOf (decoded.Refused r) result = result
+
+-- k, P, q, E, and what `ldpc::new` needs: P + 1 and E numbers
+unfoldable pub sizesOf : ℕ → List ℕ → List ℕ → List ℕ → List ℕ
+sizesOf n lens addrs sizes =
+    cond (eqb (refusalOf n lens addrs) 0) (kOf lens ∷ pOf n lens ∷ qOf n lens ∷ eOf n lens addrs ∷ (suc (pOf n lens) + eOf n lens addrs) ∷ []) sizes
