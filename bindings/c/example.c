@@ -17,6 +17,7 @@ static const uint16_t addrs[ADDRESSES] = {41,  388, 617,  904, 1276, 1730, 95,  
                                           230, 781, 1644, 3,   1067, 1528, 356, 992, 1815};
 
 static uint8_t message[MESSAGE], info[K], sent[N], out[N];
+static float llr[N];
 static int8_t soft[N];
 
 /* A refusal ends the program. */
@@ -36,15 +37,15 @@ static uint32_t draw(uint32_t below)
     return (state >> 8) % below;
 }
 
-/* A 0 is sent as 16 and a 1 as -16; the noise is a sum of eight draws, from -56 to 56. */
-static int8_t noisy(uint8_t bit)
+/* A 0 is sent as 2 and a 1 as -2; the noise is a sum of eight draws, from -7 to 7. */
+static float noisy(uint8_t bit)
 {
-    int value = bit ? -16 : 16;
+    float value = bit ? -2.0f : 2.0f;
     int i;
     for (i = 0; i < 8; i++) {
-        value += (int)draw(15) - 7;
+        value += ((float)draw(15) - 7.0f) / 8.0f;
     }
-    return (int8_t)value;
+    return value;
 }
 
 static void print_record(const uint32_t *record)
@@ -94,7 +95,10 @@ int main(void)
     accepted("BCH", raxdov_bch_encode(message, MESSAGE, info, K));
     accepted("LDPC", raxdov_ldpc_encode(N, lens, ROWS, addrs, ADDRESSES, info, K, sent, N));
     for (i = 0; i < N; i++) {
-        soft[i] = noisy(sent[i]);
+        llr[i] = noisy(sent[i]);
+    }
+    accepted("soft values", raxdov_quantise(llr, N, /* scale */ 8.0f, soft, N));
+    for (i = 0; i < N; i++) {
         wrong += (soft[i] < 0) != sent[i];
     }
     printf("%u bits sent, %u received wrong\n", (unsigned)N, (unsigned)wrong);

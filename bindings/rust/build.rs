@@ -46,7 +46,8 @@ fn main() {
     println!("cargo::rustc-link-lib=static=raxdov");
 }
 
+/// Cargo stops at the error and prints it alone.
 fn refuse(why: String) -> ! {
     println!("cargo::error={why}");
-    process::exit(1)
+    process::exit(0)
 }
