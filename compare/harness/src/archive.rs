@@ -1,4 +1,4 @@
-//! The archive's functions (include/raxdov.h), over lent slices.
+//! The archive's functions (bindings/c/raxdov.h), over lent slices.
 
 use crate::lent::Lent;
 

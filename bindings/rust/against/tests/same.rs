@@ -198,6 +198,16 @@ fn constants() {
     same!(constants());
 }
 
+/// Codes and decoders go from thread to thread, as the original's do.
+#[test]
+fn threads() {
+    fn goes<T: Send + Sync + Clone + std::fmt::Debug + 'static>() {}
+    goes::<oracle::ldpc::Code>();
+    goes::<raxdov::ldpc::Code>();
+    goes::<oracle::ldpc::fixed::Decoder<8>>();
+    goes::<raxdov::ldpc::fixed::Decoder<8>>();
+}
+
 #[test]
 fn soft_values() {
     let mut d = Draw::new(1);
