@@ -1,0 +1,110 @@
+/* A message is encoded by BCH and then by LDPC, noise is added, and runs give it back, each with its record. */
+#include <raxdov.h>
+
+#include <stdio.h>
+#include <stdlib.h>
+#include <string.h>
+
+#define N 3740u /* 10 groups of 374 bits, */
+#define ROWS 5u /* 5 of them information */
+#define ADDRESSES 19u
+#define K (374u * ROWS)
+#define MESSAGE (K - RAXDOV_BCH_PARITY) /* the BCH word fills the information bits */
+#define LANES 1u
+
+static const uint32_t lens[ROWS] = {6, 4, 3, 3, 3};
+static const uint16_t addrs[ADDRESSES] = {41,  388, 617,  904, 1276, 1730, 95,  512, 833, 1409,
+                                          230, 781, 1644, 3,   1067, 1528, 356, 992, 1815};
+
+static uint8_t message[MESSAGE], info[K], sent[N], out[N];
+static float llr[N];
+static int8_t soft[N];
+
+/* A refusal ends the program. */
+static void accepted(const char *call, uint32_t number)
+{
+    if (number != RAXDOV_ACCEPTED) {
+        fprintf(stderr, "%s: refused by %u\n", call, (unsigned)number);
+        exit(1);
+    }
+}
+
+/* The same numbers on every machine. */
+static uint32_t draw(uint32_t below)
+{
+    static uint32_t state = 1;
+    state = state * UINT32_C(1664525) + UINT32_C(1013904223);
+    return (state >> 8) % below;
+}
+
+/* A 0 is sent as 2 and a 1 as -2; the noise is a sum of eight draws, from -7 to 7. */
+static float noisy(uint8_t bit)
+{
+    float value = bit ? -2.0f : 2.0f;
+    int i;
+    for (i = 0; i < 8; i++) {
+        value += ((float)draw(15) - 7.0f) / 8.0f;
+    }
+    return value;
+}
+
+static void print_record(const uint32_t *record)
+{
+    static const char *const states[] = {"waiting", "held", "met", "unmet"};
+    printf("%s, iterations %u, unsatisfied %u, BCH ", states[record[RAXDOV_RECORD_STATE]],
+           (unsigned)record[RAXDOV_RECORD_ITERATIONS], (unsigned)record[RAXDOV_RECORD_UNSATISFIED]);
+    if (record[RAXDOV_RECORD_BCH] == RAXDOV_LOST) {
+        printf("lost");
+    } else {
+        printf("%u", (unsigned)record[RAXDOV_RECORD_BCH]);
+    }
+}
+
+static void run(uint32_t limit, uint32_t rounds)
+{
+    uint32_t record[RAXDOV_RECORD_COUNT], tally[RAXDOV_TALLY_COUNT], ending;
+    size_t needs[RAXDOV_NEEDS_COUNT];
+    int8_t *work;
+    uint32_t *index;
+
+    accepted("sizes", raxdov_run_sizes(N, lens, ROWS, addrs, ADDRESSES, LANES, needs));
+    work = malloc(needs[RAXDOV_NEEDS_WORK] * sizeof *work);
+    index = malloc(needs[RAXDOV_NEEDS_INDEX] * sizeof *index);
+    if (work == NULL || index == NULL) {
+        fprintf(stderr, "no memory\n");
+        exit(1);
+    }
+    accepted("run", raxdov_run(N, lens, ROWS, addrs, ADDRESSES, soft, N, LANES, limit, /* sequential */ 0, 0,
+                               /* offset */ 1, rounds, /* BCH part */ 0, K, out, N, record, RAXDOV_RECORD_COUNT, tally,
+                               &ending, work, needs[RAXDOV_NEEDS_WORK], index, needs[RAXDOV_NEEDS_INDEX]));
+    free(work);
+    free(index);
+    printf("limit %u: %s after %u rounds: ", (unsigned)limit, ending == RAXDOV_FINISHED ? "finished" : "stopped",
+           (unsigned)tally[RAXDOV_TALLY_ROUNDS]);
+    print_record(record);
+    printf("; the message is %s\n", memcmp(out, message, MESSAGE) == 0 ? "right" : "wrong");
+}
+
+int main(void)
+{
+    size_t i, wrong = 0;
+
+    for (i = 0; i < MESSAGE; i++) {
+        message[i] = (uint8_t)draw(2);
+    }
+    accepted("BCH", raxdov_bch_encode(message, MESSAGE, info, K));
+    accepted("LDPC", raxdov_ldpc_encode(N, lens, ROWS, addrs, ADDRESSES, info, K, sent, N));
+    for (i = 0; i < N; i++) {
+        llr[i] = noisy(sent[i]);
+    }
+    accepted("soft values", raxdov_quantise(llr, N, /* scale */ 8.0f, soft, N));
+    for (i = 0; i < N; i++) {
+        wrong += (soft[i] < 0) != sent[i];
+    }
+    printf("%u bits sent, %u received wrong\n", (unsigned)N, (unsigned)wrong);
+    run(50, UINT32_MAX); /* every check is met */
+    run(3, UINT32_MAX);  /* checks are left, and BCH corrects the rest */
+    run(0, UINT32_MAX);  /* too many are left */
+    run(50, 2);          /* the round limit comes first: the word is held */
+    return 0;
+}

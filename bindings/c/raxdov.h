@@ -1,0 +1,188 @@
+/* Raxdov for C and C++: the functions of libraxdov.a, which `rt staticlib raxdov` writes to target/staticlib.
+   What each promises is proved of its source, crates/raxdov/src/lib.rt; this header repeats its signatures.
+
+   Slices. A slice is lent as a pointer and, in the next argument, the number of its elements (NAME and NAME_len).
+   The pointer is aligned for its type and not null, also where the number is 0. What is lent to be written overlaps
+   nothing else that is lent. A slice may be longer than what is asked for: what lies behind is left as it was.
+
+   Answers. Every function but raxdov_record_words and raxdov_tally_words returns 0, or the number of a refusal
+   (enum raxdov_refusal); a call that is refused has changed nothing. Several refusals: the lowest number.
+
+   Codes. An LDPC code is n, the number of addresses of each row (lens) and the rows' addresses one after the other
+   (addrs). k = 374 * lens_len information bits, P = n - k checks, q = P / 374, E = 374 * addrs_len + 2 * P - 1 edges.
+   Information bit 374 * g + j meets check (a + j * q) mod P for each address a of row g.
+
+   Bits. A byte is a bit; of a byte that is read only the lowest bit counts.
+
+   Memory. No function allocates or keeps anything, so calls on different slices may run in different threads.
+   raxdov_run wants about 190 KB of stack (have 256 KiB), every other function less than 16 KB. */
+#ifndef RAXDOV_H
+#define RAXDOV_H
+
+#include <stddef.h>
+#include <stdint.h>
+
+#ifdef __cplusplus
+extern "C" {
+#endif
+
+/* The numbers of refusal. */
+enum raxdov_refusal {
+    RAXDOV_ACCEPTED = 0,
+    RAXDOV_REFUSED_FORM = 1,             /* The report program's input is not of its form (no function here). */
+    RAXDOV_REFUSED_N = 2,                /* n is 0, not a multiple of 374, or above 44,880. */
+    RAXDOV_REFUSED_ROWS = 3,             /* 374 times the row count is n or more. */
+    RAXDOV_REFUSED_ROW_LENGTH = 4,       /* A row has more than 128 addresses. */
+    RAXDOV_REFUSED_ADDRESSES = 5,        /* Row lengths don't add up to the address list's length. */
+    RAXDOV_REFUSED_EQUAL_ADDRESSES = 6,  /* More than 126 addresses are equal modulo q. */
+    RAXDOV_REFUSED_LANES = 7,            /* Lanes are not 1 to 64. */
+    RAXDOV_REFUSED_WORDS = 8,            /* The soft values are not a whole number of n-long words, or make over
+                                            4,096 words. */
+    RAXDOV_REFUSED_ITERATION_LIMIT = 9,  /* The iteration limit is above 65,535. */
+    RAXDOV_REFUSED_STEP = 10,            /* The schedule is layered with step 0. */
+    RAXDOV_REFUSED_BCH = 11,             /* A BCH word is not 193 to 65,535 bits, a BCH message is over 65,343, or a
+                                            run's BCH part passes the end of its word. */
+    RAXDOV_REFUSED_SIZE = 12,            /* Information is not k long, a hard word not n, or a check number is P or
+                                            more. */
+    RAXDOV_REFUSED_TOO_SHORT = 13        /* A lent output or work slice is too short. */
+};
+
+/* The BCH result of a word that is uncorrectable, or lost. */
+#define RAXDOV_LOST 4294967295u
+
+/* BCH: parity bits, bits that it corrects, the shortest and the longest word. */
+#define RAXDOV_BCH_PARITY 192
+#define RAXDOV_BCH_ERRORS 12
+#define RAXDOV_BCH_SHORTEST 193
+#define RAXDOV_BCH_LONGEST 65535
+
+/* What raxdov_ldpc_sizes writes: sizes[RAXDOV_SIZES_K] .. */
+enum raxdov_sizes {
+    RAXDOV_SIZES_K = 0,
+    RAXDOV_SIZES_P = 1,
+    RAXDOV_SIZES_Q = 2,
+    RAXDOV_SIZES_E = 3,
+    RAXDOV_SIZES_LISTS = 4, /* the elements of lists that raxdov_ldpc_new is lent: P + 1 + E */
+    RAXDOV_SIZES_COUNT = 5
+};
+
+/* What raxdov_run_sizes writes. */
+enum raxdov_run_needs {
+    RAXDOV_NEEDS_WORK = 0,  /* the elements of work: (n + 3 * E) * lanes */
+    RAXDOV_NEEDS_INDEX = 1, /* the elements of index: E + P + 1 */
+    RAXDOV_NEEDS_COUNT = 2
+};
+
+/* A word's record: records[RAXDOV_RECORD_COUNT * w + RAXDOV_RECORD_STATE] .. of word w. */
+enum raxdov_record {
+    RAXDOV_RECORD_STATE = 0,       /* enum raxdov_state */
+    RAXDOV_RECORD_ITERATIONS = 1,  /* the rounds in which a lane held the word */
+    RAXDOV_RECORD_UNSATISFIED = 2, /* unsatisfied checks: of a held word's bits, of a finished word's before BCH */
+    RAXDOV_RECORD_CHECK = 3,       /* one of those checks, whichever; 0 if there is none */
+    RAXDOV_RECORD_BCH = 4,         /* bits corrected, or RAXDOV_LOST; 0 of a word that is not finished */
+    RAXDOV_RECORD_COUNT = 5
+};
+
+enum raxdov_state {
+    RAXDOV_WAITING = 0, /* no lane took the word: a record of zeros, output bits left as they were */
+    RAXDOV_HELD = 1,    /* a lane holds the word: its hard decisions are written, without BCH */
+    RAXDOV_MET = 2,     /* finished with every check met, then corrected by BCH */
+    RAXDOV_UNMET = 3    /* finished at the iteration limit with checks unmet, then corrected by BCH */
+};
+
+/* The tally: tally[RAXDOV_TALLY_ROUNDS] .. */
+enum raxdov_tally {
+    RAXDOV_TALLY_ROUNDS = 0,
+    RAXDOV_TALLY_LOADED = 1,     /* words that a lane took */
+    RAXDOV_TALLY_ITERATIONS = 2, /* iterations given: the sum of the records' */
+    RAXDOV_TALLY_KEPT = 3,       /* finished words that BCH accepts */
+    RAXDOV_TALLY_LOST = 4,       /* finished words that BCH refuses */
+    RAXDOV_TALLY_COUNT = 5
+};
+
+/* How a run ended. */
+enum raxdov_ending {
+    RAXDOV_FINISHED = 0, /* every word is finished */
+    RAXDOV_STOPPED = 1   /* the round limit was used up with words held */
+};
+
+/* Soft values from floats: out[i] = llr[i] * scale, one f32 product, rounded to the nearest whole number with halves
+   away from zero, clamped to -127 .. 127; a NaN gives 0.
+   out: llr_len elements. Refused by 13. */
+uint32_t raxdov_quantise(const float *llr, size_t llr_len, float scale, int8_t *out, size_t out_len);
+
+/* The sizes of a code (enum raxdov_sizes). Refused by 2 to 6. */
+uint32_t raxdov_ldpc_sizes(uint32_t n, const uint32_t *lens, size_t lens_len, const uint16_t *addrs, size_t addrs_len,
+                           uint32_t sizes[5]);
+
+/* The lists of all checks: lists gets row_start (P + 1 numbers), then rows (E bit numbers); the bits of check c are
+   rows[row_start[c]] to rows[row_start[c + 1] - 1]. code gets k, P, q, E.
+   lists: P + 1 + E elements. Refused by 2 to 6 and 13. */
+uint32_t raxdov_ldpc_new(uint32_t n, const uint32_t *lens, size_t lens_len, const uint16_t *addrs, size_t addrs_len,
+                         uint32_t *lists, size_t lists_len, uint32_t code[4]);
+
+/* The bits of check c: its information bits ascending, k + c - 1 (not for c = 0), k + c; count gets how many.
+   out: as many elements, which is 2 and one for each address equal to c modulo q (one less for c = 0); 128 always do.
+   Refused by 2 to 6, 12 (c) and 13. */
+uint32_t raxdov_ldpc_check(uint32_t n, const uint32_t *lens, size_t lens_len, const uint16_t *addrs, size_t addrs_len,
+                           uint32_t c, uint32_t *out, size_t out_len, uint32_t *count);
+
+/* The parity of k information bits. info: k bytes; out: P elements. Refused by 2 to 6, 12 and 13. */
+uint32_t raxdov_ldpc_parity(uint32_t n, const uint32_t *lens, size_t lens_len, const uint16_t *addrs, size_t addrs_len,
+                            const uint8_t *info, size_t info_len, uint8_t *out, size_t out_len);
+
+/* The codeword: the k information bytes as they are, then their parity. out: n elements.
+   Refused by 2 to 6, 12 and 13. */
+uint32_t raxdov_ldpc_encode(uint32_t n, const uint32_t *lens, size_t lens_len, const uint16_t *addrs, size_t addrs_len,
+                            const uint8_t *info, size_t info_len, uint8_t *out, size_t out_len);
+
+/* count gets the number of unsatisfied checks of a hard word. bits: n bytes. Refused by 2 to 6 and 12. */
+uint32_t raxdov_ldpc_syndrome_weight(uint32_t n, const uint32_t *lens, size_t lens_len, const uint16_t *addrs,
+                                     size_t addrs_len, const uint8_t *bits, size_t bits_len, uint32_t *count);
+
+/* The 192 parity bits of a message of 0 to 65,343 bits, highest power first. out: 192 elements.
+   Refused by 11 and 13. */
+uint32_t raxdov_bch_parity(const uint8_t *message, size_t message_len, uint8_t *out, size_t out_len);
+
+/* The codeword: the message's bytes as they are, then its parity. out: message_len + 192 elements.
+   Refused by 11 and 13. */
+uint32_t raxdov_bch_encode(const uint8_t *message, size_t message_len, uint8_t *out, size_t out_len);
+
+/* Corrects a word of 193 to 65,535 bits in place, exactly if a codeword lies within 12 bits of it. result gets how
+   many bits were changed, or RAXDOV_LOST; a lost word may have bits changed. Refused by 11. */
+uint32_t raxdov_bch_decode(uint8_t *word, size_t word_len, uint32_t *result);
+
+/* RAXDOV_RECORD_COUNT and RAXDOV_TALLY_COUNT of the archive that is linked. */
+uint32_t raxdov_record_words(void);
+uint32_t raxdov_tally_words(void);
+
+/* What raxdov_run is to be lent as work and index (enum raxdov_run_needs). Refused by 2 to 7. */
+uint32_t raxdov_run_sizes(uint32_t n, const uint32_t *lens, size_t lens_len, const uint16_t *addrs, size_t addrs_len,
+                          uint32_t lanes, size_t sizes[2]);
+
+/* A run: words of soft values are decoded side by side in lanes, and each finished word's BCH part is corrected.
+   soft     n values a word, one word after the other; a negative value speaks for a 1. At most 4,096 words.
+   lanes    1 to 64
+   limit    iterations that a word may get, at most 65,535
+   layered  0: the sequential schedule (step plays no part); any other number: the layered one with step
+   step     checks that read the same values, 1 or more; 374 or more: a whole layer
+   offset   subtracted from the magnitude of every message
+   rounds   round limit: no more rounds than this, 0 too; UINT32_MAX never stops a run early
+   first, length   the BCH part of every word: bits first to first + length - 1
+   out      gets n bits a word: n * words elements
+   records  gets enum raxdov_record for each word: 5 * words elements
+   tally    gets enum raxdov_tally, counted afresh
+   ending   gets enum raxdov_ending
+   work, index   as raxdov_run_sizes says; what they hold does not matter, and they are left zero
+   Refused by 2 to 11 and 13. */
+uint32_t raxdov_run(uint32_t n, const uint32_t *lens, size_t lens_len, const uint16_t *addrs, size_t addrs_len,
+                    const int8_t *soft, size_t soft_len, uint32_t lanes, uint32_t limit, uint32_t layered,
+                    uint32_t step, int8_t offset, uint32_t rounds, uint32_t first, uint32_t length, uint8_t *out,
+                    size_t out_len, uint32_t *records, size_t records_len, uint32_t tally[5], uint32_t *ending,
+                    int8_t *work, size_t work_len, uint32_t *index, size_t index_len);
+
+#ifdef __cplusplus
+}
+#endif
+
+#endif

@@ -1,0 +1,23 @@
+//! Times the archive and the original on the same input in one process, in turn, and writes tables and charts. See docs/BENCH.md.
+
+mod chart;
+mod codes;
+mod noise;
+mod runs;
+mod time;
+
+const USAGE: &str = "bench codes | runs [CHART.svg] | noise [CHART.svg] [WORDS]";
+
+fn main() {
+    let words: Vec<String> = std::env::args().skip(1).collect();
+    let chart = words.get(1).map(String::as_str);
+    match words.first().map(String::as_str) {
+        Some("codes") => codes::bench(),
+        Some("runs") => runs::bench(chart),
+        Some("noise") => noise::bench(
+            chart,
+            words.get(2).and_then(|w| w.parse().ok()).unwrap_or(200),
+        ),
+        _ => println!("{USAGE}"),
+    }
+}

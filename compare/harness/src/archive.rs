@@ -1,0 +1,350 @@
+//! The archive's functions (bindings/c/raxdov.h), over lent slices.
+
+use crate::lent::Lent;
+
+unsafe extern "C" {
+    fn raxdov_quantise(
+        llr: *const f32,
+        llr_len: usize,
+        scale: f32,
+        out: *mut i8,
+        out_len: usize,
+    ) -> u32;
+    fn raxdov_ldpc_sizes(
+        n: u32,
+        lens: *const u32,
+        rows: usize,
+        addrs: *const u16,
+        addresses: usize,
+        sizes: *mut u32,
+    ) -> u32;
+    fn raxdov_ldpc_new(
+        n: u32,
+        lens: *const u32,
+        rows: usize,
+        addrs: *const u16,
+        addresses: usize,
+        lists: *mut u32,
+        lists_len: usize,
+        code: *mut u32,
+    ) -> u32;
+    fn raxdov_ldpc_check(
+        n: u32,
+        lens: *const u32,
+        rows: usize,
+        addrs: *const u16,
+        addresses: usize,
+        c: u32,
+        out: *mut u32,
+        out_len: usize,
+        count: *mut u32,
+    ) -> u32;
+    fn raxdov_ldpc_parity(
+        n: u32,
+        lens: *const u32,
+        rows: usize,
+        addrs: *const u16,
+        addresses: usize,
+        info: *const u8,
+        info_len: usize,
+        out: *mut u8,
+        out_len: usize,
+    ) -> u32;
+    fn raxdov_ldpc_encode(
+        n: u32,
+        lens: *const u32,
+        rows: usize,
+        addrs: *const u16,
+        addresses: usize,
+        info: *const u8,
+        info_len: usize,
+        out: *mut u8,
+        out_len: usize,
+    ) -> u32;
+    fn raxdov_ldpc_syndrome_weight(
+        n: u32,
+        lens: *const u32,
+        rows: usize,
+        addrs: *const u16,
+        addresses: usize,
+        bits: *const u8,
+        bits_len: usize,
+        count: *mut u32,
+    ) -> u32;
+    fn raxdov_bch_parity(
+        message: *const u8,
+        message_len: usize,
+        out: *mut u8,
+        out_len: usize,
+    ) -> u32;
+    fn raxdov_bch_encode(
+        message: *const u8,
+        message_len: usize,
+        out: *mut u8,
+        out_len: usize,
+    ) -> u32;
+    fn raxdov_bch_decode(word: *mut u8, word_len: usize, result: *mut u32) -> u32;
+    fn raxdov_record_words() -> u32;
+    fn raxdov_tally_words() -> u32;
+    fn raxdov_run_sizes(
+        n: u32,
+        lens: *const u32,
+        rows: usize,
+        addrs: *const u16,
+        addresses: usize,
+        lanes: u32,
+        sizes: *mut usize,
+    ) -> u32;
+    fn raxdov_run(
+        n: u32,
+        lens: *const u32,
+        rows: usize,
+        addrs: *const u16,
+        addresses: usize,
+        soft: *const i8,
+        soft_len: usize,
+        lanes: u32,
+        limit: u32,
+        layered: u32,
+        step: u32,
+        offset: i8,
+        rounds: u32,
+        first: u32,
+        length: u32,
+        out: *mut u8,
+        out_len: usize,
+        records: *mut u32,
+        records_len: usize,
+        tally: *mut u32,
+        ending: *mut u32,
+        work: *mut i8,
+        work_len: usize,
+        index: *mut u32,
+        index_len: usize,
+    ) -> u32;
+}
+
+/// The BCH result of an uncorrectable or lost word.
+pub const LOST: u32 = u32::MAX;
+
+/// A code as it is lent.
+pub struct Table {
+    pub n: u32,
+    pub lens: Lent<u32>,
+    pub addrs: Lent<u16>,
+}
+
+impl Table {
+    pub fn unchanged(&self) -> Result<(), String> {
+        self.lens.unchanged("lens")?;
+        self.addrs.unchanged("addrs")
+    }
+}
+
+/// A run's settings.
+#[derive(Clone, Copy, Debug)]
+pub struct Settings {
+    pub lanes: u32,
+    pub limit: u32,
+    pub layered: u32,
+    pub step: u32,
+    pub offset: i8,
+    pub rounds: u32,
+    pub first: u32,
+    pub length: u32,
+}
+
+/// What a run is lent to write.
+pub struct Space {
+    pub out: Lent<u8>,
+    pub records: Lent<u32>,
+    pub tally: Lent<u32>,
+    pub ending: Lent<u32>,
+    pub work: Lent<i8>,
+    pub index: Lent<u32>,
+}
+
+// Every pointer below is that of a live slice of the length passed with it, or of the array's own length; nothing is
+// lent twice.
+
+pub fn quantise(llr: &Lent<f32>, scale: f32, out: &mut Lent<i8>) -> u32 {
+    let n = out.len();
+    unsafe { raxdov_quantise(llr.ptr(), llr.len(), scale, out.ptr_mut(), n) }
+}
+
+pub fn ldpc_sizes(t: &Table, sizes: &mut Lent<u32>) -> u32 {
+    assert_eq!(sizes.len(), 5);
+    unsafe {
+        raxdov_ldpc_sizes(
+            t.n,
+            t.lens.ptr(),
+            t.lens.len(),
+            t.addrs.ptr(),
+            t.addrs.len(),
+            sizes.ptr_mut(),
+        )
+    }
+}
+
+pub fn ldpc_new(t: &Table, lists: &mut Lent<u32>, code: &mut Lent<u32>) -> u32 {
+    assert_eq!(code.len(), 4);
+    let n = lists.len();
+    unsafe {
+        raxdov_ldpc_new(
+            t.n,
+            t.lens.ptr(),
+            t.lens.len(),
+            t.addrs.ptr(),
+            t.addrs.len(),
+            lists.ptr_mut(),
+            n,
+            code.ptr_mut(),
+        )
+    }
+}
+
+pub fn ldpc_check(t: &Table, c: u32, out: &mut Lent<u32>, count: &mut Lent<u32>) -> u32 {
+    assert_eq!(count.len(), 1);
+    let n = out.len();
+    unsafe {
+        raxdov_ldpc_check(
+            t.n,
+            t.lens.ptr(),
+            t.lens.len(),
+            t.addrs.ptr(),
+            t.addrs.len(),
+            c,
+            out.ptr_mut(),
+            n,
+            count.ptr_mut(),
+        )
+    }
+}
+
+pub fn ldpc_parity(t: &Table, info: &Lent<u8>, out: &mut Lent<u8>) -> u32 {
+    let n = out.len();
+    unsafe {
+        raxdov_ldpc_parity(
+            t.n,
+            t.lens.ptr(),
+            t.lens.len(),
+            t.addrs.ptr(),
+            t.addrs.len(),
+            info.ptr(),
+            info.len(),
+            out.ptr_mut(),
+            n,
+        )
+    }
+}
+
+pub fn ldpc_encode(t: &Table, info: &Lent<u8>, out: &mut Lent<u8>) -> u32 {
+    let n = out.len();
+    unsafe {
+        raxdov_ldpc_encode(
+            t.n,
+            t.lens.ptr(),
+            t.lens.len(),
+            t.addrs.ptr(),
+            t.addrs.len(),
+            info.ptr(),
+            info.len(),
+            out.ptr_mut(),
+            n,
+        )
+    }
+}
+
+pub fn ldpc_syndrome_weight(t: &Table, bits: &Lent<u8>, count: &mut Lent<u32>) -> u32 {
+    assert_eq!(count.len(), 1);
+    unsafe {
+        raxdov_ldpc_syndrome_weight(
+            t.n,
+            t.lens.ptr(),
+            t.lens.len(),
+            t.addrs.ptr(),
+            t.addrs.len(),
+            bits.ptr(),
+            bits.len(),
+            count.ptr_mut(),
+        )
+    }
+}
+
+pub fn bch_parity(message: &Lent<u8>, out: &mut Lent<u8>) -> u32 {
+    let n = out.len();
+    unsafe { raxdov_bch_parity(message.ptr(), message.len(), out.ptr_mut(), n) }
+}
+
+pub fn bch_encode(message: &Lent<u8>, out: &mut Lent<u8>) -> u32 {
+    let n = out.len();
+    unsafe { raxdov_bch_encode(message.ptr(), message.len(), out.ptr_mut(), n) }
+}
+
+pub fn bch_decode(word: &mut Lent<u8>, result: &mut Lent<u32>) -> u32 {
+    assert_eq!(result.len(), 1);
+    let n = word.len();
+    unsafe { raxdov_bch_decode(word.ptr_mut(), n, result.ptr_mut()) }
+}
+
+pub fn record_words() -> u32 {
+    unsafe { raxdov_record_words() }
+}
+
+pub fn tally_words() -> u32 {
+    unsafe { raxdov_tally_words() }
+}
+
+pub fn run_sizes(t: &Table, lanes: u32, sizes: &mut Lent<usize>) -> u32 {
+    assert_eq!(sizes.len(), 2);
+    unsafe {
+        raxdov_run_sizes(
+            t.n,
+            t.lens.ptr(),
+            t.lens.len(),
+            t.addrs.ptr(),
+            t.addrs.len(),
+            lanes,
+            sizes.ptr_mut(),
+        )
+    }
+}
+
+pub fn run(t: &Table, soft: &Lent<i8>, set: Settings, to: &mut Space) -> u32 {
+    assert_eq!((to.tally.len(), to.ending.len()), (5, 1));
+    let (out, records, work, index) = (
+        to.out.len(),
+        to.records.len(),
+        to.work.len(),
+        to.index.len(),
+    );
+    unsafe {
+        raxdov_run(
+            t.n,
+            t.lens.ptr(),
+            t.lens.len(),
+            t.addrs.ptr(),
+            t.addrs.len(),
+            soft.ptr(),
+            soft.len(),
+            set.lanes,
+            set.limit,
+            set.layered,
+            set.step,
+            set.offset,
+            set.rounds,
+            set.first,
+            set.length,
+            to.out.ptr_mut(),
+            out,
+            to.records.ptr_mut(),
+            records,
+            to.tally.ptr_mut(),
+            to.ending.ptr_mut(),
+            to.work.ptr_mut(),
+            work,
+            to.index.ptr_mut(),
+            index,
+        )
+    }
+}
