@@ -1,8 +1,7 @@
 -- From the run over the lanes to the promise: the words' statuses, demand 3, the tally's sums.
 use mathlib.Core.Path.{_≡_, refl, sym, ap, ap₂, _∙_, subst, subst₂}
-use mathlib.Core.Logic.{_≢_}
 use mathlib.Core.Bool.{Bool}
-use mathlib.Core.List.{List, [], _∷_, _++_}
+use mathlib.Core.List.{List, _++_}
 use Prim.Native.Nat.{ℕ, zero, suc, _+_, _-_, _*_, _≤_, _<_}
 use native.Mathlib.Omega.{arith}
 use lib.IntN.{ℤ, pos}
@@ -15,14 +14,13 @@ use Rattle.ldpc_edges.specs.Code.{edgeLists}
 use Rattle.ldpc_edges.specs.Layout.{lists-length}
 use Rattle.fixed_code.specs.Lists.{edgesIn}
 use Rattle.fixed_code.specs.Code.{edges-are}
-use Rattle.schedule.specs.Status.{Status, status, sum, largest, longest}
+use Rattle.schedule.specs.Status.{largest, longest}
 use Rattle.schedule.specs.Status as schedule
 use Rattle.schedule.specs.Demand.{Demand}
-use Rattle.schedule.specs.Theorem.{input-order, input-once, input-count, demand-in-input-order}
+use Rattle.schedule.specs.Theorem.{input-order, input-count, demand-in-input-order}
 use Rattle.outcome.specs.Code.{codeOf}
 use Rattle.decoder_refuse.specs.Refusal.{workNeed, indexNeed}
 use Rattle.decoder_words.specs.Book.{Book, View, book, view, ownPart, Room}
-use Rattle.decoder_words.specs.Tells.{untouched}
 use Rattle.decoder_words.specs.Given.{Given}
 use Rattle.decoder_words.specs.declared.Plan.{Plan}
 use Rattle.decoder_assign.specs.Assign.{Ordered}

@@ -1,9 +1,9 @@
 -- Refused or accepted: what the refusal's number says, and the promise from each side.
 use mathlib.Core.Path.{_≡_, refl, sym, ap, _∙_, transport}
 use mathlib.Core.Logic.{_≢_}
-use mathlib.Core.Bool.{Bool, true, false, _&&_}
+use mathlib.Core.Bool.{Bool, false, _&&_}
 use mathlib.Core.List.{List}
-use Prim.Native.Nat.{ℕ, _+_, _*_, _/_, _%_, _≤_, _<_}
+use Prim.Native.Nat.{ℕ, _+_, _*_, _/_, _<_}
 use native.Mathlib.Nat.{div-add-mod'}
 use native.Mathlib.Omega.{arith}
 use borrow.Author.Tests.{eqb-false}
@@ -17,8 +17,8 @@ use Rattle.decoder_refuse.specs.Accepted.{Accepted, accepted}
 use Rattle.decoder_refuse.specs.declared.Asked.{Asked}
 use Rattle.decoder_words.specs.declared.Plan.{Plan}
 use Rattle.decoder_iterate.specs.Iterate.{Stepped}
-use Rattle.decoder.specs.Settings.{isLayered, stepOf, askedOf, lentOf, runRefusal, nothing, planOf}
-use Rattle.decoder.specs.Runs.{Accepts, Refuses, Runs}
+use Rattle.decoder.specs.Settings.{isLayered, stepOf, lentOf, runRefusal, nothing}
+use Rattle.decoder.specs.Runs.{Accepts, Runs}
 use Rattle.decoder.specs.Accept.{Planned}
 use Rattle.decoder.specs.declared.Ran.{Ran}
 use Rattle.decoder.specs.declared.Settings.{Settings}

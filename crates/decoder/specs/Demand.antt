@@ -1,16 +1,13 @@
 -- Demand 3 of what a run wrote, joined from the run's definition and a word alone.
 use mathlib.Core.Path.{_≡_, refl, sym, ap, ap₂, _∙_, subst}
-use mathlib.Core.Bool.{Bool}
 use mathlib.Core.List.{List, [], _∷_}
-use Prim.Native.Nat.{ℕ, _+_, _-_, _*_, _≤_, _<_, max}
-use native.Mathlib.Omega.{arith}
+use Prim.Native.Nat.{ℕ, _+_, _-_, _≤_, _<_, max}
 use lib.IntN.{ℤ}
-use lib.ListN.{length, getD}
 use Rattle.lane_math.specs.Check.{Word}
 use Rattle.lane_math.specs.Iteration.{Code}
 use Rattle.schedule.specs.Run.{Words, Result}
 use Rattle.schedule.specs.Alone.{after, ends}
-use Rattle.schedule.specs.Status.{Status, waiting, holding, done, status, spent, sum, largest, given, longest, count}
+use Rattle.schedule.specs.Status.{Status, waiting, holding, done, status, spent, sum, largest, given, longest}
 use Rattle.schedule.specs.Demand.{Demand, As-alone}
 use Rattle.schedule.specs.Theorem.{spent-within}
 use Rattle.outcome.specs.Outcome.{Outcome, begin, ownWord, metOf, bitsOf, outcomeOf, alone}

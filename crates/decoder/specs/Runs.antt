@@ -8,7 +8,7 @@ use Prim.Native.Nat.{ℕ, _+_, _-_, _*_, _≤_, _<_}
 use lib.IntN.{ℤ, pos}
 use lib.ListN.{length, getD, drop, replicate}
 use Rattle.lane_math.specs.Check.{Word}
-use Rattle.ldpc_shape.specs.Shape.{pOf, eOf}
+use Rattle.ldpc_shape.specs.Shape.{eOf}
 use Rattle.schedule.specs.Run.{Words, Result, run, held}
 use Rattle.schedule.specs.Status.{waiting, status, largest}
 use Rattle.schedule.specs.Demand.{Demand}
@@ -16,7 +16,7 @@ use Rattle.schedule.specs.Loop.{is-stopped}
 use Rattle.schedule.specs.Theorem.{input-order}
 use Rattle.outcome.specs.Code.{codeOf}
 use Rattle.decoder_refuse.specs.Refusal.{workNeed, indexNeed}
-use Rattle.decoder_words.specs.Book.{View, book, view, ownPart}
+use Rattle.decoder_words.specs.Book.{book, view, ownPart}
 use Rattle.decoder_words.specs.Tells.{Tells}
 use Rattle.decoder_words.specs.Given.{wordsOf}
 use Rattle.decoder_words.specs.declared.Plan.{Plan}

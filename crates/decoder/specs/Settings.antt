@@ -4,14 +4,11 @@ use mathlib.Core.List.{List}
 use Prim.Native.Nat.{ℕ, _/_}
 use lib.IntN.{ℤ}
 use lib.ListN.{length, replicate}
-use Rattle.lane_math.specs.Check.{Word}
-use Rattle.lane_math.specs.Iteration.{Code}
 use Rattle.ldpc_shape.specs.Shape.{pOf}
 use Rattle.decoder_refuse.specs.Refusal.{refusalOf}
 use Rattle.decoder_refuse.specs.declared.Asked.{Asked}
 use Rattle.decoder_refuse.specs.declared.Lent.{Lent}
 use Rattle.decoder_words.specs.declared.Plan.{Plan}
-use Rattle.decoder_iterate.specs.Iterate.{iterationOf}
 use Rattle.decoder.specs.declared.Schedule.{Schedule}
 use Rattle.decoder.specs.declared.Schedule.the-variants.{Sequential, Layered}
 use Rattle.decoder.specs.declared.Settings.{Settings}
@@ -59,7 +56,3 @@ nothing number =
 abbrev pub planOf : ℕ → List ℕ → List ℤ → Settings → Plan
 planOf n lens soft set =
     record { n = n; p = pOf n lens; lanes = set .lanes; limit = set .limit; first = set .first; size = set .length; words = length soft / n }
-
--- one iteration of a word, by the schedule
-abbrev pub iterateOf : Code → ℕ → List ℕ → Settings → Word → Word
-iterateOf code n lens set = iterationOf (isLayered (set .schedule)) (stepOf (set .schedule)) (set .offset) code (pOf n lens)

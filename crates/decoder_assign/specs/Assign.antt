@@ -1,6 +1,6 @@
 -- Refilling: which lane holds which word afterwards, and what is written of the words that leave at once. A lane that has just taken a word
 -- has 0 iterations, and its column is loaded afterwards.
-use mathlib.Core.Path.{_≡_, refl, sym, ap, _∙_}
+use mathlib.Core.Path.{_≡_, refl, sym, _∙_}
 use mathlib.Core.Logic.{_≢_}
 use mathlib.Core.Bool.{Bool, true, false, _||_}
 use mathlib.Core.List.{List}

@@ -1,6 +1,5 @@
 // Before a round, empty lanes, lowest first, take words in the order of loading. A word that is already a codeword (or any word, at
 // iteration limit 0) leaves with 0 iterations, and the lane refills.
-ghost use mathlib.Core.Path.{_≡_};
 ghost use Prim.Native.Nat.{_≤_};
 ghost use lib.ListN.{length};
 ghost use Rattle.schedule.specs.Lanes.{Sized};

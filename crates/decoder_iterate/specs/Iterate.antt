@@ -1,5 +1,5 @@
 -- One iteration of a word, by the schedule: sequential, or layered with its step. q = P / 374.
-use mathlib.Core.Path.{_≡_, refl, sym, ap, _∙_}
+use mathlib.Core.Path.{_≡_, sym, ap, _∙_}
 use mathlib.Core.Bool.{Bool, true, false}
 use mathlib.Core.List.{List}
 use Prim.Native.Nat.{ℕ, _+_, _*_, _/_, _≤_, _<_}
@@ -10,7 +10,7 @@ use Rattle.lane_math.specs.Check.{Word}
 use Rattle.lane_math.specs.Iteration.{Code, sequential, layered}
 use Rattle.simd.specs.Words.{word}
 use Rattle.ldpc_shape.specs.Shape.{pOf, qOf, eOf, refusalOf}
-use Rattle.ldpc_shape.specs.Accepted.{Accepted, accepted}
+use Rattle.ldpc_shape.specs.Accepted.{accepted}
 use Rattle.ldpc_edges.specs.Code.{edgeLists}
 use Rattle.fixed_code.specs.Lists.{edgesIn}
 use Rattle.fixed_code.specs.Code.{codeOf, code-in, edges-are}

@@ -1,5 +1,4 @@
 // One iteration of every lane's word, by the schedule.
-ghost use mathlib.Core.Path.{_≡_};
 ghost use Rattle.decoder_lanes.specs.Lane.{Working};
 ghost use Rattle.decoder_iterate.specs.Iterate.{Iterates, Coded, Stepped};
 use decoder_words::Plan;

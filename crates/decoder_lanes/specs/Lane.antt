@@ -1,6 +1,6 @@
 -- One lane's word read out of the memory: its bits and what was counted.
-use mathlib.Core.Path.{_≡_, refl, sym, ap, _∙_}
-use mathlib.Core.List.{List, [], _∷_, _++_, append-nil}
+use mathlib.Core.Path.{_≡_, refl, ap, _∙_}
+use mathlib.Core.List.{List, _∷_, _++_, append-nil}
 use Prim.Native.Nat.{ℕ, zero, suc, _+_, _-_, _*_, _≤_, _<_}
 use native.Mathlib.Nat.{mul-le-mul, mul-le-mul-right}
 use native.Mathlib.Omega.{arith}
@@ -8,14 +8,14 @@ use lib.IntN.{ℤ}
 use lib.ListN.{length, take, drop, length-drop, drop-of-length-le}
 use lib.Seq.{length-take-le}
 use Rattle.lane_math.specs.Check.{Word}
-use Rattle.lane_math.specs.Iteration.{Code, hard, unsatisfiedCount}
+use Rattle.lane_math.specs.Iteration.{Code, hard}
 use Rattle.lane_memory.specs.Column.{column}
 use Rattle.simd.specs.Words.{within, wordOf, word}
 use Rattle.fixed_code.specs.Lists.{edgesIn, codeIn, Memory}
 use Rattle.fixed_lanes.specs.Read.{decisions}
 use Rattle.fixed_syndrome.specs.Unmet as syndrome
 use Rattle.fixed_syndrome.specs.declared.Unmet.{Unmet}
-use Rattle.outcome.specs.Outcome.{ownWord, bitsFrom, bitsOf, unmetOf, Names}
+use Rattle.outcome.specs.Outcome.{ownWord, bitsFrom, bitsOf, unmetOf}
 use Rattle.outcome.specs.Scan.{Counted}
 use Rattle.decoder_words.specs.Part.{word-ends}
 use Rattle.decoder_words.specs.declared.Plan.{Plan}

@@ -3,7 +3,7 @@ use mathlib.Core.Path.{_≡_, refl, sym, ap, _∙_, subst₂}
 use mathlib.Core.Logic.{_≢_}
 use mathlib.Core.Bool.{Bool, true, false, cond}
 use mathlib.Core.List.{List}
-use Prim.Native.Nat.{ℕ, _+_, _-_, _*_, _≤_, _<_}
+use Prim.Native.Nat.{ℕ, _+_, _-_, _≤_, _<_}
 use native.Mathlib.Decide.{ℕ-discrete}
 use native.Mathlib.Omega.{arith}
 use borrow.Author.Tests.{eqb-true, eqb-false}
@@ -12,7 +12,7 @@ use lib.IntN.{ℤ, pos}
 use lib.ListN.{length, getD, set}
 use lib.Seq.{getD-set-same, getD-set-other}
 use Rattle.lane_math.specs.Check.{Word}
-use Rattle.simd.specs.Words.{within, wordOf, word}
+use Rattle.simd.specs.Words.{wordOf, word}
 use Rattle.fixed_lanes.specs.Load.{Loaded, loaded-word}
 use Rattle.fixed_lanes.specs.Clear.{on, Cleared, cleared-fresh, cleared-other}
 use Rattle.outcome.specs.Outcome.{begin, ownWord}

@@ -4,7 +4,7 @@ ghost use Prim.Native.Nat.{_+_, _*_, _/_, _<_, _≤_};
 ghost use lib.ListN.{length};
 ghost use Rattle.ldpc_shape.specs.Shape.{pOf, eOf};
 ghost use Rattle.ldpc_shape.specs.Shape as shape;
-ghost use Rattle.decoder_refuse.specs.Refusal.{badLanes, badWords, badLimit, badStep, badPart, tooShort, workNeed, refusalOf};
+ghost use Rattle.decoder_refuse.specs.Refusal.{badLanes, badWords, badStep, badPart, tooShort, workNeed, refusalOf};
 
 // A run's settings as far as a refusal speaks of them; the sequential schedule has no step.
 pub struct Asked {

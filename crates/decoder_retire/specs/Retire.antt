@@ -7,14 +7,14 @@ use Prim.Native.Nat.{ℕ, _+_, _-_, _*_, _≤_, _<_}
 use native.Mathlib.Omega.{arith}
 use lib.Dec.{eqb}
 use lib.IntN.{ℤ}
-use lib.ListN.{length, getD, set, drop, length-set}
+use lib.ListN.{getD, set, drop, length-set}
 use lib.Seq.{getD-set-other}
 use Rattle.lane_math.specs.Check.{Word}
 use Rattle.lane_math.specs.Iteration.{Code}
 use Rattle.schedule.specs.Run.{over}
 use Rattle.schedule.specs.Status.{Status, done}
 use Rattle.schedule.specs.Lanes.{Sized}
-use Rattle.schedule.specs.Round.{Retired, Leaving, leaving-start, leaving-skip, leaving-stay, leaving-leave, leaving-as, leaving-end}
+use Rattle.schedule.specs.Round.{Retired, Leaving, leaving-start, leaving-skip, leaving-stay, leaving-leave, leaving-end}
 use Rattle.outcome.specs.Outcome.{metOf}
 use Rattle.decoder_words.specs.Book.{Book, view, Same, Only, same-refl, same-on}
 use Rattle.decoder_words.specs.Tells.{Ends, put, put-same, put-other, told-put}

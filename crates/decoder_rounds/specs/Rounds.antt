@@ -14,9 +14,8 @@ use lib.Seq.{getD-set-same, getD-set-other}
 use Rattle.lane_math.specs.Check.{Word}
 use Rattle.lane_math.specs.Iteration.{Code, unsatisfiedCount}
 use Rattle.simd.specs.Words.{word}
-use Rattle.ldpc_shape.specs.Shape.{pOf}
-use Rattle.ldpc_shape.specs.Accepted.{Accepted, accepted, p-le}
-use Rattle.fixed_code.specs.Lists.{Lists, Memory, memory-to, edgesIn}
+use Rattle.ldpc_shape.specs.Accepted.{accepted, p-le}
+use Rattle.fixed_code.specs.Lists.{Lists, memory-to, edgesIn}
 use Rattle.fixed_code.specs.Code.{code-in, lists-in}
 use Rattle.fixed_syndrome.specs.Met.{Met}
 use Rattle.schedule.specs.Run.{Result, run}
@@ -26,7 +25,7 @@ use Rattle.schedule.specs.Lanes.{Setup, Sized}
 use Rattle.schedule.specs.Refill.{Assigned, fresh}
 use Rattle.schedule.specs.Round.{advanced}
 use Rattle.schedule.specs.Close.{told, close-start, close-end, loaded-are}
-use Rattle.schedule.specs.Loop.{is-stopped, Going, Pausing, Ready, Runs, going-start, pausing-later, ready-later, sized-later, ends-finished, ends-stopped, goes-on}
+use Rattle.schedule.specs.Loop.{is-stopped, Going, Pausing, Runs, going-start, pausing-later, ready-later, sized-later, ends-finished, ends-stopped, goes-on}
 use Rattle.outcome.specs.Code.{codeOf}
 use Rattle.outcome.specs.Outcome.{begin, ownWord, metOf, unmetOf}
 use Rattle.decoder_words.specs.Book.{Book, view, ownPart, Same, same-refl, same-on}

@@ -1,14 +1,13 @@
 -- A finished word's record from what was counted and from BCH.
-use mathlib.Core.Path.{_≡_, refl, sym, ap, _∙_, subst, subst₂}
-use mathlib.Core.List.{List}
+use mathlib.Core.Path.{_≡_, ap, _∙_, subst₂}
 use Prim.Native.Nat.{ℕ}
 use lib.Dec.{eqb}
 use Rattle.lane_math.specs.Check.{Word}
 use Rattle.lane_math.specs.Iteration.{Code}
-use Rattle.outcome.specs.Outcome.{outcomeOf, unmetOf, metOf, bitsOf, stateOf, corrected, bchOf, Names}
+use Rattle.outcome.specs.Outcome.{outcomeOf, metOf, bitsOf, stateOf, corrected, bchOf}
 use Rattle.outcome.specs.Scan.{Counted}
 use Rattle.decoder_words.specs.Book.{View}
-use Rattle.decoder_words.specs.Tells.{Ends, Holds, outcomeIn}
+use Rattle.decoder_words.specs.Tells.{Ends, Holds}
 
 pub counted-to : {code : Code} {p p′ : ℕ} {x x′ : Word} {count check : ℕ} → p′ ≡ p → x′ ≡ x → Counted code p′ x′ count check → Counted code p x count check
 counted-to {code} {p} {p′} {x} {x′} {count} {check} e f k = subst₂ (λ (q : ℕ) (y : Word). Counted code q y count check) e f k

@@ -1,5 +1,5 @@
 -- What a run of an accepted call knows: the code and its lists, the words' soft values, the settings; and the run's words as the schedule takes them.
-use mathlib.Core.Path.{_≡_, refl, sym, ap, _∙_}
+use mathlib.Core.Path.{_≡_, ap, _∙_}
 use mathlib.Core.List.{List}
 use Prim.Native.Nat.{ℕ, _+_, _-_, _*_, _≤_, _<_}
 use native.Mathlib.Nat.{mul-le-mul}
@@ -10,7 +10,7 @@ use lib.Seq.{length-take-le}
 use Rattle.lane_math.specs.Check.{Word}
 use Rattle.lane_math.specs.Iteration.{Code}
 use Rattle.ldpc_shape.specs.Shape.{pOf, refusalOf}
-use Rattle.ldpc_shape.specs.Accepted.{Accepted, accepted}
+use Rattle.ldpc_shape.specs.Accepted.{accepted}
 use Rattle.ldpc_edges.specs.Code.{edgeLists}
 use Rattle.schedule.specs.Run.{Words}
 use Rattle.schedule.specs.Status.{Status, waiting, holding, done}

@@ -1,5 +1,5 @@
 -- A word's part of the output, written from the middle.
-use mathlib.Core.Path.{_≡_, refl, sym, ap, ap₂, _∙_, subst}
+use mathlib.Core.Path.{_≡_, refl, sym, ap, _∙_}
 use mathlib.Core.Logic.{_≢_}
 use mathlib.Core.Bool.{Bool, true, false}
 use mathlib.Core.List.{List, _++_}
@@ -11,7 +11,7 @@ use lib.Dec.{ltb}
 use lib.ListN.{length, getD, set, take, drop, length-set, length-append, length-drop}
 use lib.Seq.{length-take-le, take-at, drop-at, take-take, drop-drop, getD-set-same, getD-set-other}
 use Rattle.laws.specs.Lists.{drop-take}
-use Rattle.decoder_words.specs.Book.{Book, View, view, ownPart, Same, Room, Only}
+use Rattle.decoder_words.specs.Book.{Book, View, view, ownPart, Room, Only}
 
 -- word u's end is not behind a later word's start
 pub word-ends : (n u w : ℕ) → u < w → u * n + n ≤ w * n

@@ -1,6 +1,6 @@
 -- What memory says of a word, by its status: "One record per word goes into a lent list: state (0 waiting, 1 held, 2 met, 3 unmet), iterations,
 -- unsatisfied checks, one unsatisfied check (any; 0 if none), BCH result (corrected count, or lost; 0 before finishing)."
-use mathlib.Core.Path.{_≡_, refl, sym, ap, _∙_, subst}
+use mathlib.Core.Path.{_≡_, refl, sym, ap, subst}
 use mathlib.Core.Logic.{_≢_}
 use mathlib.Core.Bool.{Bool, true, false, cond}
 use mathlib.Core.List.{List}
