@@ -8,10 +8,20 @@ use harness::random::Random;
 use oracle::ldpc::fixed::quantise;
 use std::hint::black_box;
 
-/// n 44,880 with 60 rows and E 224,399.
-pub fn plan(r: &mut Random) -> Plan {
+/// n 44,880 with 60 rows and E 224,399. Unless `pairs`, no two addresses of a row are equal modulo q.
+pub fn plan(r: &mut Random, pairs: bool) -> Plan {
     let lens: Vec<u32> = (0..60).map(|g| if g < 30 { 13 } else { 3 }).collect();
-    let addrs = (0..480).map(|_| r.below(22_440) as u16).collect();
+    let mut addrs = Vec::new();
+    for &l in &lens {
+        let mut layers = Vec::new();
+        while layers.len() < l as usize {
+            let layer = r.below(60);
+            if pairs || !layers.contains(&layer) {
+                layers.push(layer);
+                addrs.push((layer + 60 * r.below(374)) as u16);
+            }
+        }
+    }
     let plan = Plan {
         n: 44_880,
         lens,
@@ -56,7 +66,7 @@ pub fn bench() {
     );
     line("quantise, 44,880 values", &p, 1.0);
 
-    let plan = plan(&mut r);
+    let plan = plan(&mut r, false);
     let table = plan.lent(&mut r);
     let code = plan.code();
     let info = r.bits(code.k());

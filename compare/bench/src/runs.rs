@@ -2,9 +2,10 @@
 
 use crate::chart::{Chart, Series};
 use crate::codes::plan;
+use crate::noise;
 use crate::time::pair;
 use harness::archive::{self, Settings, Space, Table};
-use harness::input::{self, Kind};
+use harness::input::{self, Kind, Plan};
 use harness::lent::Lent;
 use harness::random::Random;
 use harness::scope;
@@ -50,13 +51,79 @@ pub fn space(r: &mut Random, table: &Table, words: usize, lanes: u32) -> Space {
     }
 }
 
+/// Both sides on the same words: the archive's word-iterations a second, and the original's.
+fn both(
+    r: &mut Random,
+    plan: &Plan,
+    lanes: u32,
+    layered: u32,
+    step: u32,
+    mix: bool,
+    what: &str,
+) -> (f64, f64) {
+    let code = plan.code();
+    let table = plan.lent(r);
+    // no word converges in 20 iterations, or each does in its own time
+    let words = if mix {
+        3 * lanes as usize
+    } else {
+        lanes as usize
+    };
+    let length = if mix { 22_440 } else { 193 };
+    let soft = if mix {
+        noise::words(r, &code, -1.0, words)
+    } else {
+        input::soft(r, &code, words, Kind::Random, 0, length)
+    };
+    let set = Settings {
+        lanes,
+        limit: 20,
+        layered,
+        step,
+        offset: 1,
+        rounds: u32::MAX,
+        first: 0,
+        length: length as u32,
+    };
+    let mut to = space(r, &table, words, lanes);
+    let lent = Lent::of(&soft, r);
+    let list: Vec<&[i8]> = soft.chunks(44_880).collect();
+    let mut theirs = decoder(lanes);
+    let p = pair(
+        if lanes > 16 { 9 } else { 15 },
+        1,
+        || assert_eq!(archive::run(&table, &lent, set, &mut to), 0),
+        || {
+            for mut bits in theirs.decode(&code, &list, harness::run::params(set)) {
+                black_box(oracle::bch::decode(&mut bits[..length]).is_ok());
+            }
+        },
+    );
+    let (given, kept) = (f64::from(to.tally.now()[2]), to.tally.now()[3]);
+    let told = if mix {
+        format!(
+            "{words}, {:.1} iterations a word, {kept} kept",
+            given / words as f64
+        )
+    } else {
+        format!("{words}, 20 iterations each")
+    };
+    println!(
+        "| {told} | {what} | {lanes} | {:.0} | {:.0} | {:.2} | {:.2} to {:.2} |",
+        given / p.ours.least,
+        given / p.theirs.least,
+        p.ratio,
+        p.low,
+        p.high
+    );
+    (given / p.ours.least, given / p.theirs.least)
+}
+
 pub fn bench(file: Option<&str>) {
     let mut r = Random(9);
-    let plan = plan(&mut r);
-    let code = plan.code();
-    let table = plan.lent(&mut r);
+    let (apart, pairs) = (plan(&mut r, false), plan(&mut r, true));
     let mut chart = Chart::new(
-        "Word-iterations a second, n 44,880, E 224,399",
+        "Word-iterations a second, n 44,880, E 224,399, 20 iterations",
         "lanes",
         "word-iterations a second",
     );
@@ -70,65 +137,10 @@ pub fn bench(file: Option<&str>) {
         ("layered 374", 1, 374),
     ] {
         let (mut a, mut b) = (Vec::new(), Vec::new());
-        for mix in [false, true] {
-            for lanes in LANES {
-                // no word converges in 20 iterations, or each in its own time
-                let words = if mix {
-                    3 * lanes as usize
-                } else {
-                    lanes as usize
-                };
-                let kind = if mix { Kind::Noise(0.62) } else { Kind::Random };
-                let soft = input::soft(&mut r, &code, words, kind, 0, 22_440);
-                let set = Settings {
-                    lanes,
-                    limit: 20,
-                    layered,
-                    step,
-                    offset: 1,
-                    rounds: u32::MAX,
-                    first: 0,
-                    length: if mix { 22_440 } else { 193 },
-                };
-                let mut to = space(&mut r, &table, words, lanes);
-                let lent = Lent::of(&soft, &mut r);
-                let list: Vec<&[i8]> = soft.chunks(44_880).collect();
-                let mut theirs = decoder(lanes);
-                let p = pair(
-                    if lanes > 16 { 7 } else { 11 },
-                    1,
-                    || assert_eq!(archive::run(&table, &lent, set, &mut to), 0),
-                    || {
-                        for mut bits in theirs.decode(&code, &list, harness::run::params(set)) {
-                            black_box(
-                                oracle::bch::decode(&mut bits[..set.length as usize]).is_ok(),
-                            );
-                        }
-                    },
-                );
-                let given = f64::from(to.tally.now()[2]);
-                println!(
-                    "| {} | {name} | {lanes} | {:.0} | {:.0} | {:.2} | {:.2} to {:.2} |",
-                    if mix {
-                        format!(
-                            "{words}, converging: {:.1} iterations a word, {} kept",
-                            given / words as f64,
-                            to.tally.now()[3]
-                        )
-                    } else {
-                        format!("{words}, 20 iterations each")
-                    },
-                    given / p.ours.least,
-                    given / p.theirs.least,
-                    p.ratio,
-                    p.low,
-                    p.high
-                );
-                if !mix {
-                    a.push((f64::from(lanes), given / p.ours.least));
-                    b.push((f64::from(lanes), given / p.theirs.least));
-                }
-            }
+        for lanes in LANES {
+            let (x, y) = both(&mut r, &apart, lanes, layered, step, false, name);
+            a.push((f64::from(lanes), x));
+            b.push((f64::from(lanes), y));
         }
         chart.add(Series {
             name: format!("Raxdov, {name}"),
@@ -140,6 +152,18 @@ pub fn bench(file: Option<&str>) {
             points: b,
             dashed: true,
         });
+    }
+    for lanes in LANES {
+        both(&mut r, &apart, lanes, 0, 0, true, "sequential");
+    }
+    for lanes in LANES {
+        both(&mut r, &apart, lanes, 1, 374, true, "layered 374");
+    }
+    for step in [34, 374] {
+        for lanes in [1, 16, 64] {
+            let what = format!("layered {step}, equal addresses");
+            both(&mut r, &pairs, lanes, 1, step, false, &what);
+        }
     }
     if let Some(file) = file {
         std::fs::write(file, chart.svg(false)).unwrap();
