@@ -11,7 +11,7 @@
 //! a seed of four. The state starts at the seed plus w. For each place six numbers are drawn: the value is a, or -a where the base word has a 1, and noise of -b to b;
 //! it is negated by chance of c in 256, any value by chance of d, one of -128, -1, 0, 1, 127 by chance of e; then clamped.
 //!
-//! The output is lent with (7i + 13) mod 251 at place i, work with 77 and index with 777,777,777.
+//! The output is lent with (7i + 13) mod 251 at place i, work with 77, index with 777,777,777, and the tally with 901 to 905.
 
 use oracle::bch;
 use oracle::ldpc::Code;
@@ -208,7 +208,7 @@ impl Seen {
         self.input.extend(case.bytes(0, &[]));
         let out: Vec<u8> = (0..case.out).map(|i| ((7 * i + 13) % 251) as u8).collect();
         let (work, index) = (case.work, case.index);
-        writeln!(self.output, "{} refused {number} {} 0 {work} 0 {index}", self.cases, sum(&out)).unwrap();
+        writeln!(self.output, "{} refused {number} 901 902 903 904 905 {} 0 {work} 0 {index}", self.cases, sum(&out)).unwrap();
         self.cases += 1;
         self.count("refused");
     }
