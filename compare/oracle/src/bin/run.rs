@@ -446,7 +446,11 @@ fn case(choice: &mut Choice, t: usize, (n, lens, addrs): &(u32, Vec<u32>, Vec<u1
     let set = Settings {
         lanes,
         limit: if wide { choice.of(&LIMITS[..3]) } else { choice.of(&LIMITS) },
-        step: if t % 3 == 0 { None } else { Some(STEPS[(t / 3 * 2 + t % 3 - 1) % 9]) },
+        step: match t % 3 {
+            0 => None,
+            _ if wide => Some(choice.of(&[1, 2, 7])),
+            r => Some(STEPS[(t / 3 * 2 + r - 1) % 9]),
+        },
         offset: if t % 2 == 0 { choice.of(&OFFSETS) } else { choice.of(&[0, 1, 2]) },
         rounds: u32::MAX,
         first: part.0,
@@ -563,6 +567,14 @@ fn edges(choice: &mut Choice, seen: &mut Seen) {
     many.set.rounds = 1;
     many.recipes = vec![recipe(1, 0, 1), recipe(9, 40, 2)];
     seen.accepted(&many);
+    // as many edges of a variable in a run of checks as there may be, and many in a whole layer
+    for (many, step) in [(126, 61), (40, 374)] {
+        let mut dense = Case { lens: vec![many], addrs: (0..many as u16).map(|i| i * 3).collect(), soft: 748, ..plain() };
+        dense.set = Settings { lanes: 1, limit: 2, step: Some(step), offset: -128, ..dense.set };
+        dense.recipes = vec![Recipe { a: 1, b: 3, seed: 4, ..Recipe::default() }];
+        dense.lend(1, 1, 1, 1);
+        seen.accepted(&dense);
+    }
     let mut long = plain();
     long.set.limit = 65_535;
     long.set.step = Some(u32::MAX);
