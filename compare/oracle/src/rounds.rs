@@ -62,9 +62,49 @@ pub fn code(n: usize, lens: &[u32], addrs: &[u16]) -> Code {
     Code::new(n, &table)
 }
 
-/// E.
-pub fn edges(code: &Code) -> usize {
-    (0..code.checks()).map(|c| code.check(c).len()).sum()
+/// How many i8s and u32s of work a run needs, of a code that is not refused.
+pub fn work(n: u32, lens: &[u32], addrs: &[u16], lanes: u32) -> (usize, usize) {
+    let code = code(n as usize, lens, addrs);
+    let e: usize = (0..code.checks()).map(|c| code.check(c).len()).sum();
+    ((code.n() + 3 * e) * lanes as usize, e + code.checks() + 1)
+}
+
+/// The scope's numbers of refusal from 2 to 11, in their order; 0 if none applies.
+pub fn refusal(n: u32, lens: &[u32], addrs: &[u16], soft: usize, s: &Settings) -> u32 {
+    let (n, rows, soft) = (u64::from(n), lens.len() as u64, soft as u64);
+    if n == 0 || n % 374 != 0 || n > 44_880 {
+        return 2;
+    }
+    if 374 * rows >= n {
+        return 3;
+    }
+    if lens.iter().any(|&l| l > 128) {
+        return 4;
+    }
+    if lens.iter().map(|&l| u64::from(l)).sum::<u64>() != addrs.len() as u64 {
+        return 5;
+    }
+    let q = (n - 374 * rows) / 374;
+    let equal = |a: u64| addrs.iter().filter(|&&b| u64::from(b) % q == a % q).count();
+    if addrs.iter().any(|&a| equal(u64::from(a)) > 126) {
+        return 6;
+    }
+    if s.lanes == 0 || s.lanes > 64 {
+        return 7;
+    }
+    if soft % n != 0 || soft / n > 4096 {
+        return 8;
+    }
+    if s.limit > 65_535 {
+        return 9;
+    }
+    if s.step == Some(0) {
+        return 10;
+    }
+    if s.length < 193 || s.length > 65_535 || u64::from(s.first) + u64::from(s.length) > n {
+        return 11;
+    }
+    0
 }
 
 fn unsatisfied(code: &Code, bits: &[u8]) -> Vec<usize> {

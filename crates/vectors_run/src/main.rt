@@ -1,7 +1,7 @@
 // Replays runs with a round limit. Standard input has cases in the form of compare/oracle/src/bin/run.rs; the file stdout
-// holds what the unchanged Rust gives for them. A case prints how it ended, rounds, words loaded, iterations given, kept and
-// lost (or its refusal), a sum over the whole lent output, and of both work slices how many zeros stand in front and how many
-// numbers behind are as they were. A word prints state, iterations, unsatisfied checks, BCH result, and 1 if the check that it
+// holds what the unchanged Rust gives for them. A case prints how it ended (or its refusal), the tally (rounds, words loaded,
+// iterations given, kept, lost), a sum over the whole lent output, and of both work slices how many zeros stand in front and
+// how many numbers behind are as they were. A word prints state, iterations, unsatisfied checks, BCH result, and 1 if the check that it
 // names is one of its unsatisfied checks, or 0 if there is none.
 ghost use mathlib.Core.Path.{_≡_};
 ghost use Prim.Native.Nat.{_+_, _<_, _≤_};
@@ -9,6 +9,8 @@ ghost use lib.ListN.{length};
 use decoder::Ran;
 use decoder::Schedule;
 use decoder::Settings;
+use meter::Answer;
+use meter::Tally;
 
 // How a soft word is made.
 struct Recipe {
@@ -333,26 +335,42 @@ fn show_memory(out: &[u8], work: &[i8], index: &[u32]) {
     io::write_all(1, b"\n");
 }
 
-fn show_tally(rounds: u32, loaded: u32, given: u32, kept: u32, lost: u32) {
-    show(rounds as u64);
-    show(loaded as u64);
-    show(given as u64);
-    show(kept as u64);
-    show(lost as u64);
+fn show_answer(answer: Answer) {
+    match answer {
+        Answer::Finished => {
+            io::write_all(1, b"finished ");
+        }
+        Answer::Stopped => {
+            io::write_all(1, b"stopped ");
+        }
+        Answer::Refused(r) => {
+            io::write_all(1, b"refused ");
+            show(r as u64)
+        }
+    }
 }
 
+fn show_tally(tally: Tally) {
+    show(tally.rounds as u64);
+    show(tally.loaded as u64);
+    show(tally.iterations as u64);
+    show(tally.kept as u64);
+    show(tally.lost as u64);
+}
+
+// How a run ended, and the tally that it makes of one with other numbers.
 fn show_ending(ran: Ran) {
-    if ran.refusal != 0 {
-        io::write_all(1, b"refused ");
-        show(ran.refusal as u64);
-        return;
-    }
-    if ran.stopped {
-        io::write_all(1, b"stopped ");
-    } else {
-        io::write_all(1, b"finished ");
-    }
-    show_tally(ran.rounds, ran.loaded, ran.given, ran.kept, ran.lost);
+    show_answer(meter::answer_of(ran));
+    show_tally(meter::tally_of(
+        ran,
+        Tally {
+            rounds: 901,
+            loaded: 902,
+            iterations: 903,
+            kept: 904,
+            lost: 905,
+        },
+    ));
 }
 
 // Whether the named check is one that the map at a bit has, or 0 if there is none.

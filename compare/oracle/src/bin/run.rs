@@ -11,7 +11,7 @@
 //! a seed of four. The state starts at the seed plus w. For each place six numbers are drawn: the value is a, or -a where the base word has a 1, and noise of -b to b;
 //! it is negated by chance of c in 256, any value by chance of d, one of -128, -1, 0, 1, 127 by chance of e; then clamped.
 //!
-//! The output is lent with (7i + 13) mod 251 at place i, work with 77 and index with 777,777,777.
+//! The output is lent with (7i + 13) mod 251 at place i, work with 77, index with 777,777,777, and the tally with 901 to 905.
 
 use oracle::bch;
 use oracle::ldpc::Code;
@@ -91,51 +91,15 @@ struct Case {
 }
 
 impl Case {
-    /// The numbers of refusal that a run can give, in their order; 0 if none applies.
+    /// The number of refusal; 0 if none applies.
     fn refusal(&self) -> u32 {
-        let (n, rows, total) = (u64::from(self.n), self.lens.len() as u64, self.addrs.len() as u64);
-        let s = &self.set;
-        if n == 0 || n % 374 != 0 || n > 44_880 {
-            return 2;
+        let number = rounds::refusal(self.n, &self.lens, &self.addrs, self.soft, &self.set);
+        if number > 0 {
+            return number;
         }
-        if 374 * rows >= n {
-            return 3;
-        }
-        if self.lens.iter().any(|&l| l > 128) {
-            return 4;
-        }
-        if self.lens.iter().map(|&l| u64::from(l)).sum::<u64>() != total {
-            return 5;
-        }
-        let p = n - 374 * rows;
-        let mut equal: BTreeMap<u64, u32> = BTreeMap::new();
-        for &a in &self.addrs {
-            *equal.entry(u64::from(a) % (p / 374)).or_default() += 1;
-        }
-        if equal.values().any(|&m| m > 126) {
-            return 6;
-        }
-        if s.lanes == 0 || s.lanes > 64 {
-            return 7;
-        }
-        let soft = self.soft as u64;
-        if soft % n != 0 || soft / n > 4096 {
-            return 8;
-        }
-        if s.limit > 65_535 {
-            return 9;
-        }
-        if s.step == Some(0) {
-            return 10;
-        }
-        if s.length < 193 || s.length > 65_535 || u64::from(s.first) + u64::from(s.length) > n {
-            return 11;
-        }
-        let e = 374 * total + 2 * p - 1;
-        let work = (n + 3 * e) * u64::from(s.lanes);
-        let index = e + p + 1;
-        let short = |lent: usize, need: u64| (lent as u64) < need;
-        if short(self.out, soft) || short(self.room, soft / n) || short(self.work, work) || short(self.index, index) {
+        let (work, index) = rounds::work(self.n, &self.lens, &self.addrs, self.set.lanes);
+        let words = self.soft / self.n as usize;
+        if self.out < self.soft || self.room < words || self.work < work || self.index < index {
             return 13;
         }
         0
@@ -143,12 +107,11 @@ impl Case {
 
     /// Slices as long as needed, and longer by these.
     fn lend(&mut self, out: usize, room: usize, work: usize, index: usize) {
-        let code = rounds::code(self.n as usize, &self.lens, &self.addrs);
-        let e = rounds::edges(&code);
+        let need = rounds::work(self.n, &self.lens, &self.addrs, self.set.lanes);
         self.out = self.soft + out;
         self.room = self.soft / self.n as usize + room;
-        self.work = (self.n as usize + 3 * e) * self.set.lanes as usize + work;
-        self.index = e + code.checks() + 1 + index;
+        self.work = need.0 + work;
+        self.index = need.1 + index;
     }
 
     fn word(&self, w: usize) -> Vec<i8> {
@@ -245,7 +208,7 @@ impl Seen {
         self.input.extend(case.bytes(0, &[]));
         let out: Vec<u8> = (0..case.out).map(|i| ((7 * i + 13) % 251) as u8).collect();
         let (work, index) = (case.work, case.index);
-        writeln!(self.output, "{} refused {number} {} 0 {work} 0 {index}", self.cases, sum(&out)).unwrap();
+        writeln!(self.output, "{} refused {number} 901 902 903 904 905 {} 0 {work} 0 {index}", self.cases, sum(&out)).unwrap();
         self.cases += 1;
         self.count("refused");
     }
@@ -263,9 +226,7 @@ impl Seen {
                 out[w * code.n()..(w + 1) * code.n()].copy_from_slice(bits);
             }
         }
-        let e = rounds::edges(&code);
-        let work = (code.n() + 3 * e) * case.set.lanes as usize;
-        let index = e + code.checks() + 1;
+        let (work, index) = rounds::work(case.n, &case.lens, &case.addrs, case.set.lanes);
         let ending = if ran.stopped { "stopped" } else { "finished" };
         write!(self.output, "{} {ending} {} {} ", self.cases, ran.rounds, ran.loaded).unwrap();
         write!(self.output, "{} {} {} {} ", ran.given, ran.kept, ran.lost, sum(&out)).unwrap();
@@ -485,7 +446,11 @@ fn case(choice: &mut Choice, t: usize, (n, lens, addrs): &(u32, Vec<u32>, Vec<u1
     let set = Settings {
         lanes,
         limit: if wide { choice.of(&LIMITS[..3]) } else { choice.of(&LIMITS) },
-        step: if t % 3 == 0 { None } else { Some(STEPS[(t / 3 * 2 + t % 3 - 1) % 9]) },
+        step: match t % 3 {
+            0 => None,
+            _ if wide => Some(choice.of(&[1, 2, 7])),
+            r => Some(STEPS[(t / 3 * 2 + r - 1) % 9]),
+        },
         offset: if t % 2 == 0 { choice.of(&OFFSETS) } else { choice.of(&[0, 1, 2]) },
         rounds: u32::MAX,
         first: part.0,
@@ -602,6 +567,14 @@ fn edges(choice: &mut Choice, seen: &mut Seen) {
     many.set.rounds = 1;
     many.recipes = vec![recipe(1, 0, 1), recipe(9, 40, 2)];
     seen.accepted(&many);
+    // as many edges of a variable in a run of checks as there may be, and many in a whole layer
+    for (many, step) in [(126, 61), (40, 374)] {
+        let mut dense = Case { lens: vec![many], addrs: (0..many as u16).map(|i| i * 3).collect(), soft: 748, ..plain() };
+        dense.set = Settings { lanes: 1, limit: 2, step: Some(step), offset: -128, ..dense.set };
+        dense.recipes = vec![Recipe { a: 1, b: 3, seed: 4, ..Recipe::default() }];
+        dense.lend(1, 1, 1, 1);
+        seen.accepted(&dense);
+    }
     let mut long = plain();
     long.set.limit = 65_535;
     long.set.step = Some(u32::MAX);

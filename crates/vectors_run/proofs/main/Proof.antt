@@ -4,6 +4,7 @@ use mathlib.Core.Path.{sym}
 use Prim.Native.Nat.{ℕ}
 use lib.IntN.{ℤ, pos}
 use lib.ListN.{length-replicate}
+use native.Mathlib.Omega.{arith}
 use borrow.Author.Needs.{needs}
 use Rattle.vectors_run.proofs.main.Statement.{statement}
 use Rattle.vectors_run.proofs.main.Tie as tie
@@ -30,7 +31,7 @@ slice-aggregate-replay-7 : tie.Need-slice-aggregate-replay-7
 slice-aggregate-replay-7 c = sym (length-replicate {A = ℕ} 140000 0)
 
 replay-requires : tie.Need-replay-requires
-replay-requires c κs = search needs
+replay-requires c κs = omega (arith, length-replicate {A = ℕ} 400000 0)
 
 returns : tie.Need-returns
 returns c = search needs
