@@ -6,26 +6,27 @@ ghost use lib.ListN.{length};
 ghost use Rattle.fixed_code.specs.Lists.{rowsIn, Memory};
 ghost use Rattle.fixed.specs.Sequential.{Iterated};
 
-// Checks 0 to p − 1, each reading what the ones before it wrote. t is work of 128 times 16.
+// Checks 0 to p − 1, each reading what the ones before it wrote. t and u are work of 128 times 16.
 fn checks(
     index: &[u32],
     rows: &[u32],
     work: &mut [i8],
     t: &mut [i8],
+    u: &mut [i8],
     n: usize,
     p: usize,
     lanes: usize,
     offset: i8,
 )
     requires { ⌜ Memory n p lanes (now index) (now work) × (now rows ≡ rowsIn p (now index)) ⌝ }
-    requires { ⌜ 2048 ≤ length (now t) ⌝ }
+    requires { ⌜ (2048 ≤ length (now t)) × (2048 ≤ length (now u)) ⌝ }
     ensures { λ _. ⌜ Iterated n p lanes offset (now (index .entry)) (now (work .entry)) (now (work .exit)) ⌝ }
 {
     let mut c: usize = 0;
     while c < p {
         let s = fixed_code::start(index, c);
         let d = fixed_code::degree(index, n, p, c);
-        simd::check_node(rows, s, d, work, t, n, lanes, offset);
+        simd::check_node(rows, s, d, work, t, u, n, lanes, offset);
         c += 1;
     }
 }
@@ -37,5 +38,16 @@ pub fn iteration(index: &[u32], work: &mut [i8], n: usize, p: usize, lanes: usiz
 {
     let base = p + 1;
     let mut t: [i8; 2048] = [0; 2048];
-    checks(index, &index[base..], work, &mut t, n, p, lanes, offset);
+    let mut u: [i8; 2048] = [0; 2048];
+    checks(
+        index,
+        &index[base..],
+        work,
+        &mut t,
+        &mut u,
+        n,
+        p,
+        lanes,
+        offset,
+    );
 }

@@ -7,3 +7,4 @@ pub mod Back
 pub mod Run
 pub mod Runs
 pub mod Layered
+pub mod Alone

@@ -233,34 +233,3 @@ an-edge {n} {p} {lanes} {first} {q} {m} {index} r {s} {d} {pl} x i h e f g k =
       e-is = ap (λ (z : ℕ). z + i) (e ∙ sym (start-in p index (stepped first q x) (omega (arith, r .inside x h))));
       at-is = ap (λ (z : ℕ). z + i) g;
     }
-
--- ---- a check of a run in which no variable has several edges
-pub check-applied : {n p lanes first q m : ℕ} {index : List ℕ} {a b a′ : List ℤ} (x s d pl : ℕ) → InRun n p lanes first q m index b → x < m → s ≡ getD index (stepped first q x) 0
-    → s + d ≡ getD index (stepped first q x + 1) 0 → pl ≡ placeOf (codeIn p index) (stepped first q) x → ((v : ℕ) → Once (codeIn p index) (stepped first q) m v)
-    → ApplyMessages (rowsIn p index) s d n lanes pl a a′ → CheckBack n p lanes first q m x index a a′
-unfolding wordOf
-check-applied {n} {p} {lanes} {first} {q} {m} {index} {a} {b} {a′} x s d pl r h e f g once v =
-    record {
-      columns =
-          λ l t. (λ i u. go l t u (decLt u n) i)
-          ∙ (λ i. backCheck n (edgesIn p index) (codeIn p index) (stepped first q) m ((e ∙ sym (start-in p index (stepped first q x) (omega (arith, r .inside x h)))) i) (sym (degree-in p index (stepped first q x) s d (r .inside x h) e f) i) (column lanes a l) (column lanes a l));
-    }
-  where
-    value : (l k : ℕ) → k < d
-        → satZ (column lanes a l (n + edgesIn p index + (pl + k)) +ℤ word n (edgesIn p index) lanes a l .r (s + k)) ≡ valueAt n (edgesIn p index) (codeIn p index) (stepped first q) m (column lanes a l) (var (rowsIn p index) (s + k))
-    value l k c =
-        let d′ = an-edge r {d = d} x k h e f g c in
-        ap (λ (y : ℤ). satZ (column lanes a l (n + edgesIn p index + (pl + k)) +ℤ y)) (within-at (edgesIn p index) (λ e. column lanes a l (n + e)) (s + k) (edge-below r d′))
-        ∙ (λ i. satZ (column lanes a l (n + edgesIn p index + d′ .at-is i) +ℤ column lanes a l (n + d′ .e-is i)))
-        ∙ ap (λ (y : Sum). satZ (y .total))
-        (sym (run-one n (edgesIn p index) (codeIn p index) (stepped first q) (column lanes a l) (var (rowsIn p index) (s + k)) m (d′ .x) (d′ .k) (once (var (rowsIn p index) (s + k))) (d′ .in-run) (d′ .in-check) (ap (var (rowsIn p index)) (sym (d′ .e-is)))))
-
-    go : (l : ℕ) → l < lanes → (u : ℕ) → Dec (u < n) → column lanes a′ l u ≡ backCheck n (edgesIn p index) (codeIn p index) (stepped first q) m s d (column lanes a l) (column lanes a l) u
-    go l t u (yes c) =
-        sym (within-at n (column lanes a′ l) u c)
-        ∙ ap (λ (y : ℕ → ℤ). y u) (v .values l t)
-        ∙ ap (λ (y : ℕ → ℤ). y u) (wrote-same (λ k. var (rowsIn p index) (s + k)) _ _ (within n (column lanes a l)) d (value l))
-        ∙ wrote-base (λ k. var (rowsIn p index) (s + k)) _ (within n (column lanes a l)) (column lanes a l) d u (within-at n (column lanes a l) u c)
-    go l t u (no c) =
-        v .rest l t u (omega arith)
-        ∙ sym (wrote-other (λ k. var (rowsIn p index) (s + k)) _ (column lanes a l) d u (λ k w y. omega (arith, var-below r (an-edge r {d = d} x k h e f g w))))

@@ -36,7 +36,7 @@ unfolding wrote put
 wrote-base u x f g zero e h = h
 wrote-base u x f g (suc d) e h = ap (λ (z : ℤ). cond (eqb e (u d)) (x d) z) (wrote-base u x f g d e h)
 
-within-wrote : (E p d : ℕ) (x f g : ℕ → ℤ) → p + d ≤ E → ((e : ℕ) → e < E → g e ≡ wrote (λ k. p + k) x f d e) → within E g ≡ wrote (λ k. p + k) x (within E f) d
+pub within-wrote : (E p d : ℕ) (x f g : ℕ → ℤ) → p + d ≤ E → ((e : ℕ) → e < E → g e ≡ wrote (λ k. p + k) x f d e) → within E g ≡ wrote (λ k. p + k) x (within E f) d
 unfolding within
 within-wrote E p d x f g h is = λ i e. go e (ltb e E) refl i
   where

@@ -367,34 +367,6 @@ fn write_run(
     }
 }
 
-// The values of a run in which no variable has several edges.
-fn apply_run(
-    index: &[u32],
-    rows: &[u32],
-    work: &mut [i8],
-    places: &[u32],
-    n: usize,
-    p: usize,
-    lanes: usize,
-    first: usize,
-    q: usize,
-    m: usize,
-)
-    requires { ⌜ InRun n p lanes first q m (now index) (now work) × ((now rows ≡ rowsIn p (now index)) × Placed p first q m (now index) (now places)) ⌝ }
-    requires { ⌜ ((v : ℕ) → Once (codeIn p (now index)) (stepped first q) m v) ⌝ }
-    ensures { λ _. ⌜ RunBack n p lanes first q m (now (index .entry)) (now (work .entry)) m (now (work .exit)) ⌝ }
-{
-    let mut x: usize = 0;
-    while x < m {
-        let c = first + x * q;
-        let s = fixed_code::start(index, c);
-        let d = fixed_code::degree(index, n, p, c);
-        let place = places[x] as usize;
-        simd_layered::apply_messages(rows, s, d, work, n, lanes, place);
-        x += 1;
-    }
-}
-
 // The messages of the run, and where each check's t and old messages begin. t is work of 128 times 16.
 fn send_run(
     index: &[u32],
@@ -427,13 +399,46 @@ fn send_run(
     }
 }
 
-// One run: its messages from its starting values, then its values.
+// A run in which no variable has several edges: check after check, each with its values. t and u are work of 128 times 16.
+fn alone_run(
+    index: &[u32],
+    rows: &[u32],
+    work: &mut [i8],
+    t: &mut [i8],
+    u: &mut [i8],
+    n: usize,
+    p: usize,
+    lanes: usize,
+    offset: i8,
+    first: usize,
+    q: usize,
+    m: usize,
+)
+    requires { ⌜ InRun n p lanes first q m (now index) (now work) × (now rows ≡ rowsIn p (now index)) ⌝ }
+    requires { ⌜ ((v : ℕ) → Once (codeIn p (now index)) (stepped first q) m v) ⌝ }
+    requires { ⌜ (2048 ≤ length (now t)) × (2048 ≤ length (now u)) ⌝ }
+    ensures { λ _. ⌜ RunMade n p lanes offset (now (index .entry)) first q m (now (work .entry)) (now (work .exit)) ⌝ }
+{
+    let mut place: usize = 0;
+    let mut x: usize = 0;
+    while x < m {
+        let c = first + x * q;
+        let s = fixed_code::start(index, c);
+        let d = fixed_code::degree(index, n, p, c);
+        simd_layered::check_alone(rows, s, d, work, t, u, n, lanes, place, offset);
+        place += d;
+        x += 1;
+    }
+}
+
+// One run: in a layer that is not busy check after check; else its messages from its starting values, then its values.
 fn run(
     index: &[u32],
     rows: &[u32],
     work: &mut [i8],
     places: &mut [u32],
     t: &mut [i8],
+    u: &mut [i8],
     addrs: &[u16],
     starts: &[u32; 121],
     flags: &[bool; 120],
@@ -449,9 +454,13 @@ fn run(
 )
     requires { ⌜ InRun n p lanes first q m (now index) (now work) × (now rows ≡ rowsIn p (now index)) ⌝ }
     requires { ⌜ Shares k p q (codeIn p (now index)) first m (now addrs) (now starts) (now flags) busy × (k + p ≡ n) ⌝ }
-    requires { ⌜ (2048 ≤ length (now t)) × (m ≤ length (now places)) ⌝ }
+    requires { ⌜ (2048 ≤ length (now t)) × ((2048 ≤ length (now u)) × (m ≤ length (now places))) ⌝ }
     ensures { λ _. ⌜ RunMade n p lanes offset (now (index .entry)) first q m (now (work .entry)) (now (work .exit)) ⌝ }
 {
+    if !busy {
+        alone_run(index, rows, work, t, u, n, p, lanes, offset, first, q, m);
+        return;
+    }
     send_run(
         index,
         rows,
@@ -466,27 +475,23 @@ fn run(
         q,
         m,
     );
-    if busy {
-        write_run(
-            index,
-            rows,
-            work,
-            places,
-            addrs,
-            starts,
-            flags,
-            busy,
-            k,
-            n,
-            p,
-            lanes,
-            first,
-            q,
-            m,
-        );
-        return;
-    }
-    apply_run(index, rows, work, places, n, p, lanes, first, q, m);
+    write_run(
+        index,
+        rows,
+        work,
+        places,
+        addrs,
+        starts,
+        flags,
+        busy,
+        k,
+        n,
+        p,
+        lanes,
+        first,
+        q,
+        m,
+    );
 }
 
 fn least(a: usize, b: usize) -> usize
@@ -502,6 +507,7 @@ fn runs(
     work: &mut [i8],
     places: &mut [u32],
     t: &mut [i8],
+    u: &mut [i8],
     addrs: &[u16],
     starts: &[u32; 121],
     flags: &[bool; 120],
@@ -517,7 +523,7 @@ fn runs(
 )
     requires { ⌜ InLayer n p lanes q step l (now index) (now work) × (now rows ≡ rowsIn p (now index)) ⌝ }
     requires { ⌜ Shares k p q (codeIn p (now index)) l 374 (now addrs) (now starts) (now flags) busy × (k + p ≡ n) ⌝ }
-    requires { ⌜ (2048 ≤ length (now t)) × (374 ≤ length (now places)) ⌝ }
+    requires { ⌜ (2048 ≤ length (now t)) × ((2048 ≤ length (now u)) × (374 ≤ length (now places))) ⌝ }
     ensures { λ _. ⌜ RunsMade n p lanes offset (now (index .entry)) q step l (now (work .entry)) (runCount step) (now (work .exit)) ⌝ }
 {
     let mut at: usize = 0;
@@ -531,6 +537,7 @@ fn runs(
             work,
             places,
             t,
+            u,
             addrs,
             starts,
             flags,
@@ -556,6 +563,7 @@ fn layers(
     work: &mut [i8],
     places: &mut [u32],
     t: &mut [i8],
+    u: &mut [i8],
     addrs: &[u16],
     starts: &[u32; 121],
     flags: &[bool; 120],
@@ -569,7 +577,7 @@ fn layers(
     step: usize,
 )
     requires { ⌜ AllLayers k n p lanes q step (now index) (now work) (now addrs) (now starts) (now flags) (now busy) × (now rows ≡ rowsIn p (now index)) ⌝ }
-    requires { ⌜ (2048 ≤ length (now t)) × (374 ≤ length (now places)) ⌝ }
+    requires { ⌜ (2048 ≤ length (now t)) × ((2048 ≤ length (now u)) × (374 ≤ length (now places))) ⌝ }
     ensures { λ _. ⌜ LayersMade n p lanes offset (now (index .entry)) q step (now (work .entry)) q (now (work .exit)) ⌝ }
 {
     let mut l: usize = 0;
@@ -581,6 +589,7 @@ fn layers(
             work,
             places,
             t,
+            u,
             addrs,
             starts,
             flags,
@@ -624,6 +633,7 @@ pub fn layered_iteration(
     let q = p / 374;
     let base = p + 1;
     let mut t: [i8; 2048] = [0; 2048];
+    let mut u: [i8; 2048] = [0; 2048];
     let mut places: [u32; 374] = [0; 374];
     layers(
         index,
@@ -631,6 +641,7 @@ pub fn layered_iteration(
         work,
         &mut places,
         &mut t,
+        &mut u,
         addrs,
         &starts,
         &flags,

@@ -38,6 +38,16 @@ reduced-to {o} {o′} {m} e h = record { is = λ k q. h .is k q ∙ ap (λ (x : 
 pub reduced-none-negative : {o : ℤ} {m : List ℕ} {r : List ℤ} → Reduced o m r → NoneNegative r
 reduced-none-negative {o} {m} h = record { is = λ k q. ap (λ (y : ℤ). ltZ y (pos 0)) (h .is k q) ∙ reduced-nonneg o (min (n m k) 127) }
 
+-- made ready for the answers: the signs and the least as they are, both magnitudes less the offset
+pub record Readied (o : ℤ) (a b : List ℕ) (s s′ : List ℤ) (least : List ℕ) (m1 m2 : List ℤ) : Type 0 where
+  pub sign-is : (k : ℕ) → k < 16 → z s′ k ≡ z s k
+  pub least-is : (k : ℕ) → k < 16 → n least k ≡ n a k
+  pub r1 : Reduced o a m1
+  pub r2 : Reduced o b m2
+
+pub readied-to : {o o′ : ℤ} {a b : List ℕ} {s s′ : List ℤ} {least : List ℕ} {m1 m2 : List ℤ} → o ≡ o′ → Readied o a b s s′ least m1 m2 → Readied o′ a b s s′ least m1 m2
+readied-to e h = record { sign-is = h .sign-is; least-is = h .least-is; r1 = reduced-to e (h .r1); r2 = reduced-to e (h .r2) }
+
 -- one edge answered: its message and its variable's value
 pub record Answered (t s : List ℤ) (a : List ℕ) (m1 m2 : List ℤ) (m L : List ℤ) : Type 0 where
   pub message-is : (k : ℕ) → k < 16 → z m k ≡ replied (z t k) (z s k) (n a k) (z m1 k) (z m2 k)

@@ -1,6 +1,6 @@
 // Sixteen lanes by value: one fused loop for the scan of an edge and one for its answer.
 ghost use Prim.Native.Nat.{_≤_};
-ghost use Rattle.lane16.specs.Lanes.{Scanned, Reduced, NoneNegative, Answered, Added, Decided};
+ghost use Rattle.lane16.specs.Lanes.{Scanned, Readied, NoneNegative, Answered, Added, Decided};
 
 // Where a pass over a check's edges stands: the two smallest magnitudes, the sign of the product, and the last edge's t.
 pub struct Pass {
@@ -37,17 +37,35 @@ pub fn scan(st: Pass, lv: [i8; 16], rv: [i8; 16]) -> Pass
     }
 }
 
-// Magnitudes less the offset.
-pub fn reduce(a: [u8; 16], offset: i8) -> [i8; 16]
-    ensures { λ r. ⌜ Reduced offset a r ⌝ }
+// What the answers to a check's edges are made of: the signs, the least magnitude, and both magnitudes less the offset.
+pub struct Ready {
+    pub sign: [i8; 16],
+    pub least: [u8; 16],
+    pub m1: [i8; 16],
+    pub m2: [i8; 16],
+}
+
+pub fn prepare(st: Pass, offset: i8) -> Ready
+    ensures { λ r. ⌜ Readied offset (st .min1) (st .min2) (st .sign) (r .sign) (r .least) (r .m1) (r .m2) ⌝ }
 {
-    let mut v: [i8; 16] = [0; 16];
+    let mut sign: [i8; 16] = [0; 16];
+    let mut least: [u8; 16] = [0; 16];
+    let mut m1: [i8; 16] = [0; 16];
+    let mut m2: [i8; 16] = [0; 16];
     let mut i: usize = 0;
     while i < 16 {
-        v[i] = lane_math::reduce(a[i], offset);
+        sign[i] = st.sign[i];
+        least[i] = st.min1[i];
+        m1[i] = lane_math::reduce(st.min1[i], offset);
+        m2[i] = lane_math::reduce(st.min2[i], offset);
         i += 1;
     }
-    v
+    Ready {
+        sign: sign,
+        least: least,
+        m1: m1,
+        m2: m2,
+    }
 }
 
 // An edge's message and its variable's value.

@@ -8,9 +8,9 @@ use lib.IntN.{ℤ, _+ℤ_}
 use Rattle.lane_math.specs.Value.{satZ, replied}
 use Rattle.lane_math.specs.Check.{message, put}
 use Rattle.lane_math.specs.Laws.{put-other}
-use Rattle.lane16.specs.Lanes.{z, n, Reduced, Answered, Added}
+use Rattle.lane16.specs.Lanes.{z, n, Readied, Answered, Added}
 use Rattle.lane_memory.specs.Column.{column, Off, Stored, Part}
-use Rattle.simd.specs.Pass.{tAt, Scan, answer, answer-is}
+use Rattle.simd.specs.Pass.{tAt, Scan, answer, answer-is, prepared, least-reduced}
 
 -- A column after d edges have their t and their old messages in the rows of the run's edges from place p on, and their new
 -- messages m in their own rows
@@ -72,14 +72,14 @@ module _ {w s base E p lanes at : ℕ} {t g : List ℤ} {least : List ℕ} {m1 m
 pub kept-end : {w s base E p lanes at : ℕ} {t g : List ℤ} {least : List ℕ} {m1 m2 a : List ℤ} {i d : ℕ} {a′ : List ℤ} → i ≡ d → Kept w s base E p lanes at t g least m1 m2 a i a′ → Kept w s base E p lanes at t g least m1 m2 a d a′
 kept-end {w} {s} {base} {E} {p} {lanes} {at} {t} {g} {least} {m1} {m2} {a} {i} {d} {a′} e c = subst (λ (j : ℕ). Kept w s base E p lanes at t g least m1 m2 a j a′) e c
 
-pub messages-chunk-is : {w : ℕ} {v : ℕ → ℕ} {s d base E p lanes at : ℕ} {a a′ t g : List ℤ} {m1 m2 : List ℕ} {o : ℤ} {r1 r2 : List ℤ} → w ≤ 16 → Scan v s base lanes at a d t m1 m2 g → Reduced o m1 r1 → Reduced o m2 r2
-    → Kept w s base E p lanes at t g m1 r1 r2 a d a′ → Part (messagesColumn o v s d base E p) w lanes at a a′
+pub messages-chunk-is : {w : ℕ} {v : ℕ → ℕ} {s d base E p lanes at : ℕ} {a a′ t g g′ : List ℤ} {m1 m2 least : List ℕ} {o : ℤ} {r1 r2 : List ℤ} → w ≤ 16 → Scan v s base lanes at a d t m1 m2 g → Readied o m1 m2 g g′ least r1 r2
+    → Kept w s base E p lanes at t g′ least r1 r2 a d a′ → Part (messagesColumn o v s d base E p) w lanes at a a′
 unfolding messagesColumn
-messages-chunk-is {w} {v} {s} {d} {base} {E} {p} {lanes} {at} {a} {a′} {t} {g} {m1} {m2} {o} {r1} {r2} narrow c h1 h2 b =
+messages-chunk-is {w} {v} {s} {d} {base} {E} {p} {lanes} {at} {a} {a′} narrow c r b =
     record {
       inside =
           λ k q. b .inside k q
-          ∙ messaged-same base E s p _ _ _ _ (column lanes a (at + k)) d (λ e h. c .t-is k (omega arith) e h) (λ e h. answer-is c h1 h2 k (omega arith) e h);
+          ∙ messaged-same base E s p _ _ _ _ (column lanes a (at + k)) d (λ e h. c .t-is k (omega arith) e h) (λ e h. answer-is (prepared c r) (least-reduced c r) (r .r2) k (omega arith) e h);
       outside = b .outside;
     }
 

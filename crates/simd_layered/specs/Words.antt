@@ -31,7 +31,7 @@ pub record ApplyMessages (rows : List ℕ) (s d n lanes place : ℕ) (a a′ : L
   pub rest : (i : ℕ) → i < lanes → (u : ℕ) → n ≤ u → column lanes a′ i u ≡ column lanes a i u
 
 -- ---- the messages
-put-both : (f : ℕ → ℤ) (base u : ℕ) (x : ℤ) (e : ℕ) (g : ℕ → ℤ) → f (base + e) ≡ g e → put f (base + u) x (base + e) ≡ put g u x e
+pub put-both : (f : ℕ → ℤ) (base u : ℕ) (x : ℤ) (e : ℕ) (g : ℕ → ℤ) → f (base + e) ≡ g e → put f (base + u) x (base + e) ≡ put g u x e
 unfolding put
 put-both f base u x e g h = ap (λ (k : ℕ → ℤ). k e) (shifted-put base f u x) ∙ ap (λ (y : ℤ). cond (eqb e u) x y) h
 

@@ -16,15 +16,16 @@ use Rattle.fixed.proofs.checks.Statement.{statement}
 use Rattle.fixed.proofs.checks.Tie as tie
 
 abbrev Inv-loop : tie.InvT-loop
-Inv-loop index rows work₀ t₀ n p lanes offset c₀ work t c = (c ≤ p) × ((length work ≡ length work₀) × ((length t ≡ length t₀) × Upto n p lanes (toZ w8 offset) index work₀ c work))
+Inv-loop index rows work₀ t₀ u₀ n p lanes offset c₀ work t u c =
+    (c ≤ p) × ((length work ≡ length work₀) × (((length t ≡ length t₀) × (length u ≡ length u₀)) × Upto n p lanes (toZ w8 offset) index work₀ c work))
 
 abbrev μ-loop : tie.MeasureT-loop
-μ-loop index rows work₀ t₀ n p lanes offset c₀ work t c = p - c
+μ-loop index rows work₀ t₀ u₀ n p lanes offset c₀ work t u c = p - c
 
 loop-holds : tie.Need-loop-holds Inv-loop μ-loop
 loop-holds c =
     let a = c .before .before .args in
-    (search needs, (refl, (refl, upto-start (a .n) (a .p) (a .lanes) (toZ w8 (ofZ w8 (a .offset))) (a .index .now) (a .work .now))))
+    (search needs, (refl, ((refl, refl), upto-start (a .n) (a .p) (a .lanes) (toZ w8 (ofZ w8 (a .offset))) (a .index .now) (a .work .now))))
 
 start-requires : tie.Need-start-requires Inv-loop μ-loop
 start-requires c κs = search needs
@@ -34,13 +35,13 @@ degree-requires c κs = search needs
 
 check-node-requires : tie.Need-check-node-requires Inv-loop μ-loop
 check-node-requires c κs =
-    let s = c .before .before .before .before .before .before .before .before in
-    let h = c .before .before .before .before .before in
-    let r = c .before .before .before .start in
-    let d = c .before .before .degree in (
+    let s = c .before .before .before .before .before .before .before .before .before in
+    let h = c .before .before .before .before .before .before in
+    let r = c .before .before .before .before .start in
+    let d = c .before .before .before .degree in (
       subst (λ (l : List ℕ). Room l (r .result) (d .result) (s .args .n) (s .args .lanes) (h .loop .work)) (sym (s .pre .0 .1))
-          (room (h .loop .c) (r .result) (d .result) (memory-to (h .loop .inv .1 .0) (s .pre .0 .0)) (c .before .before .before .before .loop-test .taken) (r .ensures) (omega (arith, r .ensures, d .ensures))),
-      omega (arith, h .loop .inv .1 .1 .0, s .pre .1),
+          (room (h .loop .c) (r .result) (d .result) (memory-to (h .loop .inv .1 .0) (s .pre .0 .0)) (c .before .before .before .before .before .loop-test .taken) (r .ensures) (omega (arith, r .ensures, d .ensures))),
+      (omega (arith, h .loop .inv .1 .1 .0 .0, s .pre .1 .0), omega (arith, h .loop .inv .1 .1 .0 .1, s .pre .1 .1)),
     )
 
 add-c : tie.Need-add-c Inv-loop μ-loop
@@ -51,17 +52,17 @@ loop-less c = search needs
 
 loop-again : tie.Need-loop-again Inv-loop μ-loop
 loop-again c =
-    let s = c .before .before .before .before .before .before .before .before .before .before .before in
-    let h = c .before .before .before .before .before .before .before .before in
-    let r = c .before .before .before .before .before .before .start in
-    let d = c .before .before .before .before .before .degree in
-    let k = c .before .before .check-node in (
-      omega (arith, c .before .before .before .before .before .before .before .loop-test .taken),
+    let s = c .before .before .before .before .before .before .before .before .before .before .before .before .before in
+    let h = c .before .before .before .before .before .before .before .before .before .before in
+    let r = c .before .before .before .before .before .before .before .before .start in
+    let d = c .before .before .before .before .before .before .before .degree in
+    let k = c .before .before .before .check-node in (
+      omega (arith, c .before .before .before .before .before .before .before .before .before .loop-test .taken),
       (
         omega (arith, k .kept, h .loop .inv .1 .0),
         (
-          omega (arith, k .kept, h .loop .inv .1 .1 .0),
-          upto-again (c .before .before .before .before .before .before .before .loop-test .taken) (r .ensures) (omega (arith, r .ensures, d .ensures)) (h .loop .inv .1 .1 .1)
+          (omega (arith, k .kept, h .loop .inv .1 .1 .0 .0), omega (arith, k .kept, h .loop .inv .1 .1 .0 .1)),
+          upto-again (c .before .before .before .before .before .before .before .before .before .loop-test .taken) (r .ensures) (omega (arith, r .ensures, d .ensures)) (h .loop .inv .1 .1 .1)
               (subst (λ (l : List ℕ). CheckNode l (r .result) (d .result) (s .args .n) (s .args .lanes) (toZ w8 (ofZ w8 (s .args .offset))) (h .loop .work) (k .last .1 .1 .1 .0)) (s .pre .0 .1) (k .ensures)),
         ),
       ),
@@ -72,6 +73,9 @@ same-length c = search needs
 
 same-length-2 : tie.Need-same-length-2 Inv-loop μ-loop
 same-length-2 c = search needs
+
+same-length-3 : tie.Need-same-length-3 Inv-loop μ-loop
+same-length-3 c = search needs
 
 returns : tie.Need-returns Inv-loop μ-loop
 returns c =
@@ -94,4 +98,5 @@ checks-spec =
     loop-again
     same-length
     same-length-2
+    same-length-3
     returns)

@@ -25,18 +25,21 @@ part-checks-end c = search needs
 slice-aggregate-checks : tie.Need-slice-aggregate-checks
 slice-aggregate-checks c = search needs
 
+slice-aggregate-checks-2 : tie.Need-slice-aggregate-checks-2
+slice-aggregate-checks-2 c = search needs
+
 checks-requires : tie.Need-checks-requires
 checks-requires c κs =
-    let s = c .before .before .before .before in
-    ((s .pre, rows-part (s .args .p) (s .args .index .now)), omega arith)
+    let s = c .before .before .before .before .before in
+    ((s .pre, rows-part (s .args .p) (s .args .index .now)), (omega arith, omega arith))
 
 same-length : tie.Need-same-length
 same-length c = search needs
 
 returns : tie.Need-returns
 returns c =
-    let s = c .before .before .before .before .before .before .before in
-    upto-end (plain (s .args .offset) (s .fits .offset)) refl (c .before .before .checks .ensures)
+    let s = c .before .before .before .before .before .before .before .before .before in
+    upto-end (plain (s .args .offset) (s .fits .offset)) refl (c .before .before .before .checks .ensures)
 
 pub iteration-spec : {M : Type 1} → statement M
 iteration-spec =
@@ -48,6 +51,7 @@ iteration-spec =
     part-checks-start
     part-checks-end
     slice-aggregate-checks
+    slice-aggregate-checks-2
     checks-requires
     same-length
     returns)

@@ -11,30 +11,31 @@ use Rattle.fixed_layered.proofs.layers.Statement.{statement}
 use Rattle.fixed_layered.proofs.layers.Tie as tie
 
 abbrev Inv-loop : tie.InvT-loop
-Inv-loop index rows work₀ places₀ t₀ addrs starts flags busy offset k n p lanes q step l₀ work places t l =
-    (l ≤ q) × ((length work ≡ length work₀) × ((length places ≡ length places₀) × ((length t ≡ length t₀) × LayersMade n p lanes (toZ w8 offset) index q step work₀ l work)))
+Inv-loop index rows work₀ places₀ t₀ u₀ addrs starts flags busy offset k n p lanes q step l₀ work places t u l =
+    (l ≤ q) × ((length work ≡ length work₀) × (((length places ≡ length places₀) × ((length t ≡ length t₀) × (length u ≡ length u₀))) × LayersMade n p lanes (toZ w8 offset) index q step work₀ l work))
 
 abbrev μ-loop : tie.MeasureT-loop
-μ-loop index rows work₀ places₀ t₀ addrs starts flags busy offset k n p lanes q step l₀ work places t l =
+μ-loop index rows work₀ places₀ t₀ u₀ addrs starts flags busy offset k n p lanes q step l₀ work places t u l =
     q - l
 
 loop-holds : tie.Need-loop-holds Inv-loop μ-loop
 loop-holds c =
     let a = c .before .before .before .before .args in
-    (search needs, (refl, (refl, (refl, layers-start (a .n) (a .p) (a .lanes) (toZ w8 (ofZ w8 (a .offset))) (a .index .now) (a .q) (a .step) (a .work .now)))))
+    (search needs, (refl, ((refl, (refl, refl)), layers-start (a .n) (a .p) (a .lanes) (toZ w8 (ofZ w8 (a .offset))) (a .index .now) (a .q) (a .step) (a .work .now))))
 
 element-copy-out-b : tie.Need-element-copy-out-b Inv-loop μ-loop
 element-copy-out-b c = search needs
 
 runs-requires : tie.Need-runs-requires Inv-loop μ-loop
 runs-requires c κs =
-    let s = c .before .before .before .before .before .before .before .before .before .before in
-    let h = c .before .before .before .before .before in
-    let q = c .before .before .before .before .loop-test .taken in (
+    let s = c .before .before .before .before .before .before .before .before .before .before .before in
+    let h = c .before .before .before .before .before .before in
+    let q = c .before .before .before .before .before .loop-test .taken in
+    let long = h .loop .inv .1 .1 .0 in (
       (in-layer-to (h .loop .inv .1 .0) (s .pre .0 .0 .layer (h .loop .l) q), s .pre .0 .1),
       (
         (s .pre .0 .0 .shares (h .loop .l) q, s .pre .0 .0 .bits),
-        (omega (arith, h .loop .inv .1 .1 .1 .0, s .pre .1 .0), omega (arith, h .loop .inv .1 .1 .0, s .pre .1 .1)),
+        (omega (arith, long .1 .0, s .pre .1 .0), (omega (arith, long .1 .1, s .pre .1 .1 .0), omega (arith, long .0, s .pre .1 .1 .1))),
       ),
     )
 
@@ -42,18 +43,19 @@ add-l : tie.Need-add-l Inv-loop μ-loop
 add-l c = search needs
 
 loop-less : tie.Need-loop-less Inv-loop μ-loop
-loop-less c = search needs
+loop-less c = omega (arith, c .before .before .before .before .before .before .before .before .before .before .before .loop-test .taken)
 
 loop-again : tie.Need-loop-again Inv-loop μ-loop
 loop-again c =
-    let h = c .before .before .before .before .before .before .before .before .before .before in
-    let k = c .before .before .before .before .runs in (
-      omega (arith, c .before .before .before .before .before .before .before .before .before .loop-test .taken),
+    let h = c .before .before .before .before .before .before .before .before .before .before .before .before in
+    let k = c .before .before .before .before .before .runs in
+    let long = h .loop .inv .1 .1 .0 in (
+      omega (arith, c .before .before .before .before .before .before .before .before .before .before .before .loop-test .taken),
       (
         omega (arith, k .kept, h .loop .inv .1 .0),
         (
-          omega (arith, k .kept, h .loop .inv .1 .1 .0),
-          (omega (arith, k .kept, h .loop .inv .1 .1 .1 .0), layers-again (h .loop .inv .1 .1 .1 .1) (k .ensures)),
+          (omega (arith, k .kept, long .0), (omega (arith, k .kept, long .1 .0), omega (arith, k .kept, long .1 .1))),
+          layers-again (h .loop .inv .1 .1 .1) (k .ensures),
         ),
       ),
     )
@@ -62,16 +64,19 @@ same-length : tie.Need-same-length Inv-loop μ-loop
 same-length c = c .before .loop .inv .1 .0
 
 same-length-2 : tie.Need-same-length-2 Inv-loop μ-loop
-same-length-2 c = c .before .loop .inv .1 .1 .0
+same-length-2 c = c .before .loop .inv .1 .1 .0 .0
 
 same-length-3 : tie.Need-same-length-3 Inv-loop μ-loop
-same-length-3 c = c .before .loop .inv .1 .1 .1 .0
+same-length-3 c = c .before .loop .inv .1 .1 .0 .1 .0
+
+same-length-4 : tie.Need-same-length-4 Inv-loop μ-loop
+same-length-4 c = c .before .loop .inv .1 .1 .0 .1 .1
 
 returns : tie.Need-returns Inv-loop μ-loop
 returns c =
     let s = c .before .before .before .before .before .before in
     let h = c .before in
-    layers-end (plain (s .args .offset) (s .fits .offset)) (omega (arith, h .loop .inv .0, c .loop-test .left)) (h .loop .inv .1 .1 .1 .1)
+    layers-end (plain (s .args .offset) (s .fits .offset)) (omega (arith, h .loop .inv .0, c .loop-test .left)) (h .loop .inv .1 .1 .1)
 
 pub layers-spec : {M : Type 1} → statement M
 layers-spec =
@@ -88,4 +93,5 @@ layers-spec =
     same-length
     same-length-2
     same-length-3
+    same-length-4
     returns)

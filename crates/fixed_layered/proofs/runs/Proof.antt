@@ -12,18 +12,17 @@ use Rattle.fixed_layered.proofs.runs.Statement.{statement}
 use Rattle.fixed_layered.proofs.runs.Tie as tie
 
 abbrev Inv-loop : tie.InvT-loop
-Inv-loop index rows work₀ places₀ t₀ addrs starts flags busy offset k n p lanes q step l at₀ j₀ work places t at j =
-    (at ≡ j * step) × ((at < 374 + step) × ((length work ≡ length work₀) × ((length places ≡ length places₀) × ((length t ≡ length t₀) × RunsMade n p lanes (toZ w8 offset) index q step l work₀ j work))))
+Inv-loop index rows work₀ places₀ t₀ u₀ addrs starts flags busy offset k n p lanes q step l at₀ j₀ work places t u at j =
+    (at ≡ j * step) × ((at < 374 + step) × ((length work ≡ length work₀) × (((length places ≡ length places₀) × ((length t ≡ length t₀) × (length u ≡ length u₀))) × RunsMade n p lanes (toZ w8 offset) index q step l work₀ j work)))
 
 abbrev μ-loop : tie.MeasureT-loop
-μ-loop index rows work₀ places₀ t₀ addrs starts flags busy offset k n p lanes q step l at₀ j₀ work places t at j =
+μ-loop index rows work₀ places₀ t₀ u₀ addrs starts flags busy offset k n p lanes q step l at₀ j₀ work places t u at j =
     374 + step - at
 
 loop-holds : tie.Need-loop-holds Inv-loop μ-loop
 loop-holds c =
-    let s = c .before .before .before .before in
-    let a = s .args in
-    (omega arith, (omega arith, (refl, (refl, (refl, runs-start (a .n) (a .p) (a .lanes) (toZ w8 (ofZ w8 (a .offset))) (a .index .now) (a .q) (a .step) (a .l) (a .work .now))))))
+    let a = c .before .before .before .before .args in
+    (omega arith, (omega arith, (refl, ((refl, (refl, refl)), runs-start (a .n) (a .p) (a .lanes) (toZ w8 (ofZ w8 (a .offset))) (a .index .now) (a .q) (a .step) (a .l) (a .work .now)))))
 
 sub-least : tie.Need-sub-least Inv-loop μ-loop
 sub-least c = search needs
@@ -45,47 +44,49 @@ add-first c =
 
 run-requires : tie.Need-run-requires Inv-loop μ-loop
 run-requires c κs =
-    let s = c .before .before .before .before .before .before .before .before .before .before in
-    let h = c .before .before .before .before .before in
-    let m = c .before .before .before .least in
-    let q = c .before .before .before .before .loop-test .taken in
+    let s = c .before .before .before .before .before .before .before .before .before .before .before in
+    let h = c .before .before .before .before .before .before in
+    let m = c .before .before .before .before .least in
+    let q = c .before .before .before .before .before .loop-test .taken in
+    let long = h .loop .inv .1 .1 .1 .0 in
     let room : h .loop .at + m .result ≤ 374 = omega (arith, m .ensures, q) in (
       (in-run (h .loop .at) (m .result) room (in-layer-to (h .loop .inv .1 .1 .0) (s .pre .0 .0)), s .pre .0 .1),
       (
         (shares-part (h .loop .at) (m .result) room (s .pre .1 .0 .0), s .pre .1 .0 .1),
-        (omega (arith, h .loop .inv .1 .1 .1 .1 .0, s .pre .1 .1 .0), omega (arith, room, h .loop .inv .1 .1 .1 .0, s .pre .1 .1 .1)),
+        (omega (arith, long .1 .0, s .pre .1 .1 .0), (omega (arith, long .1 .1, s .pre .1 .1 .1 .0), omega (arith, room, long .0, s .pre .1 .1 .1 .1))),
       ),
     )
 
 add-at : tie.Need-add-at Inv-loop μ-loop
-add-at c = let s = c .before .before .before .before .before .before .before .before .before .before .before .before .before .before .before in record { fits = omega (arith, c .before .before .before .before .before .before .before .before .before .loop-test .taken, s .pre .0 .0 .small-step) }
+add-at c = let s = c .before .before .before .before .before .before .before .before .before .before .before .before .before .before .before .before .before in record { fits = omega (arith, c .before .before .before .before .before .before .before .before .before .before .before .loop-test .taken, s .pre .0 .0 .small-step) }
 
 add-j : tie.Need-add-j Inv-loop μ-loop
 add-j c =
-    let s = c .before .before .before .before .before .before .before .before .before .before .before .before .before .before .before in
-    let h = c .before .before .before .before .before .before .before .before .before .before in
+    let s = c .before .before .before .before .before .before .before .before .before .before .before .before .before .before .before .before .before in
+    let h = c .before .before .before .before .before .before .before .before .before .before .before .before in
     let z : h .loop .j * 1 ≤ h .loop .j * s .args .step = mul-le-mul-left (h .loop .j) (s .pre .0 .0 .step) in
-    record { fits = omega (arith, h .loop .inv .0, c .before .before .before .before .before .before .before .before .before .loop-test .taken) }
+    record { fits = omega (arith, h .loop .inv .0, c .before .before .before .before .before .before .before .before .before .before .before .loop-test .taken) }
 
 loop-less : tie.Need-loop-less Inv-loop μ-loop
-loop-less c = let s = c .before .before .before .before .before .before .before .before .before .before .before .before .before .before .before in omega (arith, c .before .before .before .before .before .before .before .before .before .loop-test .taken, s .pre .0 .0 .step)
+loop-less c = let s = c .before .before .before .before .before .before .before .before .before .before .before .before .before .before .before .before .before in omega (arith, c .before .before .before .before .before .before .before .before .before .before .before .loop-test .taken, s .pre .0 .0 .step)
 
 loop-again : tie.Need-loop-again Inv-loop μ-loop
 loop-again c =
-    let s = c .before .before .before .before .before .before .before .before .before .before .before .before .before .before .before in
-    let h = c .before .before .before .before .before .before .before .before .before .before in
-    let q = c .before .before .before .before .before .before .before .before .before .loop-test .taken in
-    let m = c .before .before .before .before .before .before .before .before .least in
-    let k = c .before .before .before .before .run in
-    let e = h .loop .inv .0 in (
+    let s = c .before .before .before .before .before .before .before .before .before .before .before .before .before .before .before .before .before in
+    let h = c .before .before .before .before .before .before .before .before .before .before .before .before in
+    let q = c .before .before .before .before .before .before .before .before .before .before .before .loop-test .taken in
+    let m = c .before .before .before .before .before .before .before .before .before .before .least in
+    let k = c .before .before .before .before .before .run in
+    let e = h .loop .inv .0 in
+    let long = h .loop .inv .1 .1 .1 .0 in (
       omega arith,
       (
         omega (arith, q),
         (
           omega (arith, k .kept, h .loop .inv .1 .1 .0),
           (
-            omega (arith, k .kept, h .loop .inv .1 .1 .1 .0),
-            (omega (arith, k .kept, h .loop .inv .1 .1 .1 .1 .0), runs-again e (m .ensures) (h .loop .inv .1 .1 .1 .1 .1) (k .ensures)),
+            (omega (arith, k .kept, long .0), (omega (arith, k .kept, long .1 .0), omega (arith, k .kept, long .1 .1))),
+            runs-again e (m .ensures) (h .loop .inv .1 .1 .1 .1) (k .ensures),
           ),
         ),
       ),
@@ -95,16 +96,19 @@ same-length : tie.Need-same-length Inv-loop μ-loop
 same-length c = c .before .loop .inv .1 .1 .0
 
 same-length-2 : tie.Need-same-length-2 Inv-loop μ-loop
-same-length-2 c = c .before .loop .inv .1 .1 .1 .0
+same-length-2 c = c .before .loop .inv .1 .1 .1 .0 .0
 
 same-length-3 : tie.Need-same-length-3 Inv-loop μ-loop
-same-length-3 c = c .before .loop .inv .1 .1 .1 .1 .0
+same-length-3 c = c .before .loop .inv .1 .1 .1 .0 .1 .0
+
+same-length-4 : tie.Need-same-length-4 Inv-loop μ-loop
+same-length-4 c = c .before .loop .inv .1 .1 .1 .0 .1 .1
 
 returns : tie.Need-returns Inv-loop μ-loop
 returns c =
     let s = c .before .before .before .before .before .before in
     let h = c .before in
-    runs-end (plain (s .args .offset) (s .fits .offset)) (s .pre .0 .0 .step) (h .loop .inv .0) (c .loop-test .left) (h .loop .inv .1 .0) (h .loop .inv .1 .1 .1 .1 .1)
+    runs-end (plain (s .args .offset) (s .fits .offset)) (s .pre .0 .0 .step) (h .loop .inv .0) (c .loop-test .left) (h .loop .inv .1 .0) (h .loop .inv .1 .1 .1 .1)
 
 pub runs-spec : {M : Type 1} → statement M
 runs-spec =
@@ -125,4 +129,5 @@ runs-spec =
     same-length
     same-length-2
     same-length-3
+    same-length-4
     returns)

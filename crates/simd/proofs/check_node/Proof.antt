@@ -15,10 +15,11 @@ use Rattle.simd.proofs.check_node.Statement.{statement}
 use Rattle.simd.proofs.check_node.Tie as tie
 
 abbrev Inv-loop : tie.InvT-loop
-Inv-loop rows s d a₀ t₀ n lanes offset at₀ a t at = (at ≤ lanes) × ((length a ≡ length a₀) × ((length t ≡ length t₀) × Upto (checkColumn (toZ w8 offset) (var rows) s d n) lanes at a₀ a))
+Inv-loop rows s d a₀ t₀ u₀ n lanes offset at₀ a t u at =
+    (at ≤ lanes) × ((length a ≡ length a₀) × (((length t ≡ length t₀) × (length u ≡ length u₀)) × Upto (checkColumn (toZ w8 offset) (var rows) s d n) lanes at a₀ a))
 
 abbrev μ-loop : tie.MeasureT-loop
-μ-loop rows s d a₀ t₀ n lanes offset at₀ a t at = lanes - at
+μ-loop rows s d a₀ t₀ u₀ n lanes offset at₀ a t u at = lanes - at
 
 loop-holds : tie.Need-loop-holds Inv-loop μ-loop
 loop-holds c =
@@ -26,40 +27,32 @@ loop-holds c =
       search needs,
       (
         refl,
-        (refl, upto-start (checkColumn (toZ w8 (ofZ w8 (a .offset))) (var (a .rows .now)) (a .s) (a .d) (a .n)) (a .lanes) (a .a .now)),
+        ((refl, refl), upto-start (checkColumn (toZ w8 (ofZ w8 (a .offset))) (var (a .rows .now)) (a .s) (a .d) (a .n)) (a .lanes) (a .a .now)),
       ),
     )
-
-sub-width : tie.Need-sub-width Inv-loop μ-loop
-sub-width c = search needs
-
-width-requires : tie.Need-width-requires Inv-loop μ-loop
-width-requires c κs = search needs
 
 chunk-requires : tie.Need-chunk-requires Inv-loop μ-loop
 chunk-requires c κs =
     let s = c .before .before .before .before .before .before in
-    let h = c .before .before .before .before in
-    let w = c .before .before .width in (
+    let h = c .before .before .before .before in (
       room-to (h .loop .inv .1 .0) (s .pre .0),
-      (omega (arith, w .ensures .0, c .before .before .before .loop-test .taken), (w .ensures .1, omega (arith, h .loop .inv .1 .1 .0, s .pre .1))),
+      (c .before .before .before .loop-test .taken, (omega (arith, h .loop .inv .1 .1 .0 .0, s .pre .1 .0), omega (arith, h .loop .inv .1 .1 .0 .1, s .pre .1 .1))),
     )
 
 add-at : tie.Need-add-at Inv-loop μ-loop
-add-at c = let w = c .before .before .before .before .before .width in record { fits = omega (arith, w .ensures .0, c .before .before .before .before .before .before .loop-test .taken, c .before .before .before .before .before .before .before .before .before .fits .lanes .fits) }
+add-at c = let w = c .before .before .before .chunk .ensures .0 in record { fits = omega (arith, w .1, c .before .before .before .before .before .before .before .before .before .before .fits .lanes .fits) }
 
 loop-less : tie.Need-loop-less Inv-loop μ-loop
-loop-less c = let w = c .before .before .before .before .before .width in omega (arith, w .ensures .0, w .ensures .1 .some, c .before .before .before .before .before .before .loop-test .taken)
+loop-less c = let w = c .before .before .before .chunk .ensures .0 in omega (arith, w .0, w .1, c .before .before .before .before .before .before .before .loop-test .taken)
 
 loop-again : tie.Need-loop-again Inv-loop μ-loop
 loop-again c =
-    let h = c .before .before .before .before .before .before .before in
-    let w = c .before .before .before .before .before .width in
-    let k = c .before .before .chunk in (
-      omega (arith, w .ensures .0, c .before .before .before .before .before .before .loop-test .taken),
+    let h = c .before .before .before .before .before .before .before .before in
+    let k = c .before .before .before .chunk in (
+      omega (arith, k .ensures .0 .1),
       (
         omega (arith, k .kept, h .loop .inv .1 .0),
-        (omega (arith, k .kept, h .loop .inv .1 .1 .0), upto-again (h .loop .inv .1 .1 .1) (k .ensures)),
+        ((omega (arith, k .kept, h .loop .inv .1 .1 .0 .0), omega (arith, k .kept, h .loop .inv .1 .1 .0 .1)), upto-again (h .loop .inv .1 .1 .1) (k .ensures .1)),
       ),
     )
 
@@ -68,6 +61,9 @@ same-length c = search needs
 
 same-length-2 : tie.Need-same-length-2 Inv-loop μ-loop
 same-length-2 c = search needs
+
+same-length-3 : tie.Need-same-length-3 Inv-loop μ-loop
+same-length-3 c = search needs
 
 returns : tie.Need-returns Inv-loop μ-loop
 returns c =
@@ -83,12 +79,11 @@ check-node-spec =
     Inv-loop
     μ-loop
     loop-holds
-    sub-width
-    width-requires
     chunk-requires
     add-at
     loop-less
     loop-again
     same-length
     same-length-2
+    same-length-3
     returns)

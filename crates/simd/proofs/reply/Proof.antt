@@ -20,7 +20,7 @@ loop-holds c =
       search needs,
       (
         refl,
-        replied-start (a .w) (var (a .rows .now)) (a .s) (a .n) (a .lanes) (a .at) (a .t .now) (a .sign) (a .min1) (a .m1) (a .m2) (a .a .now),
+        replied-start (a .w) (var (a .rows .now)) (a .s) (a .n) (a .lanes) (a .at) (a .t .now) (a .sign) (a .least) (a .m1) (a .m2) (a .a .now),
       ),
     )
 

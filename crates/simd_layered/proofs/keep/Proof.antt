@@ -9,10 +9,10 @@ use Rattle.simd_layered.proofs.keep.Statement.{statement}
 use Rattle.simd_layered.proofs.keep.Tie as tie
 
 abbrev Inv-loop : tie.InvT-loop
-Inv-loop rows s d a₀ t n lanes at w place sign min1 m1 m2 edges k₀ a k = (k ≤ d) × ((length a ≡ length a₀) × Kept w s n (length rows) place lanes at t sign min1 m1 m2 a₀ k a)
+Inv-loop rows s d a₀ t n lanes at w place sign least m1 m2 edges k₀ a k = (k ≤ d) × ((length a ≡ length a₀) × Kept w s n (length rows) place lanes at t sign least m1 m2 a₀ k a)
 
 abbrev μ-loop : tie.MeasureT-loop
-μ-loop rows s d a₀ t n lanes at w place sign min1 m1 m2 edges k₀ a k = d - k
+μ-loop rows s d a₀ t n lanes at w place sign least m1 m2 edges k₀ a k = d - k
 
 loop-holds : tie.Need-loop-holds Inv-loop μ-loop
 loop-holds c =
@@ -20,7 +20,7 @@ loop-holds c =
       search needs,
       (
         refl,
-        kept-start (a .w) (a .s) (a .n) (length (a .rows .now)) (a .place) (a .lanes) (a .at) (a .t .now) (a .sign) (a .min1) (a .m1) (a .m2) (a .a .now),
+        kept-start (a .w) (a .s) (a .n) (length (a .rows .now)) (a .place) (a .lanes) (a .at) (a .t .now) (a .sign) (a .least) (a .m1) (a .m2) (a .a .now),
       ),
     )
 

@@ -1,0 +1,143 @@
+use borrow.Author.Needs.{needs}
+use native.Mathlib.Omega.{arith}
+use mathlib.Core.Path.{_≡_, refl}
+use Prim.Native.Nat.{ℕ, _+_, _*_, _-_, _≤_, _<_}
+use lib.ListN.{length, getD-replicate}
+use lib.IntN.{pos}
+use Rattle.lane_memory.specs.Room.{var, load-room, value-row, row-fits}
+use Rattle.simd.specs.Pass.{Scan, scan-start, scan-again, scan-end}
+use Rattle.simd.proofs.scan_two.Statement.{statement}
+use Rattle.simd.proofs.scan_two.Tie as tie
+
+abbrev Inv-loop : tie.InvT-loop
+Inv-loop rows s d a t₀ u₀ n lanes at one₀ two₀ k₀ t u one two k =
+    (k ≤ d) × (((length t ≡ length t₀) × (length u ≡ length u₀)) × (Scan (var rows) s n lanes at a k t (one .min1) (one .min2) (one .sign) × Scan (var rows) s n lanes (at + 16) a k u (two .min1) (two .min2) (two .sign)))
+
+abbrev μ-loop : tie.MeasureT-loop
+μ-loop rows s d a t₀ u₀ n lanes at one₀ two₀ k₀ t u one two k = d - k
+
+loop-holds : tie.Need-loop-holds Inv-loop μ-loop
+loop-holds c =
+    let a = c .before .args in (
+      search needs,
+      (
+        (refl, refl),
+        (
+          scan-start (var (a .rows .now)) (a .s) (a .n) (a .lanes) (a .at) (a .a .now) (a .t .now) _ _ _
+              (λ k q. getD-replicate 16 k 127 0 q) (λ k q. getD-replicate 16 k 127 0 q) (λ k q. getD-replicate 16 k (pos 0) (pos 0) q),
+          scan-start (var (a .rows .now)) (a .s) (a .n) (a .lanes) (a .at + 16) (a .a .now) (a .u .now) _ _ _
+              (λ k q. getD-replicate 16 k 127 0 q) (λ k q. getD-replicate 16 k 127 0 q) (λ k q. getD-replicate 16 k (pos 0) (pos 0) q),
+        ),
+      ),
+    )
+
+add-e : tie.Need-add-e Inv-loop μ-loop
+add-e c = search needs
+
+variable-requires : tie.Need-variable-requires Inv-loop μ-loop
+variable-requires c κs = search needs
+
+add-r : tie.Need-add-r Inv-loop μ-loop
+add-r c =
+    let s = c .before .before .before .before in
+    record { fits = omega (arith, row-fits (s .pre .0) (s .args .n + (s .args .s + c .before .before .loop .k)) (omega (arith, s .pre .0 .edges, c .before .loop-test .taken)), s .good) }
+
+load-requires : tie.Need-load-requires Inv-loop μ-loop
+load-requires c κs =
+    let s = c .before .before .before .before in
+    let v : c .variable .result < s .args .n = omega (arith, c .variable .ensures, value-row (s .pre .0) (c .before .before .loop .k) (c .before .loop-test .taken)) in
+    load-room (s .pre .0) (c .variable .result) (s .args .at) (omega arith) (omega (arith, s .pre .1 .0))
+
+load-requires-2 : tie.Need-load-requires-2 Inv-loop μ-loop
+load-requires-2 c κs =
+    let s = c .before .before .before .before .before in
+    load-room (s .pre .0) (s .args .n + (s .args .s + c .before .before .before .loop .k)) (s .args .at) (omega (arith, s .pre .0 .edges, c .before .before .loop-test .taken)) (omega (arith, s .pre .1 .0))
+
+add-load : tie.Need-add-load Inv-loop μ-loop
+add-load c = search needs
+
+load-requires-3 : tie.Need-load-requires-3 Inv-loop μ-loop
+load-requires-3 c κs =
+    let s = c .before .before .before .before .before .before in
+    let v : c .before .before .variable .result < s .args .n = omega (arith, c .before .before .variable .ensures, value-row (s .pre .0) (c .before .before .before .before .loop .k) (c .before .before .before .loop-test .taken)) in
+    load-room (s .pre .0) (c .before .before .variable .result) (s .args .at + 16) (omega arith) (omega (arith, s .pre .1 .0))
+
+add-load-2 : tie.Need-add-load-2 Inv-loop μ-loop
+add-load-2 c = search needs
+
+load-requires-4 : tie.Need-load-requires-4 Inv-loop μ-loop
+load-requires-4 c κs =
+    let s = c .before .before .before .before .before .before .before in
+    load-room (s .pre .0) (s .args .n + (s .args .s + c .before .before .before .before .before .loop .k)) (s .args .at + 16) (omega (arith, s .pre .0 .edges, c .before .before .before .before .loop-test .taken)) (omega (arith, s .pre .1 .0))
+
+scan-requires : tie.Need-scan-requires Inv-loop μ-loop
+scan-requires c κs = search needs
+
+scan-requires-2 : tie.Need-scan-requires-2 Inv-loop μ-loop
+scan-requires-2 c κs = search needs
+
+store-requires : tie.Need-store-requires Inv-loop μ-loop
+store-requires c κs =
+    let s = c .before .before .before .before .before .before .before .before .before .before .before .before .before in
+    (omega (arith, c .before .before .before .before .before .before .before .before .before .before .before .loop .inv .1 .0 .0, s .pre .1 .1 .0, s .pre .0 .degree, c .before .before .before .before .before .before .before .before .before .before .loop-test .taken), (omega arith, omega arith))
+
+store-requires-2 : tie.Need-store-requires-2 Inv-loop μ-loop
+store-requires-2 c κs =
+    let s = c .before .before .before .before .before .before .before .before .before .before .before .before .before .before .before .before in
+    (omega (arith, c .before .before .before .before .before .before .before .before .before .before .before .before .before .before .loop .inv .1 .0 .1, s .pre .1 .1 .1, s .pre .0 .degree, c .before .before .before .before .before .before .before .before .before .before .before .before .before .loop-test .taken), (omega arith, omega arith))
+
+add-k : tie.Need-add-k Inv-loop μ-loop
+add-k c = record { fits = omega (arith, c .before .before .before .before .before .before .before .before .before .before .before .before .before .before .before .loop-test .taken, c .before .before .before .before .before .before .before .before .before .before .before .before .before .before .before .before .before .before .fits .d .fits) }
+
+loop-less : tie.Need-loop-less Inv-loop μ-loop
+loop-less c = omega (arith, c .before .before .before .before .before .before .before .before .before .before .before .before .before .before .before .loop-test .taken)
+
+loop-again : tie.Need-loop-again Inv-loop μ-loop
+loop-again c =
+    let h = c .before .before .before .before .before .before .before .before .before .before .before .before .before .before .before .before in
+    let v = c .before .before .before .before .before .before .before .before .before .before .before .before .before .before .variable .ensures in (
+      omega (arith, c .before .before .before .before .before .before .before .before .before .before .before .before .before .before .before .loop-test .taken),
+      (
+        (omega (arith, c .before .before .before .before .store .kept, h .loop .inv .1 .0 .0), omega (arith, c .before .store2 .kept, h .loop .inv .1 .0 .1)),
+        (
+          scan-again (h .loop .inv .1 .1 .0) v (c .before .before .before .before .before .before .before .before .before .before .before .before .before .load .ensures) (c .before .before .before .before .before .before .before .before .before .before .before .before .load2 .ensures) (c .before .before .before .before .before .before .before .before .before .scan .ensures) (c .before .before .before .before .store .ensures),
+          scan-again (h .loop .inv .1 .1 .1) v (c .before .before .before .before .before .before .before .before .before .before .before .load3 .ensures) (c .before .before .before .before .before .before .before .before .before .before .load4 .ensures) (c .before .before .before .before .before .before .before .before .scan2 .ensures) (c .before .store2 .ensures),
+        ),
+      ),
+    )
+
+same-length : tie.Need-same-length Inv-loop μ-loop
+same-length c = search needs
+
+same-length-2 : tie.Need-same-length-2 Inv-loop μ-loop
+same-length-2 c = search needs
+
+returns : tie.Need-returns Inv-loop μ-loop
+returns c = (scan-end (omega arith) (c .before .loop .inv .1 .1 .0), scan-end (omega arith) (c .before .loop .inv .1 .1 .1))
+
+pub scan-two-spec : {M : Type 1} → statement M
+scan-two-spec =
+    tie.close
+    (tie.spec
+    Inv-loop
+    μ-loop
+    loop-holds
+    add-e
+    variable-requires
+    add-r
+    load-requires
+    load-requires-2
+    add-load
+    load-requires-3
+    add-load-2
+    load-requires-4
+    scan-requires
+    scan-requires-2
+    store-requires
+    store-requires-2
+    add-k
+    loop-less
+    loop-again
+    same-length
+    same-length-2
+    returns)
