@@ -1,9 +1,11 @@
 -- One lane's word read out of the memory: its bits and what was counted.
-use mathlib.Core.Path.{_≡_, refl, ap, _∙_}
+use mathlib.Core.Path.{_≡_, refl, sym, ap, _∙_}
+use mathlib.Core.Bool.{true}
 use mathlib.Core.List.{List, _∷_, _++_, append-nil}
 use Prim.Native.Nat.{ℕ, zero, suc, _+_, _-_, _*_, _≤_, _<_}
 use native.Mathlib.Nat.{mul-le-mul, mul-le-mul-right}
 use native.Mathlib.Omega.{arith}
+use borrow.Author.Tests.{eqb-true}
 use lib.IntN.{ℤ}
 use lib.ListN.{length, take, drop, length-drop, drop-of-length-le}
 use lib.Seq.{length-take-le}
@@ -15,7 +17,7 @@ use Rattle.fixed_code.specs.Lists.{edgesIn, codeIn, Memory}
 use Rattle.fixed_lanes.specs.Read.{decisions}
 use Rattle.fixed_syndrome.specs.Unmet as syndrome
 use Rattle.fixed_syndrome.specs.declared.Unmet.{Unmet}
-use Rattle.outcome.specs.Outcome.{ownWord, bitsFrom, bitsOf, unmetOf}
+use Rattle.outcome.specs.Outcome.{ownWord, bitsFrom, bitsOf, unmetOf, metOf}
 use Rattle.outcome.specs.Scan.{Counted}
 use Rattle.decoder_words.specs.Part.{word-ends}
 use Rattle.decoder_words.specs.declared.Plan.{Plan}
@@ -62,6 +64,13 @@ lane-counted code p x u k =
             none = λ z. k .none (k .count-is ∙ z);
           };
     }
+
+-- a word that is met leaves none, and names 0
+pub met-counted : (code : Code) (p : ℕ) (x : Word) → metOf code p x ≡ true → Counted code p x 0 0
+unfolding metOf
+met-counted code p x e =
+    let z = eqb-true (unmetOf code p x) 0 e in
+    record { all = sym z; named = record { some = λ h. absurd (omega (arith, h, z)); none = λ _. refl } }
 
 module _ (plan : Plan) (index : List ℕ) (work : List ℤ) (G : Working plan index work) where
   pub all-le : plan .words * plan .n ≤ 183828480

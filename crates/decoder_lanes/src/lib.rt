@@ -5,13 +5,15 @@ ghost use Prim.Native.Nat.{ℕ, _+_, _-_, _*_, _<_};
 ghost use lib.ListN.{length, getD};
 ghost use Rattle.fixed_code.specs.Lists.{edgesIn};
 ghost use Rattle.schedule.specs.Lanes.{Sized};
-ghost use Rattle.outcome.specs.Outcome.{bitsOf, corrected, bchOf};
+ghost use Rattle.outcome.specs.Outcome.{bitsOf, metOf, corrected, bchOf};
+ghost use Rattle.outcome.specs.Scan.{Counted};
 ghost use Rattle.decoder_words.specs.Book.{book, view, Room, Only};
 ghost use Rattle.decoder_words.specs.Tells.{Ends, Holds};
 ghost use Rattle.decoder_lanes.specs.Lane.{Working, laneWord, laneCode};
 ghost use Rattle.decoder_lanes.specs.Load.{Loads};
 use decoder_words::Noted;
 use decoder_words::Plan;
+use fixed_syndrome::Unmet;
 
 // A lane's hard decisions, with the BCH part corrected. BCH's result.
 fn lane_part(plan: Plan, l: usize, index: &[u32], work: &[i8], part: &mut [u8]) -> u32
@@ -24,12 +26,26 @@ fn lane_part(plan: Plan, l: usize, index: &[u32], work: &[i8], part: &mut [u8]) 
     outcome::correct(part, plan.first, plan.size)
 }
 
-// Lane l's word, w, leaves after i iterations: its bits and its record.
+// How many checks lane l's word leaves unsatisfied, and one of them. A word that is met is not gone through again.
+fn unmet_of(plan: Plan, l: usize, met: bool, index: &[u32], work: &[i8]) -> Unmet
+    requires { ⌜ Working plan (now index) (now work) × (l < plan .lanes) ⌝ }
+    requires { ⌜ met ≡ metOf (laneCode plan (now index)) (plan .p) (laneWord plan (now index) (now work) l) ⌝ }
+    ensures { λ r. ⌜ Counted (laneCode plan (now (index .entry))) (plan .p) (laneWord plan (now (index .entry)) (now (work .entry)) l) (r .count) (r .check) ⌝ }
+{
+    if met {
+        return Unmet { count: 0, check: 0 };
+    }
+    let n = plan.n as usize;
+    fixed_syndrome::count_lane(index, work, n, plan.p, plan.lanes, l)
+}
+
+// Lane l's word, w, leaves after i iterations: its bits and its record. `met` is the lane's verdict.
 pub fn leave(
     plan: Plan,
     w: usize,
     l: usize,
     i: u32,
+    met: bool,
     index: &[u32],
     work: &[i8],
     out: &mut [u8],
@@ -41,13 +57,14 @@ pub fn leave(
 )
     requires { ⌜ Working plan (now index) (now work) × (w < plan .words) × (l < plan .lanes) ⌝ }
     requires { ⌜ Room (plan .n) (plan .words) (book (now state) (now iterations) (now unsatisfied) (now check) (now bch) (now out)) ⌝ }
+    requires { ⌜ met ≡ metOf (laneCode plan (now index)) (plan .p) (laneWord plan (now index) (now work) l) ⌝ }
     ensures only { λ _. ⌜ Only (plan .n) w (book (now (state .entry)) (now (iterations .entry)) (now (unsatisfied .entry)) (now (check .entry)) (now (bch .entry)) (now (out .entry))) (book (now (state .exit)) (now (iterations .exit)) (now (unsatisfied .exit)) (now (check .exit)) (now (bch .exit)) (now (out .exit))) ⌝ }
     ensures ends { λ _. ⌜ Ends (laneCode plan (now (index .entry))) (plan .n) (plan .p) (plan .first) (plan .size) (laneWord plan (now (index .entry)) (now (work .entry)) l) i (view (plan .n) (book (now (state .exit)) (now (iterations .exit)) (now (unsatisfied .exit)) (now (check .exit)) (now (bch .exit)) (now (out .exit))) w) ⌝ }
 {
     let n = plan.n as usize;
     let a = w * n;
     let b = a + n;
-    let u = fixed_syndrome::count_lane(index, work, n, plan.p, plan.lanes, l);
+    let u = unmet_of(plan, l, met, index, work);
     let result = lane_part(plan, l, index, work, &mut out[a..b]);
     let r = Noted {
         state: outcome::state_of(u.count == 0),

@@ -59,6 +59,7 @@ pub fn retire(
                     w,
                     l,
                     i,
+                    verdict[l],
                     index,
                     work,
                     out,

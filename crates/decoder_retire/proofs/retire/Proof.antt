@@ -58,10 +58,13 @@ cast-w c = let inl : c .before .before .before .before .loop .l < c .before .bef
     let u = c .before .before .before .before .loop .inv .3 .untouched (c .before .before .before .before .loop .l) (omega arith) in
     omega (arith, u .0, c .before .before .before .before .before .before .before .before .before .before .before .before .before .before .pre .1 .1 .0 .1 .known (c .before .before .before .before .loop .l) inl (λ e. c .before .before .if1 .taken (u .0 ∙ e)), c .before .before .before .before .before .before .before .before .before .before .before .before .before .before .pre .0 .few-words)
 
+array-read-leave : tie.Need-array-read-leave Inv-loop μ-loop
+array-read-leave c = omega (arith, c .before .before .before .loop-test .taken, c .before .before .before .before .loop .inv .0, c .before .before .before .before .before .before .before .before .before .before .before .before .before .before .pre .0 .memory .few-lanes)
+
 leave-requires : tie.Need-leave-requires Inv-loop μ-loop
 leave-requires c κs = let inl : c .before .before .before .before .before .before .before .before .before .before .loop .l < c .before .before .before .before .before .before .before .before .before .before .before .before .before .before .before .before .before .before .before .before .args .plan .lanes = omega (arith, c .before .before .before .before .before .before .before .before .before .loop-test .taken, c .before .before .before .before .before .before .before .before .before .before .loop .inv .0) in
     let u = c .before .before .before .before .before .before .before .before .before .before .loop .inv .3 .untouched (c .before .before .before .before .before .before .before .before .before .before .loop .l) (omega arith) in
-    ((c .before .before .before .before .before .before .before .before .before .before .before .before .before .before .before .before .before .before .before .before .pre .0, omega (arith, u .0, c .before .before .before .before .before .before .before .before .before .before .before .before .before .before .before .before .before .before .before .before .pre .1 .1 .0 .1 .known (c .before .before .before .before .before .before .before .before .before .before .loop .l) inl (λ e. c .before .before .before .before .before .before .before .before .if1 .taken (u .0 ∙ e))), inl), room-on (c .before .before .before .before .before .before .before .before .before .before .before .before .before .before .before .before .before .before .before .before .pre .1 .0) (c .before .before .before .before .before .before .before .before .before .before .loop .inv .3 .same))
+    ((c .before .before .before .before .before .before .before .before .before .before .before .before .before .before .before .before .before .before .before .before .pre .0, omega (arith, u .0, c .before .before .before .before .before .before .before .before .before .before .before .before .before .before .before .before .before .before .before .before .pre .1 .1 .0 .1 .known (c .before .before .before .before .before .before .before .before .before .before .loop .l) inl (λ e. c .before .before .before .before .before .before .before .before .if1 .taken (u .0 ∙ e))), inl), (room-on (c .before .before .before .before .before .before .before .before .before .before .before .before .before .before .before .before .before .before .before .before .pre .1 .0) (c .before .before .before .before .before .before .before .before .before .before .loop .inv .3 .same), c .before .before .before .before .before .before .before .before .before .before .before .before .before .before .before .before .before .before .before .before .pre .1 .1 .1 (c .before .before .before .before .before .before .before .before .before .before .loop .l) inl (λ e. c .before .before .before .before .before .before .before .before .if1 .taken (u .0 ∙ e))))
 
 mul-held : tie.Need-mul-held Inv-loop μ-loop
 mul-held c = omega (arith, c .before .before .before .before .before .before .before .before .before .before .before .before .before .before .before .before .before .before .before .before .before .before .loop-test .taken, c .before .before .before .before .before .before .before .before .before .before .before .before .before .before .before .before .before .before .before .before .before .before .before .loop .inv .0, c .before .before .before .before .before .before .before .before .before .before .before .before .before .before .before .before .before .before .before .before .before .before .before .before .before .before .before .before .before .before .before .before .before .pre .0 .memory .few-lanes)
@@ -145,6 +148,7 @@ retire-spec =
     over-requires
     sub-w
     cast-w
+    array-read-leave
     leave-requires
     mul-held
     array-write-held
