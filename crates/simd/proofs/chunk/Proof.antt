@@ -44,7 +44,7 @@ width-requires : tie.Need-width-requires
 width-requires c κs = search needs
 
 scan-requires : tie.Need-scan-requires
-scan-requires c κs = let s = c .before .before .before .before .before in (s .pre .0, (s .pre .1 .0, s .pre .1 .1 .0))
+scan-requires c κs = let s = c .before .before .before .before .before in (s .pre .0, (omega (arith, s .pre .1 .0), s .pre .1 .1 .0))
 
 prepare-requires : tie.Need-prepare-requires
 prepare-requires c κs = search needs
