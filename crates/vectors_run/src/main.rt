@@ -3,9 +3,7 @@
 // iterations given, kept, lost), a sum over the whole lent output, and of both work slices how many zeros stand in front and
 // how many numbers behind are as they were. A word prints state, iterations, unsatisfied checks, BCH result, and 1 if the check that it
 // names is one of its unsatisfied checks, or 0 if there is none.
-ghost use mathlib.Core.Path.{_≡_};
 ghost use Prim.Native.Nat.{_+_, _<_, _≤_};
-ghost use lib.ListN.{length};
 use decoder::Ran;
 use decoder::Schedule;
 use decoder::Settings;
@@ -589,7 +587,7 @@ fn cut(
     );
 }
 
-// The case at a place; where it ends.
+// The case at a place, if there is one; where it ends.
 fn one(
     t: u64,
     input: &[u8],
@@ -600,17 +598,18 @@ fn one(
     out: &mut [u8],
     work: &mut [i8],
     index: &mut [u32],
-) -> usize
-    requires { ⌜ head < 1000000 ⌝ }
-{
-    let c = parts_at(input, head);
+) -> usize {
+    if input.len() <= head {
+        return head;
+    }
+    let c = parts_at(input, head % 1000000);
     unpack_lens(input, c.lens, lens);
     unpack_addrs(input, c.addrs, addrs);
     cut(t, input, c, lens, addrs, soft, out, work, index);
     c.end
 }
 
-// Every case of the input, at most 10,000.
+// Every case of the input, at most 1,000.
 fn all(
     input: &[u8],
     lens: &mut [u32],
@@ -619,15 +618,10 @@ fn all(
     out: &mut [u8],
     work: &mut [i8],
     index: &mut [u32],
-)
-    requires { ⌜ length (now input) ≤ 1000000 ⌝ }
-{
+) {
     let mut t: u64 = 0;
     let mut head: usize = 0;
-    while t < 10000 {
-        if input.len() <= head {
-            break;
-        }
+    while t < 1000 {
         head = one(t, input, head, lens, addrs, soft, out, work, index);
         t += 1;
     }
@@ -641,9 +635,7 @@ fn replay(
     out: &mut [u8],
     work: &mut [i8],
     index: &mut [u32],
-)
-    requires { ⌜ length (now input) ≤ 1000000 ⌝ }
-{
+) {
     let count = io::read_full(0, input);
     if count <= input.len() {
         all(&input[..count], lens, addrs, soft, out, work, index);
