@@ -11,7 +11,7 @@ use lib.Bits.{bitXor}
 use lib.ListN.{getD, length, set, length-set, replicate}
 use lib.Seq.{getD-set-same, getD-set-other}
 use Rattle.laws.specs.Xor.{_⊕_}
-use Rattle.algebra.specs.Ring.{Ring, ⊠-zero, ⊠-lc, ⊞-cancel}
+use Rattle.algebra.specs.Ring.{Ring, ⊠-zero, ⊠-lc, ⊞-cancel, one-⊠}
 use Rattle.algebra.specs.Series.{sum, sum-none, sum-last, sum-front, sum-ext, sum-more, pow, pow-add, conv-sum, conv-pow}
 use Rattle.algebra.specs.Power.{pow-mul}
 use Rattle.algebra.specs.Roots.{domain, pow-nz}
@@ -21,10 +21,10 @@ use Rattle.algebra.specs.Corrects.{roots-fit}
 use Rattle.algebra.specs.GfField.{El}
 use Rattle.gf16.specs.Field16.{gf16}
 use Rattle.gf16.specs.Alpha.{R16, α, α-nz, α-distinct}
-use Rattle.bch_locator.specs.Element.{toEl, toEl-inj, toEl-xor, toEl-zero, poly}
+use Rattle.bch_locator.specs.Element.{toEl, toEl-inj, toEl-xor, toEl-zero, toEl-one, poly}
 use Rattle.bch_locator.specs.Lanes.{Lanes, Products, PowersOf}
 use Rattle.bch_locator.specs.Places.{valueAt, Places-of, Reversed}
-use Rattle.bch_locator.proofs.Raised.{lanes-raised, lanes-past}
+use Rattle.bch_locator.proofs.Raised.{raised, lanes-raised, lanes-past}
 use Rattle.bch_locator.proofs.Steps.{zeros-at}
 use Rattle.bch_locator.proofs.Filling.{zero-lanes, lanes-set}
 
@@ -73,41 +73,92 @@ pow-none : (x : El 15) → R16 .𝟙 ≡ pow R16 x 0
 unfolding pow
 pow-none x = refl
 
-pub total-is : (t c : List ℕ) (l p : ℕ) → l ≤ 12 → Terms t c l p
-    → R16 ._⊞_ (sum R16 16 (poly t)) (poly c l) ≡ R16 ._⊠_ (pow R16 (pow R16 α p) l) (valueAt c l p)
-total-is t c l p h S =
-    ap₂ (R16 ._⊞_)
-    (sum-more R16 l 16 (poly t) (omega arith) (λ i g _. S .rest i g) ∙ sum-ext R16 l (poly t) (λ i. f (l - suc i)) term ∙ sym (sum-reverse R16 l f)) last
-    ∙ sym (sum-last R16 l f) ∙ sym (conv-sum R16 l (poly c) (pow R16 x)) ∙ conv-pow R16 l (poly c) x (gf16 .inv x) (gf16 .inv-law x (α-nz p))
+pow-one : (x : El 15) → pow R16 x 1 ≡ x
+unfolding pow
+pow-one x = R16 .⊠-one x
+
+-- term j of the register at α^-p, times α^(p l)
+unfoldable lifted : List ℕ → ℕ → ℕ → ℕ → El 15
+lifted c l p j = R16 ._⊠_ (poly c j) (pow R16 (pow R16 α p) (l - j))
+
+lifted-sum : (c : List ℕ) (l p : ℕ) → R16 ._⊞_ (sum R16 l (lifted c l p)) (poly c l) ≡ R16 ._⊠_ (pow R16 (pow R16 α p) l) (valueAt c l p)
+unfolding lifted
+lifted-sum c l p =
+    ap (R16 ._⊞_ (sum R16 l (lifted c l p))) last
+    ∙ sym (sum-last R16 l (lifted c l p)) ∙ sym (conv-sum R16 l (poly c) (pow R16 x)) ∙ conv-pow R16 l (poly c) x (gf16 .inv x) (gf16 .inv-law x (α-nz p))
   where
     x : El 15
     x = pow R16 α p
 
-    f : ℕ → El 15
-    f j = R16 ._⊠_ (poly c j) (pow R16 x (l - j))
-
-    term : (i : ℕ) → i < l → poly t i ≡ f (l - suc i)
-    term i g =
-        let e : suc i ≡ l - (l - suc i) = omega arith in
-        S .at i g ∙ ap (R16 ._⊠_ (poly c (l - suc i))) (pow-mul R16 α p (suc i) ∙ ap (pow R16 x) e)
-
-    last : poly c l ≡ f l
+    last : poly c l ≡ lifted c l p l
     last = let e : 0 ≡ l - l = omega arith in sym (R16 .⊠-one (poly c l)) ∙ ap (R16 ._⊠_ (poly c l)) (pow-none x ∙ ap (pow R16 x) e)
 
-module _ (t c : List ℕ) (l p v w : ℕ) (h : l ≤ 12) (S : Terms t c l p) (ev : toEl v ≡ sum R16 16 (poly t)) (ew : w ≡ getD c l 0) where
-  both : R16 ._⊞_ (toEl v) (toEl w) ≡ R16 ._⊠_ (pow R16 (pow R16 α p) l) (valueAt c l p)
-  unfolding poly
-  both = ap₂ (R16 ._⊞_) ev (ap toEl ew) ∙ total-is t c l p h S
+pub total-is : (t c : List ℕ) (l p : ℕ) → l ≤ 12 → Terms t c l p
+    → R16 ._⊞_ (sum R16 16 (poly t)) (poly c l) ≡ R16 ._⊠_ (pow R16 (pow R16 α p) l) (valueAt c l p)
+unfolding lifted
+total-is t c l p h S =
+    ap (λ y. R16 ._⊞_ y (poly c l))
+    (sum-more R16 l 16 (poly t) (omega arith) (λ i g _. S .rest i g) ∙ sum-ext R16 l (poly t) (λ i. lifted c l p (l - suc i)) term ∙ sym (sum-reverse R16 l (lifted c l p)))
+    ∙ lifted-sum c l p
+  where
+    term : (i : ℕ) → i < l → poly t i ≡ lifted c l p (l - suc i)
+    term i g =
+        let e : suc i ≡ l - (l - suc i) = omega arith in
+        S .at i g ∙ ap (R16 ._⊠_ (poly c (l - suc i))) (pow-mul R16 α p (suc i) ∙ ap (pow R16 (pow R16 α p)) e)
 
-  pub sum-hit : v ≡ w → valueAt c l p ≡ R16 .𝟘
-  sum-hit e =
+-- length 1: α^p and c 1
+one-is : (c : List ℕ) (p : ℕ) → poly c 0 ≡ R16 .𝟙 → R16 ._⊞_ (pow R16 α p) (poly c 1) ≡ R16 ._⊠_ (pow R16 (pow R16 α p) 1) (valueAt c 1 p)
+unfolding lifted
+one-is c p head =
+    ap (λ y. R16 ._⊞_ y (poly c 1)) (sym (sum-last R16 0 f ∙ ap (λ y. R16 ._⊞_ y (f 0)) (sum-none R16 f) ∙ R16 .⊞-comm _ _ ∙ R16 .⊞-zero (f 0) ∙ front)) ∙ lifted-sum c 1 p
+  where
+    f : ℕ → El 15
+    f = lifted c 1 p
+
+    front : f 0 ≡ pow R16 α p
+    front = ap (λ y. R16 ._⊠_ y (pow R16 (pow R16 α p) 1)) head ∙ one-⊠ R16 _ ∙ pow-one (pow R16 α p)
+
+-- two numbers whose sum is the register's value times a power of α
+module _ (c : List ℕ) (l p v w : ℕ) (both : R16 ._⊞_ (toEl v) (toEl w) ≡ R16 ._⊠_ (pow R16 (pow R16 α p) l) (valueAt c l p)) where
+  hit : v ≡ w → valueAt c l p ≡ R16 .𝟘
+  hit e =
       domain gf16 (valueAt c l p) (pow R16 (pow R16 α p) l)
       (R16 .⊠-comm _ _ ∙ sym both ∙ ap (λ (z : ℕ). R16 ._⊞_ (toEl z) (toEl w)) e ∙ R16 .⊞-self (toEl w))
       (pow-nz gf16 (pow R16 α p) l (α-nz p))
 
-  pub sum-miss : v < 65536 → w < 65536 → v ≢ w → valueAt c l p ≢ R16 .𝟘
-  sum-miss hv hw ne z =
+  miss : v < 65536 → w < 65536 → v ≢ w → valueAt c l p ≢ R16 .𝟘
+  miss hv hw ne z =
       ne (toEl-inj v w hv hw (⊞-cancel R16 (toEl v) (toEl w) (both ∙ ap (R16 ._⊠_ (pow R16 (pow R16 α p) l)) z ∙ ⊠-zero R16 _)))
+
+module _ (t c : List ℕ) (l p v w : ℕ) (h : l ≤ 12) (S : Terms t c l p) (ev : toEl v ≡ sum R16 16 (poly t)) (ew : w ≡ getD c l 0) where
+  both-sum : R16 ._⊞_ (toEl v) (toEl w) ≡ R16 ._⊠_ (pow R16 (pow R16 α p) l) (valueAt c l p)
+  unfolding poly
+  both-sum = ap₂ (R16 ._⊞_) ev (ap toEl ew) ∙ total-is t c l p h S
+
+  pub sum-hit : v ≡ w → valueAt c l p ≡ R16 .𝟘
+  sum-hit = hit c l p v w both-sum
+
+  pub sum-miss : v < 65536 → w < 65536 → v ≢ w → valueAt c l p ≢ R16 .𝟘
+  sum-miss = miss c l p v w both-sum
+
+module _ (c : List ℕ) (p v w : ℕ) (head : poly c 0 ≡ R16 .𝟙) (ev : toEl v ≡ pow R16 α p) (ew : w ≡ getD c 1 0) where
+  both-one : R16 ._⊞_ (toEl v) (toEl w) ≡ R16 ._⊠_ (pow R16 (pow R16 α p) 1) (valueAt c 1 p)
+  unfolding poly
+  both-one = ap₂ (R16 ._⊞_) ev (ap toEl ew) ∙ one-is c p head
+
+  pub one-hit : v ≡ w → valueAt c 1 p ≡ R16 .𝟘
+  one-hit = hit c 1 p v w both-one
+
+  pub one-miss : v < 65536 → w < 65536 → v ≢ w → valueAt c 1 p ≢ R16 .𝟘
+  one-miss = miss c 1 p v w both-one
+
+pub power-start : toEl 1 ≡ pow R16 α 0
+power-start = toEl-one ∙ pow-none α
+
+pub power-again : (x r p : ℕ) → x < 65536 → toEl x ≡ pow R16 α p → toEl r ≡ ev R16 32 (x * 2) α → toEl r ≡ pow R16 α (p + 1)
+power-again x r p h e f =
+    let k : 1 + p ≡ p + 1 = omega arith in
+    f ∙ raised x 1 h (omega arith) ∙ ap (R16 ._⊠_ (pow R16 α 1)) e ∙ sym (pow-add R16 α 1 p) ∙ ap (pow R16 α) k
 
 -- ---- the list of places
 pub places-start : (at c : List ℕ) (l : ℕ) → length at ≡ 12 → Places-of at 0 c l 0
@@ -189,11 +240,29 @@ places-hit at count c l p hl h head D z =
         let b : r .0 < count = r .1 in
         (r .0, omega arith, old (r .0) b ∙ r .2)
 
-pub places-as : {at : List ℕ} {count : ℕ} {c : List ℕ} {l p : ℕ} (at′ : List ℕ) (count′ : ℕ) → Places-of at count c l p → at′ ≡ at → count′ ≡ count → Places-of at′ count′ c l p
-places-as {at} {count} {c} {l} {p} at′ count′ D e f = transport (λ i. Places-of (sym e i) (sym f i) c l p) D
-
 pub places-end : (at : List ℕ) (count : ℕ) (c : List ℕ) (l p n : ℕ) → p ≡ n → Places-of at count c l p → Places-of at count c l n
 places-end at count c l p n e D = subst (Places-of at count c l) e D
+
+pub places-length : (at : List ℕ) (count : ℕ) (c : List ℕ) (l l′ n : ℕ) → l′ ≡ l → Places-of at count c l n → Places-of at count c l′ n
+places-length at count c l l′ n e D = subst (λ (k : ℕ). Places-of at count c k n) (sym e) D
+
+-- as many roots as the length: there are no others
+full-more : (at : List ℕ) (count : ℕ) (c : List ℕ) (l p k : ℕ) → p + k ≤ 65535 → poly c 0 ≡ R16 .𝟙 → count ≡ l → Places-of at count c l p → Places-of at count c l (p + k)
+full-more at count c l p zero h head e D = places-end at count c l p (p + 0) (omega arith) D
+full-more at count c l p (suc k) h head e D = more (full-more at count c l p k (omega arith) head e D)
+  where
+    more : Places-of at count c l (p + k) → Places-of at count c l (p + suc k)
+    more W =
+        places-end at count c l (p + k + 1) (p + suc k) (omega arith)
+        (places-miss at count c l (p + k) W (λ z. let f = count-fits at count c l (p + k) (omega arith) head W z in omega (arith, f)))
+
+pub places-full : (at : List ℕ) (count : ℕ) (c : List ℕ) (l p n : ℕ) → p ≤ n → n ≤ 65535 → poly c 0 ≡ R16 .𝟙 → count ≡ l → Places-of at count c l p → Places-of at count c l n
+places-full at count c l p n h g head e D =
+    let k : p + (n - p) ≡ n = omega arith in
+    places-end at count c l (p + (n - p)) n k (full-more at count c l p (n - p) (omega arith) head e D)
+
+pub places-as : {at : List ℕ} {count : ℕ} {c : List ℕ} {l p : ℕ} (at′ : List ℕ) (count′ : ℕ) → Places-of at count c l p → at′ ≡ at → count′ ≡ count → Places-of at′ count′ c l p
+places-as {at} {count} {c} {l} {p} at′ count′ D e f = transport (λ i. Places-of (sym e i) (sym f i) c l p) D
 
 -- ---- `lane_sum`
 pub lanes-none : (t : List ℕ) → toEl 0 ≡ sum R16 0 (poly t)

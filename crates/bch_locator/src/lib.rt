@@ -298,7 +298,7 @@ pub struct Places {
 }
 
 // The search from power 0 up. Lane i has c[len - 1 - i], times α^(i + 1) for each power passed, so that c[len] and the lanes' sum are the
-// register at α^-p times a power of α.
+// register at α^-p times a power of α. A register has no more roots than its length.
 fn roots(c: [u16; 13], len: usize, n: usize) -> Places
     requires { ⌜ (len ≤ 12) × (n ≤ 65535) × (poly c 0 ≡ R16 .𝟙) ⌝ }
     ensures { λ r. ⌜ Places-of (r .at) (r .count) c len n ⌝ }
@@ -312,6 +312,12 @@ fn roots(c: [u16; 13], len: usize, n: usize) -> Places
         if lane_sum(t) == entry(c, len) {
             at[count] = p;
             count += 1;
+            if count == len {
+                return Places {
+                    at: at,
+                    count: count,
+                };
+            }
         }
         let next = times(t, powers);
         t = next;
@@ -323,6 +329,25 @@ fn roots(c: [u16; 13], len: usize, n: usize) -> Places
     }
 }
 
+// The search for a register of length 1, 1 + c[1] x: its root is α^-p where c[1] is α^p.
+fn root(c: [u16; 13], n: usize) -> Places
+    requires { ⌜ (n ≤ 65535) × (poly c 0 ≡ R16 .𝟙) ⌝ }
+    ensures { λ r. ⌜ Places-of (r .at) (r .count) c 1 n ⌝ }
+{
+    let mut at = [0usize; 12];
+    let mut x: u16 = 1;
+    let mut p: usize = 0;
+    while p < n {
+        if x == entry(c, 1) {
+            at[0] = p;
+            return Places { at: at, count: 1 };
+        }
+        x = fold((x as u32) * 2);
+        p += 1;
+    }
+    Places { at: at, count: 0 }
+}
+
 // The Chien search: the powers below n, which are those present, at which the register vanishes.
 pub fn chien(register: Register, n: usize) -> Places
     requires { ⌜ (register .len ≤ 12) × (n ≤ 65535) × (poly (register .c) 0 ≡ R16 .𝟙) ⌝ }
@@ -330,5 +355,8 @@ pub fn chien(register: Register, n: usize) -> Places
 {
     let c = register.c;
     let len = register.len;
+    if len == 1 {
+        return root(c, n);
+    }
     roots(c, len, n)
 }

@@ -2,11 +2,11 @@
 -- Assumes nothing.
 use mathlib.Core.Path.{_≡_, refl}
 use mathlib.Core.Logic.{⊎-elim}
-use Prim.Native.Nat.{suc, _-_, _≤_}
+use Prim.Native.Nat.{suc, _+_, _-_, _≤_}
 use Rattle.bch_locator.specs.Lanes.{PowersOf}
 use Rattle.bch_locator.specs.Places.{Places-of}
 use Rattle.bch_locator.proofs.Raised.{powers-small}
-use Rattle.bch_locator.proofs.Search.{Terms, terms-start, terms-again, sum-hit, sum-miss, count-fits, places-start, places-miss, places-hit, places-as, places-end}
+use Rattle.bch_locator.proofs.Search.{Terms, terms-start, terms-again, sum-hit, sum-miss, count-fits, places-start, places-miss, places-hit, places-full, places-as, places-end}
 use borrow.Author.Needs.{needs}
 use native.Mathlib.Omega.{arith}
 use Rattle.bch_locator.proofs.roots.Statement.{statement}
@@ -47,6 +47,14 @@ array-write-at c =
 add-count : tie.Need-add-count Inv-loop μ-loop
 add-count c = search needs
 
+returns : tie.Need-returns Inv-loop μ-loop
+returns c =
+    let l = c .before .before .before .before .before .loop in
+    let a = c .before .before .before .before .before .before .before .before in
+    let z = sum-hit (l .t) (a .args .c) (a .args .len) (l .p) _ _ (a .pre .0) (l .inv .2) (c .before .before .before .lane-sum .ensures) (c .before .before .entry .ensures) (c .before .if1 .taken) in
+    places-full _ _ (a .args .c) (a .args .len) (l .p + 1) (a .args .n) (omega arith) (a .pre .1) (a .pre .2) (c .if2 .taken)
+    (places-hit (l .at) (l .count) (a .args .c) (a .args .len) (l .p) (a .pre .0) (omega arith) (a .pre .2) (l .inv .3) z)
+
 times-requires : tie.Need-times-requires Inv-loop μ-loop
 times-requires c κs =
     let l = c .before .before .before .before .loop in
@@ -68,14 +76,14 @@ loop-again c =
       terms-again _ (l .t) _ _ _ (l .p) (a .pre .0) (l .inv .2) (l .inv .1) (c .times .ensures),
       ⊎-elim
           (λ w. places-as _ _ (places-hit (l .at) (l .count) (a .args .c) (a .args .len) (l .p) (a .pre .0) (omega arith) (a .pre .2) (l .inv .3)
-          (sum-hit (l .t) (a .args .c) (a .args .len) (l .p) _ _ (a .pre .0) (l .inv .2) (e .before .lane-sum .ensures) (e .entry .ensures) (w .0 .taken))) (w .1) (w .2))
+          (sum-hit (l .t) (a .args .c) (a .args .len) (l .p) _ _ (a .pre .0) (l .inv .2) (e .before .lane-sum .ensures) (e .entry .ensures) (w .0 .taken))) (w .2) (w .3))
           (λ w. places-as _ _ (places-miss (l .at) (l .count) (a .args .c) (a .args .len) (l .p) (l .inv .3)
           (sum-miss (l .t) (a .args .c) (a .args .len) (l .p) _ _ (a .pre .0) (l .inv .2) (e .before .lane-sum .ensures) (e .entry .ensures) (search needs) (search needs) (w .0 .left))) (w .1) (w .2))
           (c .before .if1 .came),
     )
 
-returns : tie.Need-returns Inv-loop μ-loop
-returns c =
+returns-2 : tie.Need-returns-2 Inv-loop μ-loop
+returns-2 c =
     let l = c .before .loop in
     let a = c .before .before .before .before in
     let e : l .p ≡ a .args .n = omega arith in
@@ -95,8 +103,9 @@ roots-spec =
     mul-at
     array-write-at
     add-count
+    returns
     times-requires
     add-p
     loop-less
     loop-again
-    returns)
+    returns-2)
