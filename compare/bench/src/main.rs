@@ -2,17 +2,19 @@
 
 mod chart;
 mod codes;
+mod growth;
 mod noise;
 mod runs;
 mod time;
 
-const USAGE: &str = "bench codes | runs [CHART.svg] | noise [CHART.svg] [WORDS]";
+const USAGE: &str = "bench codes | growth | runs [CHART.svg] | noise [CHART.svg] [WORDS]";
 
 fn main() {
     let words: Vec<String> = std::env::args().skip(1).collect();
     let chart = words.get(1).map(String::as_str);
     match words.first().map(String::as_str) {
         Some("codes") => codes::bench(),
+        Some("growth") => growth::bench(),
         Some("runs") => runs::bench(chart),
         Some("noise") => noise::bench(
             chart,

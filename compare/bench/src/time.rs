@@ -45,6 +45,18 @@ fn times(mut all: Vec<f64>) -> Times {
     }
 }
 
+/// `samples` calls of one side.
+pub fn alone(samples: usize, mut f: impl FnMut()) -> Times {
+    f();
+    let mut all = Vec::new();
+    for _ in 0..samples {
+        let start = now();
+        f();
+        all.push(now() - start);
+    }
+    times(all)
+}
+
 /// `samples` times `turns` calls of each side, in turn; times of one call.
 pub fn pair(
     samples: usize,
