@@ -1,4 +1,4 @@
--- Lists of eOf: their parts, and where their pOf and bits lie.
+-- Lists of edges: their parts, and where their checks and bits lie.
 use mathlib.Core.Path.{_≡_, refl, sym, ap, ap₂, _∙_, subst}
 use mathlib.Core.Bool.{Bool, true, false, cond}
 use mathlib.Core.List.{List, [], _∷_, _++_, append-assoc}

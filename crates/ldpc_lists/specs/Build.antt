@@ -1,4 +1,4 @@
--- Filling the lists of all pOf from their ends: each edge, the last first, is put before what its check has so far.
+-- Filling the lists of all checks from their ends: each edge, the last first, is put before what its check has so far.
 use mathlib.Core.Path.{_≡_, refl, sym, ap, ap₂, _∙_, subst}
 use mathlib.Core.Logic.{_≢_}
 use mathlib.Core.Bool.{Bool, true, false, cond}
@@ -66,7 +66,7 @@ only-tail p m c es = go (ℕ-discrete p c)
     go (yes e) = omega (arith, ap length (only-hit p m c es e))
     go (no e) = omega (arith, ap length (only-miss p m c es e))
 
--- ---- room for the eOf es: each cursor can go down once for each of them
+-- ---- room for the edges es: each cursor can go down once for each of them
 pub record Room (P : ℕ) (es : List Edge) (st : Lists) : Type 0 where
   pub long : P < length (st .at)
   pub fits : (c : ℕ) → c < P → getD (st .at) c 0 ≤ length (st .bits)
@@ -111,7 +111,7 @@ room-then P k xs ys st I r =
     at : (c : ℕ) → c < P → getD (putAll ys st .at) c 0 + length (only c ys) ≡ getD (st .at) c 0
     at = room-at P k ys st I (room-later P xs ys st r)
 
--- ---- filled with the eOf es of all
+-- ---- filled with the edges es of all
 pub record Filled (P : ℕ) (all es : List Edge) (st : Lists) : Type 0 where
   pub long : length (st .at) ≡ suc P
   pub wide : length (st .bits) ≡ start all P
@@ -231,7 +231,7 @@ listed P all st F = record { long = F .long; wide = F .wide; begins = begins; li
             ∙ F .has c i h g
 
 -- ---- for the loops
--- the state before edge e of the eOf xs ++ e ∷ ys has room for e
+-- the state before edge e of the edges xs ++ e ∷ ys has room for e
 pub room-next : (P k : ℕ) (xs : List Edge) (p m : ℕ) (ys : List Edge) (st : Lists) → Inside P k ys → p < P → Room P (xs ++ edge p m ∷ ys) st
     → Ready p (putAll ys st)
 unfolding only
