@@ -27,12 +27,12 @@ start-le es b (suc c) h = go (decLt b (suc c)) (λ (g : b ≤ c). start-le es b 
     go (yes g) ih = let i = ih (omega arith) in omega arith
     go (no g) ih = let e : b ≡ suc c = omega arith in subst (λ (z : ℕ). start es z ≤ start es c + length (only c es)) (sym e) (omega arith)
 
--- check c's eOf to the bits vs
+-- check c's edges to the bits vs
 unfoldable pub toBits : ℕ → List ℕ → List Edge
 toBits c [] = []
 toBits c (v ∷ vs) = edge c v ∷ toBits c vs
 
--- the stairs of d pOf from check c
+-- the stairs of d checks from check c
 unfoldable pub toStairs : ℕ → ℕ → ℕ → List Edge
 toStairs k c zero = []
 toStairs k c (suc d) = toBits c (stairs k c) ++ toStairs k (suc c) d

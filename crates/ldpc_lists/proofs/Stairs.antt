@@ -43,7 +43,7 @@ pub stair-two : (k c v : ℕ) (L L′ st : Lists) → v ≡ k + c → (c ≡ 0 �
 unfolding putAll
 stair-two k c v L L′ st f e l m = m ∙ ap (put c (v - 1)) l ∙ ap (λ (es : List Edge). putAll es st) (sym (stair-suc k c v e f))
 
--- ---- all pOf
+-- ---- all checks
 stairs-append : (k b d e : ℕ) → toStairs k b (d + e) ≡ toStairs k b d ++ toStairs k (b + d) e
 unfolding toStairs
 stairs-append k b zero e =
