@@ -6,15 +6,16 @@ use Prim.Native.Nat.{ℕ, zero, suc, _+_, _/_, _≤_, _<_}
 use native.Mathlib.Omega.{arith}
 use native.Mathlib.Decide.{ℕ-discrete}
 use lib.ListN.{length, getD, take, drop, length-take, length-drop}
-use lib.Seq.{getD-drop}
+use lib.Seq.{getD-drop, take-at, drop-at}
 use Rattle.ldpc_edges.specs.Encoder.{Bits}
-use Rattle.bch.specs.Distance.{highBits}
+use Rattle.bch.specs.Distance.{distance, highBits}
 use Rattle.bch.specs.Decode.{answerOf, leftOf}
 use Rattle.bch.specs.Exact.{Near, Exact, exact}
 use Rattle.bch.specs.Answers.{wordRefusal, fair-word, decodedOf, wordOut, changed}
 use Rattle.bch.specs.declared.Decoded.{Decoded}
 use Rattle.bch.specs.declared.Decoded.the-variants.{Corrected, Uncorrectable, Refused}
 use Rattle.outcome.specs.Outcome.{corrected, lost, resultOf, bchOf}
+use Rattle.outcome.specs.Laws.{word-length}
 
 -- a part of an accepted length, inside the word
 pub record Part (first size : ℕ) (b : List ℕ) : Type 0 where
@@ -71,6 +72,23 @@ module _ (first size : ℕ) (b : List ℕ) (P : Part first size b) where
 
       back : (k : ℕ) × (decodedOf part ≡ Corrected k) → resultOf (decodedOf part) ≢ lost
       back h q = let e : h .0 ≡ 4294967295 = sym (ap resultOf (h .1)) ∙ q in omega (arith, e, few (h .0) (h .1))
+
+  -- the part that stands in the word at the end
+  part-out : take size (drop first (corrected first size b)) ≡ wordOut part
+  unfolding corrected
+  part-out =
+      ap (take size) (drop-at (take first b) (wordOut part ++ drop (first + size) b) first (length-take first b ∙ omega (arith, P .inside)))
+      ∙ take-at (wordOut part) (drop (first + size) b) size (word-length part ∙ part-length)
+
+  -- a word that is not lost: its part is then a codeword, and the result is the number of bits that were changed
+  pub kept-count : bchOf first size b ≢ lost → Near part (take size (drop first (corrected first size b))) × (distance part (take size (drop first (corrected first size b))) ≡ bchOf first size b)
+  unfolding bchOf resultOf
+  kept-count h = subst (λ (x : List ℕ). Near part x × (distance part x ≡ bchOf first size b)) (sym part-out) (go (decodedOf part) refl)
+    where
+      go : (d : Decoded) → decodedOf part ≡ d → Near part (wordOut part) × (distance part (wordOut part) ≡ resultOf (decodedOf part))
+      go (Corrected k) e = let c = part-exact .count k e in (c .0, c .1 ∙ sym (ap resultOf e))
+      go Uncorrectable e = absurd (h (ap resultOf e))
+      go (Refused k) e = absurd (h (ap resultOf e))
 
 -- ---- bytes 0 or 1 stay 0 or 1
 bits-append : (xs ys : List ℕ) → Bits xs → Bits ys → Bits (xs ++ ys)
