@@ -1,4 +1,4 @@
-//! Links the archive: the one that `RAXDOV_LIB` names, or `target/staticlib/libraxdov.a` of the repository.
+//! Links the archive: the one that `RAXDOV_LIB` names, the file or its folder, or `target/staticlib/libraxdov.a` of the repository.
 
 use std::env;
 use std::path::PathBuf;
@@ -9,6 +9,11 @@ fn main() {
     let file = match env::var_os("RAXDOV_LIB") {
         Some(file) => PathBuf::from(file),
         None => here.join("../../target/staticlib/libraxdov.a"),
+    };
+    let file = if file.is_dir() {
+        file.join("libraxdov.a")
+    } else {
+        file
     };
     let Ok(file) = file.canonicalize() else {
         panic!(

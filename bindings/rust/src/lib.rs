@@ -34,6 +34,7 @@
 
 mod archive;
 pub mod bch;
+mod declared;
 pub mod ldpc;
 mod refusal;
 pub mod run;

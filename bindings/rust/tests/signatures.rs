@@ -1,4 +1,4 @@
-//! The C header and the declarations of src/archive.rs repeat the signatures of the archive's source.
+//! The C header and the declarations of src/declared.rs repeat the signatures of the archive's source.
 
 use std::fs;
 use std::path::Path;
@@ -125,7 +125,7 @@ fn the_header_repeats_them() {
 
 #[test]
 fn the_declarations_repeat_them() {
-    let archive = read("src/archive.rs");
+    let archive = read("src/declared.rs");
     let (block, _) = cut(&archive, "unsafe extern \"C\" {", "\n}").expect("the block");
     let mut rest = block;
     let mut declared = Vec::new();

@@ -2,127 +2,9 @@
 
 use crate::lent::Lent;
 
-unsafe extern "C" {
-    fn raxdov_quantise(
-        llr: *const f32,
-        llr_len: usize,
-        scale: f32,
-        out: *mut i8,
-        out_len: usize,
-    ) -> u32;
-    fn raxdov_ldpc_sizes(
-        n: u32,
-        lens: *const u32,
-        rows: usize,
-        addrs: *const u16,
-        addresses: usize,
-        sizes: *mut u32,
-    ) -> u32;
-    fn raxdov_ldpc_new(
-        n: u32,
-        lens: *const u32,
-        rows: usize,
-        addrs: *const u16,
-        addresses: usize,
-        lists: *mut u32,
-        lists_len: usize,
-        code: *mut u32,
-    ) -> u32;
-    fn raxdov_ldpc_check(
-        n: u32,
-        lens: *const u32,
-        rows: usize,
-        addrs: *const u16,
-        addresses: usize,
-        c: u32,
-        out: *mut u32,
-        out_len: usize,
-        count: *mut u32,
-    ) -> u32;
-    fn raxdov_ldpc_parity(
-        n: u32,
-        lens: *const u32,
-        rows: usize,
-        addrs: *const u16,
-        addresses: usize,
-        info: *const u8,
-        info_len: usize,
-        out: *mut u8,
-        out_len: usize,
-    ) -> u32;
-    fn raxdov_ldpc_encode(
-        n: u32,
-        lens: *const u32,
-        rows: usize,
-        addrs: *const u16,
-        addresses: usize,
-        info: *const u8,
-        info_len: usize,
-        out: *mut u8,
-        out_len: usize,
-    ) -> u32;
-    fn raxdov_ldpc_syndrome_weight(
-        n: u32,
-        lens: *const u32,
-        rows: usize,
-        addrs: *const u16,
-        addresses: usize,
-        bits: *const u8,
-        bits_len: usize,
-        count: *mut u32,
-    ) -> u32;
-    fn raxdov_bch_parity(
-        message: *const u8,
-        message_len: usize,
-        out: *mut u8,
-        out_len: usize,
-    ) -> u32;
-    fn raxdov_bch_encode(
-        message: *const u8,
-        message_len: usize,
-        out: *mut u8,
-        out_len: usize,
-    ) -> u32;
-    fn raxdov_bch_decode(word: *mut u8, word_len: usize, result: *mut u32) -> u32;
-    fn raxdov_record_words() -> u32;
-    fn raxdov_tally_words() -> u32;
-    fn raxdov_run_sizes(
-        n: u32,
-        lens: *const u32,
-        rows: usize,
-        addrs: *const u16,
-        addresses: usize,
-        lanes: u32,
-        sizes: *mut usize,
-    ) -> u32;
-    fn raxdov_run(
-        n: u32,
-        lens: *const u32,
-        rows: usize,
-        addrs: *const u16,
-        addresses: usize,
-        soft: *const i8,
-        soft_len: usize,
-        lanes: u32,
-        limit: u32,
-        layered: u32,
-        step: u32,
-        offset: i8,
-        rounds: u32,
-        first: u32,
-        length: u32,
-        out: *mut u8,
-        out_len: usize,
-        records: *mut u32,
-        records_len: usize,
-        tally: *mut u32,
-        ending: *mut u32,
-        work: *mut i8,
-        work_len: usize,
-        index: *mut u32,
-        index_len: usize,
-    ) -> u32;
-}
+#[path = "../../../bindings/rust/src/declared.rs"]
+mod declared;
+use declared::*;
 
 /// The BCH result of an uncorrectable or lost word.
 pub const LOST: u32 = u32::MAX;
@@ -181,7 +63,7 @@ pub fn ldpc_sizes(t: &Table, sizes: &mut Lent<u32>) -> u32 {
             t.lens.len(),
             t.addrs.ptr(),
             t.addrs.len(),
-            sizes.ptr_mut(),
+            sizes.ptr_mut().cast(),
         )
     }
 }
@@ -198,7 +80,7 @@ pub fn ldpc_new(t: &Table, lists: &mut Lent<u32>, code: &mut Lent<u32>) -> u32 {
             t.addrs.len(),
             lists.ptr_mut(),
             n,
-            code.ptr_mut(),
+            code.ptr_mut().cast(),
         )
     }
 }
@@ -305,7 +187,7 @@ pub fn run_sizes(t: &Table, lanes: u32, sizes: &mut Lent<usize>) -> u32 {
             t.addrs.ptr(),
             t.addrs.len(),
             lanes,
-            sizes.ptr_mut(),
+            sizes.ptr_mut().cast(),
         )
     }
 }
@@ -339,7 +221,7 @@ pub fn run(t: &Table, soft: &Lent<i8>, set: Settings, to: &mut Space) -> u32 {
             out,
             to.records.ptr_mut(),
             records,
-            to.tally.ptr_mut(),
+            to.tally.ptr_mut().cast(),
             to.ending.ptr_mut(),
             to.work.ptr_mut(),
             work,
