@@ -4,3 +4,4 @@ pub mod Demand
 pub mod Runs
 pub mod Accept
 pub mod Core
+pub mod One
