@@ -9,11 +9,9 @@ use lib.IntN.{ℤ, pos}
 use lib.ListN.{length, getD, drop, replicate}
 use Rattle.lane_math.specs.Check.{Word}
 use Rattle.ldpc_shape.specs.Shape.{eOf}
-use Rattle.schedule.specs.Run.{Words, Result, run, held}
+use Rattle.schedule.specs.Run.{Words, Result, is-stopped, held, run, input-order}
 use Rattle.schedule.specs.Status.{waiting, status, largest}
 use Rattle.schedule.specs.Demand.{Demand}
-use Rattle.schedule.specs.Loop.{is-stopped}
-use Rattle.schedule.specs.Theorem.{input-order}
 use Rattle.outcome.specs.Code.{codeOf}
 use Rattle.decoder_refuse.specs.Refusal.{workNeed, indexNeed}
 use Rattle.decoder_words.specs.Book.{book, view, ownPart}

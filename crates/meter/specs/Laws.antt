@@ -2,7 +2,7 @@
 use mathlib.Core.Bool.{Bool, true, false}
 use mathlib.Core.List.{List, [], _∷_}
 use mathlib.Core.Path.{_≡_, refl, sym, _∙_, ap}
-use Prim.Native.Nat.{ℕ, zero, suc, _+_, _<_, _≤_}
+use Prim.Native.Nat.{ℕ, zero, suc, _+_, _<_}
 use native.Mathlib.Nat.{not-suc-le-zero, le-of-suc-le-suc}
 use native.Mathlib.Omega.{arith}
 use lib.IntN.{ℤ}
@@ -62,12 +62,6 @@ module _ (r : Ran) where
   record-from w (suc n) i [] d l m = absurd (not-suc-le-zero {n = i} m)
   record-from w (suc n) zero (x ∷ rs) d l m = let e : w ≡ w + 0 = omega arith in ap (recordOf r) e
   record-from w (suc n) (suc i) (x ∷ rs) d l m = let e : suc w + i ≡ w + suc i = omega arith in record-from (suc w) n i rs d (le-of-suc-le-suc l) (le-of-suc-le-suc m) ∙ ap (recordOf r) e
-
-  pub record-past : (w n i : ℕ) (rs : List WordRecord) (d : WordRecord) → n ≤ i → getD (recordsFrom r w n rs) i d ≡ getD rs i d
-  record-past w zero i rs d l = refl
-  record-past w (suc n) i [] d l = refl
-  record-past w (suc n) zero (x ∷ rs) d l = absurd (not-suc-le-zero {n = n} l)
-  record-past w (suc n) (suc i) (x ∷ rs) d l = record-past (suc w) n i rs d (le-of-suc-le-suc l)
 
   pub length-records : (w n : ℕ) (rs : List WordRecord) → length (recordsFrom r w n rs) ≡ length rs
   length-records w zero rs = refl

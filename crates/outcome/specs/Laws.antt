@@ -1,28 +1,22 @@
--- What holds of a word's bits, of its corrected bits, of its own soft values, and of a lane that holds it from its start.
+-- What holds of a word's bits, of its corrected bits, and of words kept and lost.
 use mathlib.Core.Path.{_≡_, refl, sym, ap, ap₂, _∙_}
 use mathlib.Core.Logic.{if-pos, if-neg}
 use mathlib.Core.Bool.{Bool, true, false, cond}
 use mathlib.Core.List.{List, [], _∷_, _++_}
-use Prim.Native.Nat.{ℕ, zero, suc, _+_, _-_, _*_, _≤_, _<_}
+use Prim.Native.Nat.{ℕ, zero, suc, _+_, _-_, _≤_, _<_}
 use native.Mathlib.Omega.{arith}
-use native.Mathlib.Decide.{ℕ-discrete, decLe, decLt}
+use native.Mathlib.Decide.{ℕ-discrete, decLe}
 use native.Mathlib.Numerals.{add-one}
-use borrow.Author.Tests.{ltb-true}
-use lib.Dec.{ltb}
-use lib.IntN.{ℤ, pos}
-use lib.ListN.{length, getD, take, drop, set, length-append, length-take, length-drop, List·getD-eq-default}
-use lib.Seq.{getD-take, getD-drop, length-take-le, take-suc-set, take-all, drop-drop}
+use lib.ListN.{length, take, drop, set, length-append, length-take, length-drop}
+use lib.Seq.{take-suc-set, take-all, drop-drop}
 use Rattle.lane_math.specs.Check.{Word}
 use Rattle.lane_math.specs.Iteration.{hard}
-use Rattle.simd.specs.Words.{within, wordOf}
-use Rattle.ldpc_edges.specs.Encoder.{Bits}
 use Rattle.bch_remainder.specs.Word.{remainderOf}
 use Rattle.bch.specs.Decode.{register, leftBy, leftOf, flipped}
 use Rattle.bch.specs.Flips.{flipped-length}
 use Rattle.bch.specs.Answers.{outIf, wordRefusal, wordOut, decodedOf}
 use Rattle.bch.specs.declared.Decoded.{Decoded}
-use Rattle.outcome.specs.Outcome.{ownWord, begin, bitsFrom, bitsOf, corrected, resultOf, bchOf, isFinished, isLost, lostOf, keptOf}
-use Rattle.outcome.specs.Index.{hard-le, values}
+use Rattle.outcome.specs.Outcome.{bitsFrom, bitsOf, corrected, resultOf, bchOf, isFinished, isLost, lostOf, keptOf}
 
 -- ---- hard decisions
 bits-from-length : (x : Word) (v m : ℕ) → length (bitsFrom x v m) ≡ m
@@ -33,26 +27,6 @@ bits-from-length x v (suc m) = ap suc (bits-from-length x (suc v) m)
 pub bits-length : (n : ℕ) (x : Word) → length (bitsOf n x) ≡ n
 unfolding bitsOf
 bits-length n x = bits-from-length x 0 n
-
-bits-from-at : (x : Word) (v m i : ℕ) → i < m → getD (bitsFrom x v m) i 0 ≡ hard (x .L (v + i))
-unfolding bitsFrom
-bits-from-at x v zero i h = absurd (omega arith)
-bits-from-at x v (suc m) zero h = let e : v ≡ v + 0 = omega arith in ap (λ (z : ℕ). hard (x .L z)) e
-bits-from-at x v (suc m) (suc i) h =
-    let e : suc v + i ≡ v + suc i = omega arith in
-    bits-from-at x (suc v) m i (omega arith) ∙ ap (λ (z : ℕ). hard (x .L z)) e
-
-pub bits-at : (n : ℕ) (x : Word) (i : ℕ) → i < n → getD (bitsOf n x) i 0 ≡ hard (x .L i)
-unfolding bitsOf
-bits-at n x i h = let e : 0 + i ≡ i = omega arith in bits-from-at x 0 n i h ∙ ap (λ (z : ℕ). hard (x .L z)) e
-
--- they are 0 or 1
-pub bits-are : (n : ℕ) (x : Word) → Bits (bitsOf n x)
-bits-are n x i = go (decLt i n)
-  where
-    go : Dec (i < n) → getD (bitsOf n x) i 0 < 2
-    go (yes h) = omega (arith, bits-at n x i h, hard-le (x .L i))
-    go (no h) = omega (arith, List·getD-eq-default (bitsOf n x) 0 {n = i} (omega (arith, bits-length n x)))
 
 bits-from-snoc : (x : Word) (v m : ℕ) → bitsFrom x v (suc m) ≡ bitsFrom x v m ++ (hard (x .L (v + m)) ∷ [])
 unfolding bitsFrom
@@ -124,32 +98,10 @@ result-whole first size b answer e =
     let m : first + size - first ≡ size = omega arith in
     ap resultOf (e ∙ ap (λ (k : ℕ). decodedOf (take k (drop first b))) m)
 
--- ---- a word's own soft values
-pub own-length : (n w : ℕ) (soft : List ℤ) → w * n + n ≤ length soft → length (ownWord n w soft) ≡ n
-unfolding ownWord
-own-length n w soft h = length-take-le n (drop (w * n) soft) (omega (arith, length-drop (w * n) soft))
-
-pub own-at : (n w : ℕ) (soft : List ℤ) (v : ℕ) → v < n → values (ownWord n w soft) v ≡ values soft (w * n + v)
-unfolding ownWord
-own-at n w soft v h = getD-take n (drop (w * n) soft) v (pos 0) h ∙ getD-drop (w * n) soft v (pos 0)
-
--- ---- a lane whose first n rows are the soft values and whose messages are 0 holds the word as it begins
-pub begin-column : (n E : ℕ) (f : ℕ → ℤ) (soft : List ℤ) → ((v : ℕ) → v < n → f v ≡ values soft v) → ((e : ℕ) → e < E → f (n + e) ≡ pos 0) → wordOf n E f ≡ begin n soft
-unfolding wordOf begin within
-begin-column n E f soft g h = λ i. record { L = λ v. value v (ltb v n) refl i; r = λ e. message e (ltb e E) refl i }
-  where
-    value : (v : ℕ) (b : Bool) → ltb v n ≡ b → cond b (f v) (pos 0) ≡ cond b (getD soft v (pos 0)) (pos 0)
-    value v true s = g v (ltb-true v n s)
-    value v false s = refl
-
-    message : (e : ℕ) (b : Bool) → ltb e E ≡ b → cond b (f (n + e)) (pos 0) ≡ pos 0
-    message e true s = h e (ltb-true e E s)
-    message e false s = refl
-
 -- ---- a finished word is kept or lost, and no other is either
 pub kept-or-lost : (state bch : ℕ) → keptOf state bch + lostOf state bch ≡ cond (isFinished state) 1 0
 unfolding keptOf lostOf
-kept-or-lost state bch = go (isFinished state) (isLost state bch)
+kept-or-lost state bch = go (isFinished state) (isLost bch)
   where
     go : (f l : Bool) → cond f (cond l 0 1) 0 + cond f (cond l 1 0) 0 ≡ cond f 1 0
     go true true = refl

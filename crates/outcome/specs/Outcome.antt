@@ -70,16 +70,17 @@ stateOf met = cond met 2 3
 unfoldable pub isFinished : ℕ → Bool
 isFinished state = eqb state 2 || eqb state 3
 
--- "A finished word is lost if BCH refuses, else kept": by its state and its BCH result
-unfoldable pub isLost : ℕ → ℕ → Bool
-isLost state bch = eqb bch lost
+-- whether a record's BCH result says that the word is lost; a word that waits or is held has 0 there
+unfoldable pub isLost : ℕ → Bool
+isLost bch = eqb bch lost
 
--- what a word's record adds to the tally's `lost` and to its `kept`: words that wait or are held are neither
+-- "A finished word is lost if BCH refuses, else kept": what a word's record adds to the tally's `lost` and to its `kept`. Words that wait or
+-- are held are neither.
 unfoldable pub lostOf : ℕ → ℕ → ℕ
-lostOf state bch = cond (isFinished state) (cond (isLost state bch) 1 0) 0
+lostOf state bch = cond (isFinished state) (cond (isLost bch) 1 0) 0
 
 unfoldable pub keptOf : ℕ → ℕ → ℕ
-keptOf state bch = cond (isFinished state) (cond (isLost state bch) 0 1) 0
+keptOf state bch = cond (isFinished state) (cond (isLost bch) 0 1) 0
 
 -- all of a finished word's record but the named check, and its bits
 pub record Outcome : Type 0 where

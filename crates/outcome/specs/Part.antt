@@ -1,14 +1,13 @@
 -- The BCH part of a word: what its correction inside the word gives.
 use mathlib.Core.Path.{_≡_, refl, sym, ap, _∙_, subst}
 use mathlib.Core.Logic.{_≢_, _↔_, _⊎_, inl, inr, if-pos}
-use mathlib.Core.List.{List, [], _∷_, _++_}
-use Prim.Native.Nat.{ℕ, zero, suc, _+_, _/_, _≤_, _<_}
+use mathlib.Core.List.{List, _++_}
+use Prim.Native.Nat.{ℕ, _+_, _≤_}
 use native.Mathlib.Omega.{arith}
 use native.Mathlib.Decide.{ℕ-discrete}
-use lib.ListN.{length, getD, take, drop, length-take, length-drop}
-use lib.Seq.{getD-drop, take-at, drop-at}
-use Rattle.ldpc_edges.specs.Encoder.{Bits}
-use Rattle.bch.specs.Distance.{distance, highBits}
+use lib.ListN.{length, take, drop, length-take, length-drop}
+use lib.Seq.{take-at, drop-at}
+use Rattle.bch.specs.Distance.{distance}
 use Rattle.bch.specs.Decode.{answerOf, leftOf}
 use Rattle.bch.specs.Exact.{Near, Exact, exact}
 use Rattle.bch.specs.Answers.{wordRefusal, fair-word, decodedOf, wordOut, changed}
@@ -89,37 +88,3 @@ module _ (first size : ℕ) (b : List ℕ) (P : Part first size b) where
       go (Corrected k) e = let c = part-exact .count k e in (c .0, c .1 ∙ sym (ap resultOf e))
       go Uncorrectable e = absurd (h (ap resultOf e))
       go (Refused k) e = absurd (h (ap resultOf e))
-
--- ---- bytes 0 or 1 stay 0 or 1
-bits-append : (xs ys : List ℕ) → Bits xs → Bits ys → Bits (xs ++ ys)
-bits-append [] ys h g i = g i
-bits-append (x ∷ xs) ys h g zero = h 0
-bits-append (x ∷ xs) ys h g (suc i) = bits-append xs ys (λ j. h (suc j)) g i
-
-bits-take : (k : ℕ) (xs : List ℕ) → Bits xs → Bits (take k xs)
-bits-take zero xs h i = omega arith
-bits-take (suc k) [] h i = omega arith
-bits-take (suc k) (x ∷ xs) h zero = h 0
-bits-take (suc k) (x ∷ xs) h (suc i) = bits-take k xs (λ j. h (suc j)) i
-
-bits-drop : (k : ℕ) (xs : List ℕ) → Bits xs → Bits (drop k xs)
-bits-drop k xs h i = subst (λ (z : ℕ). z < 2) (sym (getD-drop k xs i 0)) (h (k + i))
-
-high-at : (w : List ℕ) (i : ℕ) → getD (highBits w) i 0 ≡ getD w i 0 / 2
-unfolding highBits
-high-at [] i = refl
-high-at (b ∷ w) zero = refl
-high-at (b ∷ w) (suc i) = high-at w i
-
-bits-high : (w v : List ℕ) → highBits v ≡ highBits w → Bits w → Bits v
-bits-high w v e h i =
-    let q : getD v i 0 / 2 ≡ getD w i 0 / 2 = sym (high-at v i) ∙ ap (λ (l : List ℕ). getD l i 0) e ∙ high-at w i in
-    omega (arith, q, h i)
-
-pub corrected-bits : (first size : ℕ) (b : List ℕ) → Part first size b → Bits b → Bits (corrected first size b)
-unfolding corrected
-corrected-bits first size b P h =
-    bits-append (take first b) (wordOut (take size (drop first b)) ++ drop (first + size) b) (bits-take first b h)
-    (bits-append (wordOut (take size (drop first b))) (drop (first + size) b)
-    (bits-high (take size (drop first b)) (wordOut (take size (drop first b))) (part-exact first size b P .rest) (bits-take size (drop first b) (bits-drop first b h)))
-    (bits-drop (first + size) b h))

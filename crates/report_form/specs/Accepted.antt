@@ -3,7 +3,6 @@ use mathlib.Core.Path.{_≡_, refl, sym, ap, ap₂, _∙_, subst}
 use mathlib.Core.Logic.{inl, inr}
 use mathlib.Core.List.{List, [], _∷_, map}
 use Prim.Native.Nat.{ℕ, _+_, _-_, _*_, _≤_}
-use native.Mathlib.Nat.{mul-le-mul-right}
 use native.Mathlib.Omega.{arith}
 use lib.IntN.{ℤ}
 use lib.ListN.{length, take, drop, set, replicate, length-append, length-replicate, length-map, length-set}
@@ -86,6 +85,3 @@ module _ {text : List ℕ} {words : List ℤ} {r : Reading} {words′ : List ℤ
       let e = d .description in
       ap₂ (λ (k : ℕ) (l : List ℤ). take k l) (ap (λ (x : Reading). x .words * x .n) (d .answer) ∙ sym (soft-words-length (e .n) (e .words))) (d .values)
       ∙ take-append-seam (softWords (e .n) (e .words)) (drop (length (softWords (e .n) (e .words))) words)
-
-  pub values-fit : r .words * r .n ≤ 17952
-  values-fit = let l = limits in omega (arith, mul-le-mul-right (r .n) (l .words), l .n)

@@ -2,7 +2,6 @@
 use mathlib.Core.Path.{_≡_, sym, ap, subst}
 use mathlib.Core.List.{List, [], _∷_, _++_}
 use Prim.Native.Nat.{ℕ, suc, _+_, _*_, _≤_, _<_}
-use native.Mathlib.Nat.{mul-le-mul-right}
 use native.Mathlib.Omega.{arith}
 use lib.IntN.{ℤ, pos, negsuc}
 use lib.ListN.{length, length-append}
@@ -17,9 +16,6 @@ each-length P f k h (x ∷ xs) w =
     let a = h x (w .0) in
     let b = each-length P f k h xs (w .1) in
     simp length-append (omega arith)
-
-at-most : (j k : ℕ) {m : ℕ} → m ≤ j * k → (l : ℕ) → j ≤ l → m ≤ l * k
-at-most j k h l g = omega (arith, mul-le-mul-right k g)
 
 small-length : (z : ℤ) → Small z → length (signed z) ≤ 4
 unfolding signed

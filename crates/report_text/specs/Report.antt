@@ -28,7 +28,7 @@ settingsOf s =
 
 -- "state, iterations, unsatisfied, BCH (`-` if lost)", of a word's record
 unfoldable pub resultFor : ℕ → ℕ → ℕ → ℕ → Result
-resultFor state iterations unsatisfied bch = resultOf state iterations unsatisfied (isLost state bch) bch
+resultFor state iterations unsatisfied bch = resultOf state iterations unsatisfied (isLost bch) bch
 
 -- of word w's record in a run
 unfoldable pub resultIn : Ran → ℕ → Result

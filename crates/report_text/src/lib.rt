@@ -20,8 +20,8 @@ pub struct Output {
 }
 
 // Whether a word's BCH result says that it is lost.
-fn is_lost(state: u32, bch: u32) -> bool
-    ensures { λ r. ⌜ r ≡ isLost state bch ⌝ }
+fn is_lost(bch: u32) -> bool
+    ensures { λ r. ⌜ r ≡ isLost bch ⌝ }
 {
     bch == 4294967295
 }
@@ -54,7 +54,7 @@ fn write_line(
         state as u8,
         iterations,
         unsatisfied,
-        is_lost(state, bch),
+        is_lost(bch),
         bch,
     )
 }

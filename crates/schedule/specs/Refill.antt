@@ -1,7 +1,7 @@
 -- Refilling as code does it: one word at a time, into the lowest empty lane. What the arrays stand for changes as `refill` says.
 use mathlib.Core.Path.{_≡_, refl, sym, ap, ap₂, _∙_, subst}
 use mathlib.Core.Logic.{_≢_}
-use mathlib.Core.Bool.{Bool, true, false, cond, not, _||_}
+use mathlib.Core.Bool.{Bool, true, false, cond}
 use mathlib.Core.List.{List, [], _∷_}
 use Prim.Native.Nat.{ℕ, zero, suc, _+_, _-_, _≤_, _<_}
 use native.Mathlib.Numerals.{add-one}
@@ -9,26 +9,12 @@ use native.Mathlib.Decide.{ℕ-discrete, decLt}
 use native.Mathlib.Omega.{arith}
 use borrow.Author.Tests.{eq-eqb, ne-eqb}
 use lib.Dec.{eqb}
-use lib.ListN.{length, getD, take, drop, set, length-set, drop-of-length-le}
+use lib.ListN.{length, getD, drop, set, length-set, drop-of-length-le}
 use lib.Seq.{getD-set-same, getD-set-other, drop-cons}
-use Rattle.laws.specs.Choice.{by-bool}
-use Rattle.schedule.specs.Run.{Words, Lane, empty, holds, Left, Stock, Turn, each, held, over, logged, load, fill}
-use Rattle.schedule.specs.Lanes.{Setup, lane-of, row, rows, length-rows, getD-rows, rows-ext, set-rows, from, from-start, from-end, from-step, from-same, any-held, Kept, kept-more, stock, Stands, Sized}
+use Rattle.schedule.specs.Run.{Words, Lane, empty, holds, Left, Stock, Turn, each, over, logged, load, fill}
+use Rattle.schedule.specs.Lanes.{Setup, lane-of, rows, length-rows, getD-rows, rows-ext, set-rows, from, from-start, from-end, from-step, from-same, any-held, Kept, kept-more, stock, Stands, Sized}
 
 module _ {X : Type 0} (words : Words X) where
-  -- ---- the test: met, or the limit reached
-  pub over-met : (x : X) (i : ℕ) → words .met x ≡ true → over words x i ≡ true
-  unfolding over
-  over-met x i e = ap (λ b. b || eqb i (words .iteration-limit)) e
-
-  pub over-limit : (x : X) (i : ℕ) → i ≡ words .iteration-limit → over words x i ≡ true
-  unfolding over
-  over-limit x i e = ap (λ b. words .met x || b) (eq-eqb i (words .iteration-limit) e) ∙ by-bool (λ b. (b || true) ≡ true) (words .met x) (λ _. refl) (λ _. refl)
-
-  pub over-not : (x : X) (i : ℕ) → words .met x ≡ false → i ≢ words .iteration-limit → over words x i ≡ false
-  unfolding over
-  over-not x i e n = ap₂ _||_ e (ne-eqb i (words .iteration-limit) n)
-
   -- ---- refilling passes the lane by
   abbrev Stays : Lane X → Type 0
   Stays x = (s : Stock X) → fill words x s ≡ (x, s)

@@ -1,6 +1,6 @@
 -- A round as code does it: an iteration in every column, then lane by lane one iteration more and the test. What the arrays stand for
 -- changes as `round` says.
-use mathlib.Core.Path.{_≡_, refl, sym, ap, ap₂, _∙_, subst, subst₃}
+use mathlib.Core.Path.{_≡_, refl, sym, ap, ap₂, _∙_}
 use mathlib.Core.Logic.{_≢_}
 use mathlib.Core.Bool.{true, false, cond}
 use mathlib.Core.List.{List, _∷_, map}
@@ -207,10 +207,6 @@ module _ {X M : Type 0} (R : Setup X M) where
             (mixed-below (l + 1) (set held l 0) (set iters l (I + 1)) col l (omega arith)
             ∙ ap (λ h. lane-of h (col l) (getD (set iters l (I + 1)) l 0)) (getD-set-same held l 0 0 (omega (arith, a .sized .held-fit))))
             (λ k e n. mixed-other l held iters (set held l 0) (set iters l (I + 1)) col k n (getD-set-other held l k 0 0 n) (getD-set-other iters l k (I + 1) 0 n))
-
-  pub leaving-as : {held₀ iters₀ : List ℕ} {memory₀ : ℕ → M} {l : ℕ} {held iters : List ℕ} {col : ℕ → X} {memory : ℕ → M} {held′ iters′ : List ℕ} {memory′ : ℕ → M}
-      → held′ ≡ held → iters′ ≡ iters → memory′ ≡ memory → Leaving held₀ iters₀ memory₀ l held iters col memory → Leaving held₀ iters₀ memory₀ l held′ iters′ col memory′
-  leaving-as {held₀} {iters₀} {memory₀} {l} {held} {iters} {col} p q r a = subst₃ (λ x y z. Leaving held₀ iters₀ memory₀ l x y col z) (sym p) (sym q) (sym r) a
 
   -- every lane has had its turn
   pub leaving-end : (held₀ iters₀ : List ℕ) (memory₀ : ℕ → M) (l : ℕ) (held iters : List ℕ) (col : ℕ → X) (memory : ℕ → M)

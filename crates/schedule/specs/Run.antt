@@ -1,6 +1,6 @@
 -- The run as the scope tells it ("Lane values and messages", last paragraph): lanes, refilling, rounds. A word is a number, and has values:
 -- of what kind is left open (the decoder's are L and the messages). Every test is made on the values that a lane holds.
-use mathlib.Core.Bool.{Bool, cond, _||_}
+use mathlib.Core.Bool.{Bool, true, false, cond, _||_}
 use mathlib.Core.List.{List, [], _∷_, map}
 use Prim.Native.Nat.{ℕ, zero, suc}
 use lib.Dec.{eqb}
@@ -37,6 +37,11 @@ pub record State (X : Type 0) : Type 0 where
 
 pub data Ending : Type 0 where
   finished stopped : Ending
+
+-- an ending as the code answers it
+unfoldable pub is-stopped : Ending → Bool
+is-stopped finished = false
+is-stopped stopped = true
 
 pub record Result (X : Type 0) : Type 0 where
   pub ending : Ending
@@ -120,3 +125,11 @@ module _ {X : Type 0} (words : Words X) where
   -- the run: the words in the order of loading, the lane count, the round limit
   unfoldable pub run : List ℕ → ℕ → ℕ → Result X
   run order lanes round-limit = go round-limit (start order lanes)
+
+-- "take words in input order": the words 0 to n − 1
+unfoldable pub counting : ℕ → ℕ → List ℕ
+counting a zero = []
+counting a (suc n) = a ∷ counting (suc a) n
+
+unfoldable pub input-order : ℕ → List ℕ
+input-order n = counting 0 n

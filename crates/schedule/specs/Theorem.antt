@@ -1,7 +1,7 @@
 -- Demand 3 of the schedule holds of every run: every order of loading that has each word once, every lane count, every round limit.
 use mathlib.Core.Path.{_≡_, refl, sym, ap, ap₂, _∙_, subst}
-use mathlib.Core.Logic.{_↔_, _⊎_, inl, inr}
-use mathlib.Core.Bool.{true, false, cond}
+use mathlib.Core.Logic.{_↔_}
+use mathlib.Core.Bool.{cond}
 use mathlib.Core.List.{List, [], _∷_, _++_}
 use Prim.Native.Nat.{ℕ, zero, suc, _+_, _-_, _*_, _≤_, _<_}
 use native.Mathlib.Nat.{not-suc-le-zero, zero-add}
@@ -12,6 +12,7 @@ use lib.Dec.{ltb}
 use lib.ListN.{length, getD, length-append}
 use lib.Seq.{ext-getD}
 use Rattle.laws.specs.Choice.{by-cond, same, same-self}
+unfoldable pub use Rattle.schedule.specs.Run.{counting, input-order}
 use Rattle.schedule.specs.Run.{Words, Lane, empty, holds, Left, State, Ending, finished, stopped, Result, held, run}
 use Rattle.schedule.specs.Alone.{Ends, ends-so}
 use Rattle.schedule.specs.Status.{Status, waiting, holding, done, spent, lane-words, log-words, all-words, status, times, count, sum, largest, given, longest, case, Where}
@@ -206,42 +207,13 @@ module _ {X : Type 0} (words : Words X) (w : ℕ) where
   alone : Ends (words .begin w) (words .iterate) (words .met) (words .iteration-limit) (ends-alone words w)
   alone = ends-so (words .begin w) (words .iterate) (words .met) (words .iteration-limit)
 
-  -- a held word is not met, and may have more iterations
-  pub held-unmet : (x : X) (i : ℕ) → As-alone words w (holding x i) → (words .met x ≡ false) × (i < words .iteration-limit)
-  held-unmet x i a = (ap (words .met) (a .0) ∙ alone .not-before i (a .1), omega (arith, a .1, alone .within))
-
-  -- a finished word is met or has had the limit
-  pub done-met-or-limit : (x : X) (i : ℕ) → As-alone words w (done x i) → (words .met x ≡ true) ⊎ (i ≡ words .iteration-limit)
-  done-met-or-limit x i a = at (alone .met-or-limit)
-    where
-      at : (words .met (after-alone words w (ends-alone words w)) ≡ true) ⊎ (ends-alone words w ≡ words .iteration-limit) → (words .met x ≡ true) ⊎ (i ≡ words .iteration-limit)
-      at (inl e) = inl (ap (words .met) (a .0) ∙ e)
-      at (inr e) = inr (a .1 ∙ e)
-
+  -- no more iterations than the limit
   pub spent-within : (st : Status X) → As-alone words w st → spent st ≤ words .iteration-limit
   spent-within waiting a = omega arith
   spent-within (holding x i) a = omega (arith, a .1, alone .within)
   spent-within (done x i) a = omega (arith, a .1, alone .within)
 
-sum-within : (f : ℕ → ℕ) (m : ℕ) (q : List ℕ) → ((w : ℕ) → f w ≤ m) → sum f q ≤ length q * m
-unfolding sum
-sum-within f m [] h = omega arith
-sum-within f m (w ∷ q) h = omega (arith, h w, sum-within f m q h)
-
-pub given-within : {X : Type 0} (words : Words X) (order : List ℕ) (lanes round-limit : ℕ) (r : Result X) → Demand words order lanes round-limit r
-    → given order (r .last) ≤ length order * words .iteration-limit
-unfolding given
-given-within words order lanes round-limit r d =
-    sum-within (λ w. spent (status (r .last) w)) (words .iteration-limit) order (λ w. spent-within words w (status (r .last) w) (d .as-alone w))
-
--- ---- the scope's order: "take words in input order"
-unfoldable pub counting : ℕ → ℕ → List ℕ
-counting a zero = []
-counting a (suc n) = a ∷ counting (suc a) n
-
-unfoldable pub input-order : ℕ → List ℕ
-input-order n = counting 0 n
-
+-- ---- the scope's order
 count-below : (v a n : ℕ) → v < a → count v (counting a n) ≡ 0
 unfolding count counting
 count-below v a zero h = refl
