@@ -11,7 +11,6 @@ use Rattle.lane_math.specs.Check.{Word}
 use Rattle.ldpc_shape.specs.Shape.{pOf, eOf, refusalOf}
 use Rattle.ldpc_shape.specs.Accepted.{Accepted, accepted}
 use Rattle.ldpc_edges.specs.Code.{edgeLists}
-use Rattle.ldpc_edges.specs.Layout.{lists-length}
 use Rattle.fixed_code.specs.Lists.{edgesIn}
 use Rattle.fixed_code.specs.Code.{edges-are}
 use Rattle.schedule.specs.Status.{largest, longest}
@@ -70,9 +69,6 @@ zero-room n words m out e h =
 module _ (plan : Plan) (e : ℕ) (lens addrs : List ℕ) (soft : List ℤ) (out : List ℕ) (work : List ℤ) (index : List ℕ) (P : Planned plan e lens addrs soft out work index) where
   ok : Accepted (plan .n) lens addrs
   ok = accepted (plan .n) lens addrs (P .code)
-
-  pub lists-size : length (edgeLists (plan .n) lens addrs) ≡ e + plan .p + 1
-  lists-size = omega (arith, lists-length (plan .n) lens addrs ok, P .checks, P .edges)
 
   module _ (index₁ : List ℕ) (is : index₁ ≡ edgeLists (plan .n) lens addrs) where
     pub given-so : Given plan lens addrs index₁ soft

@@ -1,7 +1,7 @@
 -- Demand 3 of what a run wrote, joined from the run's definition and a word alone.
 use mathlib.Core.Path.{_≡_, refl, sym, ap, ap₂, _∙_, subst}
 use mathlib.Core.List.{List, [], _∷_}
-use Prim.Native.Nat.{ℕ, _+_, _-_, _≤_, _<_, max}
+use Prim.Native.Nat.{ℕ, _≤_, _<_, max}
 use lib.IntN.{ℤ}
 use Rattle.lane_math.specs.Check.{Word}
 use Rattle.lane_math.specs.Iteration.{Code}
@@ -9,6 +9,7 @@ use Rattle.schedule.specs.Run.{Words, Result}
 use Rattle.schedule.specs.Alone.{after, ends}
 use Rattle.schedule.specs.Status.{Status, waiting, holding, done, status, spent, sum, largest, given, longest}
 use Rattle.schedule.specs.Demand.{Demand, As-alone}
+use Rattle.schedule.specs.Places.{sum-ext}
 use Rattle.schedule.specs.Theorem.{spent-within}
 use Rattle.outcome.specs.Outcome.{Outcome, begin, ownWord, metOf, bitsOf, outcomeOf, alone}
 use Rattle.decoder_words.specs.Book.{View}
@@ -59,11 +60,6 @@ module _ (code : Code) (iterate : Word → Word) (n p limit first size : ℕ) (s
         at (holding x i) t = t .iterations
         at (done x i) t = ap (λ (o : Outcome). o .iterations) (t .outcome)
 
-    sum-same : (f g : ℕ → ℕ) → ((w : ℕ) → f w ≡ g w) → (ws : List ℕ) → sum f ws ≡ sum g ws
-    unfolding sum
-    sum-same f g e [] = refl
-    sum-same f g e (w ∷ ws) = ap₂ _+_ (e w) (sum-same f g e ws)
-
     largest-same : (f g : ℕ → ℕ) → ((w : ℕ) → f w ≡ g w) → (ws : List ℕ) → largest f ws ≡ largest g ws
     unfolding largest
     largest-same f g e [] = refl
@@ -71,7 +67,7 @@ module _ (code : Code) (iterate : Word → Word) (n p limit first size : ℕ) (s
 
     pub given-is : sum (λ w. v w .iterations) order ≡ given order (r .last)
     unfolding given
-    given-is = sum-same (λ w. v w .iterations) (λ w. spent (status (r .last) w)) spent-is order
+    given-is = sum-ext (λ w. v w .iterations) (λ w. spent (status (r .last) w)) order (λ w l. spent-is w)
 
     pub longest-is : largest (λ w. v w .iterations) order ≡ longest order (r .last)
     unfolding longest

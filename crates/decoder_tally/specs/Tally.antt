@@ -9,7 +9,7 @@ use lib.ListN.{length, getD, set, take, replicate, length-set, length-replicate,
 use lib.Seq.{getD-set-same, getD-set-other, getD-take, length-take-le, ext-getD}
 use Rattle.schedule.specs.Status.{sum}
 use Rattle.laws.specs.Choice.{by-cond}
-use Rattle.schedule.specs.Theorem.{counting, input-order, input-is}
+use Rattle.schedule.specs.Theorem.{counting, length-counting, getD-counting, input-order, input-is}
 use Rattle.outcome.specs.Outcome.{isFinished, keptOf, lostOf}
 use Rattle.outcome.specs.Laws.{kept-or-lost}
 
@@ -74,24 +74,13 @@ tallying-again state iterations bch k given kept lost a b ka kb few t =
     }
 
 -- ---- the first words of the input order
-counting-length : (a n : ℕ) → length (counting a n) ≡ n
-unfolding counting
-counting-length a zero = refl
-counting-length a (suc n) = ap suc (counting-length (suc a) n)
-
-counting-at : (a n k : ℕ) → k < n → getD (counting a n) k 0 ≡ a + k
-unfolding counting
-counting-at a zero k h = absurd (omega arith)
-counting-at a (suc n) zero h = omega arith
-counting-at a (suc n) (suc k) h = counting-at (suc a) n k (omega arith) ∙ omega arith
-
 pub input-length : (n : ℕ) → length (input-order n) ≡ n
 unfolding input-order
-input-length n = counting-length 0 n
+input-length n = length-counting 0 n
 
 pub input-at : (n k : ℕ) → k < n → getD (input-order n) k 0 ≡ k
 unfolding input-order
-input-at n k h = counting-at 0 n k h ∙ omega arith
+input-at n k h = getD-counting 0 n k h ∙ omega arith
 
 pub input-take : (m n : ℕ) → n ≤ m → take n (input-order m) ≡ input-order n
 input-take m n h =

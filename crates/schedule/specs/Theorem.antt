@@ -245,12 +245,12 @@ pub input-once : (n w : ℕ) → count w (input-order n) ≤ 1
 unfolding input-order
 input-once n w = omega (arith, count-counting w 0 n (omega arith), by-cond (λ m. m ≤ 1) (ltb w (0 + n)) 1 0 (λ _. omega arith) (λ _. omega arith))
 
-length-counting : (a n : ℕ) → length (counting a n) ≡ n
+pub length-counting : (a n : ℕ) → length (counting a n) ≡ n
 unfolding counting
 length-counting a zero = refl
 length-counting a (suc n) = ap suc (length-counting (suc a) n)
 
-getD-counting : (a n k : ℕ) → k < n → getD (counting a n) k 0 ≡ a + k
+pub getD-counting : (a n k : ℕ) → k < n → getD (counting a n) k 0 ≡ a + k
 unfolding counting
 getD-counting a zero k h = absurd (not-suc-le-zero h)
 getD-counting a (suc n) zero h = omega arith
