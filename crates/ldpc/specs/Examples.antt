@@ -1,9 +1,8 @@
--- The document's examples of the code, as one list.
-use mathlib.Core.Path.{_≡_, refl, sym, ap, _∙_}
-use mathlib.Core.Bool.{cond}
+-- The scope's examples of the code, as one list.
+use mathlib.Core.Path.{_≡_, refl, sym}
 use mathlib.Core.List.{List, [], _∷_}
-use Prim.Native.Nat.{ℕ, zero, suc}
-use lib.ListN.{length, replicate}
+use Prim.Native.Nat.{ℕ}
+use lib.ListN.{replicate}
 use Rattle.ldpc_shape.specs.Shape.{kOf, pOf, qOf, eOf, rowsOf, total, anyOver, countMod, countsMod, badLength, refusalOf}
 use Rattle.ldpc_edges.specs.Code.{met, ofBits, ofRows, meets, only, stairs, check, flip, flips, sums, parity}
 use Rattle.ldpc_edges.specs.Modulo.{mods, check-mods, parity-mods}
