@@ -30,10 +30,11 @@ messageRefusal k need out = ite (decLt 65343 k) 11 (ite (decLt out need) 13 0)
 unfoldable pub encodedOf : ℕ → Encoded
 encodedOf f = ite (ℕ-discrete f 0) encode.Done (encode.Refused f)
 
+-- a refused call "changes no lent slice"
 unfoldable pub outIf : ℕ → List ℕ → List ℕ → List ℕ
 outIf f new old = ite (ℕ-discrete f 0) new old
 
--- the 192 parity bytes, 0 or 1, then the tail as it was
+-- the 192 parity bytes, 0 or 1; "longer slices keep their tails"
 unfoldable pub parityOut : List ℕ → List ℕ → List ℕ
 parityOut m out = outIf (messageRefusal (length m) 192 (length out)) (parityBits (parityOf m) ++ drop 192 out) out
 
