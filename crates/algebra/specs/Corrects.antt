@@ -1,11 +1,12 @@
--- Corrected exactly when: a shortest register is at most t long and has as many roots among the places as its length,
--- if and only if an error of weight at most t has the syndromes; that error is wrong exactly at the roots, and binary if the word is.
+-- A shortest register and the errors that have its syndromes: one of at most half as many places as there are syndromes is wrong exactly
+-- at the register's roots, as many as it is long (`found`); a register with so many roots has such an error (`corrected`); and the error is
+-- binary if the syndromes are those of a binary word (`binary`).
 use mathlib.Core.Path.{_≡_, sym, ap, ap₂, _∙_, subst}
-use mathlib.Core.Logic.{_≢_, _⊎_, inl, inr, _↔_}
-use Prim.Native.Nat.{ℕ, zero, suc, _+_, _*_, _≤_, _<_}
+use mathlib.Core.Logic.{_≢_, _⊎_}
+use Prim.Native.Nat.{ℕ, suc, _+_, _*_, _≤_, _<_}
 use native.Mathlib.Decide.{decLe}
 use native.Mathlib.Omega.{arith}
-use Rattle.algebra.specs.Ring.{Ring, Field, zero-⊠, one-⊠, ⊠-swap, ⊞-cancel, dist-⊠}
+use Rattle.algebra.specs.Ring.{Ring, Field, zero-⊠, ⊠-swap, ⊞-cancel, dist-⊠}
 use Rattle.algebra.specs.Series.{sum, sum-ext, sum-add, sum-square, pow, pow-add}
 use Rattle.algebra.specs.Power.{square-pow}
 use Rattle.algebra.specs.Roots.{Distinct, domain, pow-nz, inv-inj, roots, square-inj, idempotent}
@@ -13,7 +14,7 @@ use Rattle.algebra.specs.Massey.{Shortest}
 use Rattle.algebra.specs.Locator.{syndrome}
 use Rattle.algebra.specs.Split.{split}
 use Rattle.algebra.specs.Errors.{weight, weight-mono, weight-strict, Listing, listing, Syndromes, chien, shift, no-longer, length-right, found-wrong, found-right, min-distance}
-use Rattle.algebra.specs.Places.{spread, spread-at, spread-off, zeros, mark, mark-zero, zero-mark, zeros-mark, zeros-weight, zeros-listed}
+use Rattle.algebra.specs.Places.{spread, spread-at, spread-off, zeros, mark, mark-zero, zero-mark, zeros-mark, zeros-weight}
 
 module _ {F : Type 0} (K : Field F) where
   open Ring (K .ring) using (𝟘, 𝟙, _⊞_, _⊠_, ⊞-zero, ⊞-self, ⊠-assoc, ⊠-comm, ⊠-one)
@@ -145,25 +146,7 @@ module _ {F : Type 0} (K : Field F) where
           },
         )
 
-    -- l roots, listed in order, are all that there are
-    pub all-listed : (c : ℕ → F) (l : ℕ) → c 0 ≡ 𝟙 → (place : ℕ → ℕ) → ((i j : ℕ) → i < j → j < l → place i < place j)
-        → ((i : ℕ) → i < l → place i < n) → ((i : ℕ) → i < l → chien K c l x (place i) ≡ 𝟘) → zeros K n (chien K c l x) ≡ l
-    all-listed c l head place order inside root = omega (arith, roots-fit c l head, zeros-listed K n (chien K c l x) place l order inside root)
-
-    -- ---- a binary word's syndromes from the first power on: S_2i = S_i², S_1 being s_0
-    pub binary-squares : (k : ℕ) (ε s : ℕ → F) → Syndromes K n x 1 k ε s → ((p : ℕ) → p < n → (ε p ≡ 𝟘) ⊎ (ε p ≡ 𝟙))
-        → (i : ℕ) → suc (i + i) < k → s (suc (i + i)) ≡ s i ⊠ s i
-    binary-squares k ε s s-is bin i h =
-        let e : 1 + suc (i + i) ≡ 2 * (1 + i) = omega arith in
-        s-is (suc (i + i)) h
-        ∙ sum-ext R₃ n _ _ (λ p a. ap₂ _⊠_ (sym (own-square (bin p a))) (double (x p) _ i e) ∙ sym (square-term (ε p) (x p) i))
-        ∙ sym (sum-square R₃ n (λ p. ε p ⊠ pow R₃ (x p) (1 + i))) ∙ ap (λ w. w ⊠ w) (sym (s-is i (omega arith)))
-      where
-        own-square : {a : F} → (a ≡ 𝟘) ⊎ (a ≡ 𝟙) → a ⊠ a ≡ a
-        own-square {a} (inl z) = ap (λ w. w ⊠ a) z ∙ zero-⊠ R₃ a ∙ sym z
-        own-square {a} (inr u) = ap (λ w. w ⊠ a) u ∙ one-⊠ R₃ a
-
-    -- ---- and back: if S_2i = S_i² for i = 1 .. t, at most t errors with these syndromes are all 1
+    -- ---- if S_2i = S_i² for i = 1 .. t, S_1 being s_0, at most t errors with these syndromes are all 1
     pub binary : (k t : ℕ) (ε s : ℕ → F) → Syndromes K n x 1 k ε s → t + t ≤ k → weight K n ε ≤ t
         → ((i : ℕ) → i < t → s (suc (i + i)) ≡ s i ⊠ s i) → (p : ℕ) → p < n → (ε p ≡ 𝟘) ⊎ (ε p ≡ 𝟙)
     binary k t ε s s-is enough light squares p h = idempotent K (ε p) (⊞-cancel R₃ _ _ (none p h))
@@ -194,32 +177,3 @@ module _ {F : Type 0} (K : Field F) where
         none =
             min-distance K n X (λ p a e. x-nz p a (domain K (x p) (x p) e (x-nz p a)))
             (λ i j a a′ e. x-d i j a a′ (square-inj K (x i) (x j) e)) 1 t η η-light zero-at
-
-    -- ---- corrected exactly when: the shortest register of at least 2 t syndromes is at most t long and all its roots are places,
-    -- if and only if an error of weight at most t has these syndromes
-    module _ (k t : ℕ) (s c : ℕ → F) (l : ℕ) (S : Shortest R₃ s k c l) (enough : t + t ≤ k) where
-      pub corrects-exactly : (b : ℕ) → ((l ≤ t) × (zeros K n (chien K c l x) ≡ l)) ↔ ((ε : ℕ → F) × Syndromes K n x b k ε s × (weight K n ε ≤ t))
-      corrects-exactly b = (there, back)
-        where
-          there : (l ≤ t) × (zeros K n (chien K c l x) ≡ l) → (ε : ℕ → F) × Syndromes K n x b k ε s × (weight K n ε ≤ t)
-          there h =
-              let r = corrected b k s c l S (h .1) in
-              let a : l ≤ t = h .0 in
-              (r .0, r .1 .syndromes, omega (arith, a, r .1 .count))
-
-          back : (ε : ℕ → F) × Syndromes K n x b k ε s × (weight K n ε ≤ t) → (l ≤ t) × (zeros K n (chien K c l x) ≡ l)
-          back r =
-              let a : weight K n (r .0) ≤ t = r .2 in
-              let f = found b k s c l S (r .0) (r .1) (omega arith) in
-              (omega (arith, a, f .count), found-count b k s c l S (r .0) f)
-
-      -- and the error is binary, if the syndromes are those of a binary word
-      pub corrects-binary : ((i : ℕ) → i < t → s (suc (i + i)) ≡ s i ⊠ s i)
-          → ((l ≤ t) × (zeros K n (chien K c l x) ≡ l))
-          ↔ ((ε : ℕ → F) × Syndromes K n x 1 k ε s × (weight K n ε ≤ t) × ((p : ℕ) → p < n → (ε p ≡ 𝟘) ⊎ (ε p ≡ 𝟙)))
-      corrects-binary squares = (
-        λ h.
-            let r = corrects-exactly 1 .0 h in
-            (r .0, r .1, r .2, binary k t (r .0) s (r .1) enough (r .2) squares),
-        λ r. corrects-exactly 1 .1 (r .0, r .1, r .2),
-      )

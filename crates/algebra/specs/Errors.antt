@@ -3,15 +3,14 @@
 use mathlib.Core.Path.{_≡_, refl, sym, ap, ap₂, _∙_}
 use mathlib.Core.Logic.{_≢_, ite, if-pos, if-neg}
 use Prim.Native.Nat.{ℕ, zero, suc, _+_, _≤_, _<_}
-use native.Mathlib.Nat.{not-suc-le-zero, le-refl, mul-comm}
+use native.Mathlib.Nat.{not-suc-le-zero, le-refl}
 use native.Mathlib.Decide.{ℕ-discrete, decLe, decLt}
 use native.Mathlib.Omega.{arith}
-use Rattle.algebra.specs.Ring.{Ring, Field, zero-⊠, dist-⊠, ⊞-cancel}
-use Rattle.algebra.specs.Series.{sum, sum-ext, sum-add, pow, pow-add, eval}
-use Rattle.algebra.specs.Power.{pow-mul}
+use Rattle.algebra.specs.Ring.{Ring, Field, zero-⊠}
+use Rattle.algebra.specs.Series.{sum, sum-ext, pow, pow-add, eval}
 use Rattle.algebra.specs.Roots.{Distinct, domain, pow-nz, inv-inj, vandermonde}
 use Rattle.algebra.specs.Massey.{Gen, Shortest, gen-ext}
-use Rattle.algebra.specs.Locator.{syndrome, eval-sums, locator, locator-gen, all-roots, only-roots, length-is}
+use Rattle.algebra.specs.Locator.{syndrome, locator, locator-gen, all-roots, only-roots, length-is}
 
 module _ {F : Type 0} (K : Field F) where
   open Ring (K .ring) using (𝟘, 𝟙, _⊞_, _⊠_, ⊞-zero, ⊞-self, ⊠-assoc)
@@ -205,19 +204,6 @@ module _ {F : Type 0} (K : Field F) where
   pub shift : (a u : F) (b j : ℕ) → a ⊠ pow R₂ u (b + j) ≡ a ⊠ pow R₂ u b ⊠ pow R₂ u j
   shift a u b j = ap (λ w. a ⊠ w) (pow-add R₂ u b j) ∙ sym (⊠-assoc a _ _)
 
-  -- the values of the word ε at the powers b, b + 1, .. of α are its syndromes, X_p being α^p
-  pub word-syndromes : (n : ℕ) (α : F) (b k : ℕ) (ε : ℕ → F) → Syndromes n (pow R₂ α) b k ε (λ j. eval R₂ n ε (pow R₂ α (b + j)))
-  word-syndromes n α b k ε j h =
-      eval-sums R₂ n ε (pow R₂ α (b + j))
-      ∙ sum-ext R₂ n _ _ (λ p _. ap (λ w. ε p ⊠ w) (sym (pow-mul R₂ α (b + j) p) ∙ ap (pow R₂ α) (mul-comm (b + j) p) ∙ pow-mul R₂ α p (b + j)))
-
-  pub syndromes-add : (n : ℕ) (x : ℕ → F) (b k : ℕ) (ε η s u : ℕ → F) → Syndromes n x b k ε s → Syndromes n x b k η u
-      → Syndromes n x b k (λ p. ε p ⊞ η p) (λ j. s j ⊞ u j)
-  syndromes-add n x b k ε η s u s-is u-is j h =
-      ap₂ _⊞_ (s-is j h) (u-is j h)
-      ∙ sym (sum-add R₂ n (λ p. ε p ⊠ pow R₂ (x p) (b + j)) (λ p. η p ⊠ pow R₂ (x p) (b + j)))
-      ∙ sum-ext R₂ n _ _ (λ p _. sym (dist-⊠ R₂ (ε p) (η p) (pow R₂ (x p) (b + j))))
-
   -- the register's polynomial at the inverse of X_p: what a Chien search looks for zeros of
   abbrev pub chien : (ℕ → F) → ℕ → (ℕ → F) → ℕ → F
   chien c l x p = eval R₂ (suc l) c (K .inv (x p))
@@ -326,11 +312,3 @@ module _ {F : Type 0} (K : Field F) where
       pick (no ne) =
           let r = M .all p h ne in
           absurd (M .wrong (r .0) (r .1) (domain K _ (pow R₂ (x (M .place (r .0))) b) (none (r .0) (r .1)) (pow-nz K _ b (x-nz (M .place (r .0)) (M .inside (r .0) (r .1))))))
-
-  -- so two errors with the same k syndromes, of weights at most k together, are the same
-  pub only-error : (n : ℕ) (x : ℕ → F) → ((p : ℕ) → p < n → x p ≢ 𝟘) → Distinct n x → (b k : ℕ) (ε η s : ℕ → F)
-      → Syndromes n x b k ε s → Syndromes n x b k η s → weight n ε + weight n η ≤ k → (p : ℕ) → p < n → ε p ≡ η p
-  only-error n x x-nz x-d b k ε η s se sη light p h =
-      ⊞-cancel R₂ (ε p) (η p)
-      (min-distance n x x-nz x-d b k (λ p. ε p ⊞ η p) (omega (arith, weight-add n ε η))
-      (λ j a. sym (syndromes-add n x b k ε η s s se sη j a) ∙ ⊞-self (s j)) p h)

@@ -2,9 +2,9 @@
 use mathlib.Core.Path.{_≡_, refl, sym, ap, ap₂, _∙_, subst}
 use mathlib.Core.Logic.{_⊎_, inl, inr}
 use mathlib.Core.HLevel.{Σ-prop-path, Σ-prop-discrete}
-use mathlib.Core.Bool.{Bool, true, false}
+use mathlib.Core.Bool.{Bool}
 use mathlib.Core.List.{List, [], _∷_}
-use Prim.Native.Nat.{ℕ, zero, suc, _+_, _*_, _/_, _%_, _^_, _<_}
+use Prim.Native.Nat.{ℕ, zero, suc, _*_, _/_, _%_, _^_, _<_}
 use native.Mathlib.Nat.{le-of-suc-le-suc, mod-lt, le-of-lt}
 use native.Mathlib.Bridge.{le-prop}
 use native.Mathlib.Decide.{ℕ-discrete}

@@ -1,7 +1,7 @@
 -- Powers of an element of a ring: by squaring, and what its order is a multiple of.
 use mathlib.Core.Path.{_≡_, refl, sym, ap, ap₂, _∙_, subst}
 use mathlib.Core.Logic.{_≢_}
-use mathlib.Core.Bool.{Bool, true, false, not}
+use mathlib.Core.Bool.{Bool, true, not}
 use Prim.Native.Nat.{ℕ, zero, suc, _+_, _*_, _/_, _%_, _^_, _<_}
 use native.Mathlib.Nat.{not-suc-le-zero, le-of-suc-le-suc, mul-suc, mul-zero, div-add-mod', mul-comm, mod-lt, zero-lt-suc, pow-suc}
 use native.Mathlib.Omega.{arith}

@@ -1,13 +1,12 @@
 -- Over a field: a polynomial of n coefficients with n roots is zero; a combination of n power sequences that vanishes n times is zero
 -- (Vandermonde); powers of an element below its order differ.
-use mathlib.Core.Path.{_≡_, refl, sym, ap, ap₂, _∙_}
+use mathlib.Core.Path.{_≡_, sym, ap, ap₂, _∙_}
 use mathlib.Core.Logic.{_≢_, _⊎_, inl, inr}
 use Prim.Native.Nat.{ℕ, zero, suc, _+_, _-_, _<_}
 use native.Mathlib.Nat.{not-suc-le-zero, le-of-suc-le-suc, le-refl}
 use native.Mathlib.Decide.{ℕ-discrete}
 use native.Mathlib.Omega.{arith}
-use Rattle.algebra.specs.Ring.{Ring, Field, ⊠-lc, zero-⊞, one-⊠, dist-⊠, ⊠-zero, zero-⊠, ⊞-self-l, ⊞-swap, ⊞-cancel, square-add}
-use Rattle.algebra.specs.Power.{pow-one, pow-prod}
+use Rattle.algebra.specs.Ring.{Ring, Field, ⊠-lc, zero-⊞, dist-⊠, ⊠-zero, zero-⊠, ⊞-self-l, ⊞-swap, ⊞-cancel, square-add}
 use Rattle.algebra.specs.Series.{sum, sum-ext, sum-add, sum-mul, sum-zero, pow, pow-add, eval, eval-zero}
 
 -- the first n of a sequence differ
@@ -40,14 +39,6 @@ module _ {F : Type 0} (K : Field F) where
   inv-inj a b na nb e =
       sym (⊠-one a) ∙ ap (λ w. a ⊠ w) (sym (K .inv-law b nb)) ∙ ap (λ w. a ⊠ (b ⊠ w)) (sym e)
       ∙ ⊠-lc R a b _ ∙ ap (λ w. b ⊠ w) (K .inv-law a na) ∙ ⊠-one b
-
-  -- what makes 1 with a is its inverse
-  pub inv-is : (a b : F) → a ⊠ b ≡ 𝟙 → K .inv a ≡ b
-  inv-is a b e =
-      sym (⊠-one _) ∙ ap (λ w. K .inv a ⊠ w) (sym e) ∙ ⊠-lc R _ a b ∙ sym (⊠-assoc a _ b) ∙ ap (λ w. w ⊠ b) (K .inv-law a nz) ∙ one-⊠ R b
-    where
-      nz : a ≢ 𝟘
-      nz z = K .one-nz (sym e ∙ ap (λ w. w ⊠ b) z ∙ zero-⊠ R b)
 
   -- squares of different elements differ
   pub square-inj : (a b : F) → a ⊠ a ≡ b ⊠ b → a ≡ b
@@ -181,7 +172,3 @@ module _ {F : Type 0} (K : Field F) where
 
       one : pow R a (j - i) ≡ 𝟙
       one = ⊞-cancel R _ _ (domain _ (pow R a i) product (power-nz a n (omega arith) full i))
-
-  -- the inverse of a power is that power of the inverse
-  pub inv-pow : (a b : F) → a ⊠ b ≡ 𝟙 → (n : ℕ) → K .inv (pow R a n) ≡ pow R b n
-  inv-pow a b e n = inv-is (pow R a n) (pow R b n) (pow-prod R a b n ∙ ap (λ z. pow R z n) e ∙ pow-one R n)

@@ -1,5 +1,5 @@
 -- A register of length l with l different roots generates nothing but sums of l powers: sequences that are the syndromes of l errors.
-use mathlib.Core.Path.{_≡_, refl, sym, ap, ap₂, _∙_}
+use mathlib.Core.Path.{_≡_, sym, ap, ap₂, _∙_}
 use mathlib.Core.Logic.{_≢_, ite, if-pos, if-neg}
 use Prim.Native.Nat.{ℕ, zero, suc, _≤_, _<_}
 use native.Mathlib.Nat.{not-suc-le-zero, le-refl}

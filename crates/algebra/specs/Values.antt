@@ -131,9 +131,3 @@ module _ {F : Type 0} (K : Field F) where
           ∙ ap (λ y. y ⊞ ev R₃ (k + suc d) (rem d g k w) (x p)) (sym (ev-clmul R₃ k (quo d g k w) g (suc d) (k + suc d) (x p) hg (le-refl _) ∙ ap (λ y. ev R₃ k (quo d g k w) (x p) ⊠ y) (gx p h) ∙ ⊠-zero R₃ _))
           ∙ sym (ev-add R₃ (k + suc d) (clmul k (quo d g k w) g) (rem d g k w) (x p)) ∙ ap (λ (v : ℕ). ev R₃ (k + suc d) v (x p)) (sym (division d g k w hw))
           ∙ ev-more R₃ k (k + suc d) w (x p) hw (omega arith) ∙ wx p h
-
-  -- and a multiple vanishes at a root
-  pub vanishes : (d g k q w : ℕ) (z : F) → g < 2 ^ d → w < 2 ^ k → ev R₃ d g z ≡ 𝟘 → w ≡ clmul k q g → ev R₃ k w z ≡ 𝟘
-  vanishes d g k q w z hg hw gz e =
-      sym (ev-more R₃ k (k + d) w z hw (omega arith)) ∙ ap (λ (v : ℕ). ev R₃ (k + d) v z) e ∙ ev-clmul R₃ k q g d (k + d) z hg (le-refl _)
-      ∙ ap (λ y. ev R₃ k q z ⊠ y) gz ∙ ⊠-zero R₃ _

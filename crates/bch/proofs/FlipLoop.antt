@@ -13,7 +13,8 @@ use Rattle.laws.specs.Xor.{_⊕_}
 use Rattle.algebra.specs.GfField.{El}
 use Rattle.gf16.specs.Field16.{gf16}
 use Rattle.gf16.specs.Alpha.{R16}
-use Rattle.bch.specs.Decode.{valueAt, whereRoot, flipped}
+use Rattle.bch_locator.specs.Places.{valueAt}
+use Rattle.bch.specs.Decode.{whereRoot, flipped}
 use Rattle.bch.specs.Places.{indexOf, flipAt, flipAll}
 use Rattle.bch.specs.Flips.{at-root, off-root, flipped-length}
 

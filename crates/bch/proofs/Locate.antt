@@ -18,7 +18,7 @@ use Rattle.bch_remainder.specs.Laws.{number-lt}
 use Rattle.bch_locator.specs.Element.{poly}
 use Rattle.bch_locator.specs.Register.{Register-of}
 use Rattle.bch_locator.specs.Places.{Places-of}
-use Rattle.bch.specs.Decode.{syndrome, valueAt, flipped, flips, answerBy, leftBy, register, any-answer, any-left}
+use Rattle.bch.specs.Decode.{syndrome, flipped, flips, answerBy, leftBy, register, any-answer, any-left}
 use Rattle.bch.specs.Places.{flipAll}
 use Rattle.bch.specs.Answers.{Located}
 use Rattle.bch.proofs.FlipLoop.{flipAll-flipped}
@@ -50,13 +50,13 @@ module _ (w s c : List ℕ) (l : ℕ) (syn : (j : ℕ) → j < 24 → poly s j �
     S = shortest-ext R16 (poly s) (syndrome w) 24 (poly c) l syn (record { gen = R .gen fit; short = R .short })
 
     left : flipAll w (λ i. getD at i 0) count ≡ leftBy (register w .0) (register w .1) w
-    unfolding leftBy valueAt
+    unfolding leftBy
     left =
         flipAll-flipped (poly c) l w (λ i. getD at i 0) count (P .inside) (λ i j a b e. let t = P .in-order i j a b in omega arith) (P .root) (P .all)
         ∙ sym (if-pos (decLe l 12) fit (flipped (poly c) l w) w) ∙ sym (any-left w (poly c) l S)
 
     counted : flips (poly c) l (length w) ≡ count
-    unfolding flips valueAt
+    unfolding flips
     counted = sym (P .many)
 
     -- as many flips as the register is long: corrected

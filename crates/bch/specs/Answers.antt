@@ -1,7 +1,7 @@
 -- The entry points: who is refused, by which number, and what every lent slice holds at exit.
 use mathlib.Core.Path.{_≡_, refl, sym, ap, ap₂, _∙_, subst}
 use mathlib.Core.Logic.{ite, if-pos, if-neg}
-use mathlib.Core.List.{List, [], _∷_, _++_, append-nil, append-assoc}
+use mathlib.Core.List.{List, [], _++_, append-nil, append-assoc}
 use Prim.Native.Nat.{ℕ, suc, _+_, _-_, _≤_, _<_}
 use native.Mathlib.Nat.{add-sub-cancel-left, le-refl}
 use native.Mathlib.Decide.{ℕ-discrete, decLt}
@@ -30,10 +30,11 @@ messageRefusal k need out = ite (decLt 65343 k) 11 (ite (decLt out need) 13 0)
 unfoldable pub encodedOf : ℕ → Encoded
 encodedOf f = ite (ℕ-discrete f 0) encode.Done (encode.Refused f)
 
+-- a refused call "changes no lent slice"
 unfoldable pub outIf : ℕ → List ℕ → List ℕ → List ℕ
 outIf f new old = ite (ℕ-discrete f 0) new old
 
--- the 192 parity bytes, 0 or 1, then the tail as it was
+-- the 192 parity bytes, 0 or 1; "longer slices keep their tails"
 unfoldable pub parityOut : List ℕ → List ℕ → List ℕ
 parityOut m out = outIf (messageRefusal (length m) 192 (length out)) (parityBits (parityOf m) ++ drop 192 out) out
 

@@ -1,13 +1,13 @@
 -- The coefficients of a word's polynomial, byte by byte.
-use mathlib.Core.Path.{_≡_, refl, sym, ap, ap₂, _∙_, subst}
+use mathlib.Core.Path.{_≡_, sym, ap, _∙_}
 use mathlib.Core.List.{List, [], _∷_}
-use Prim.Native.Nat.{ℕ, zero, suc, _+_, _-_, _*_, _/_, _%_, _^_, _≤_, _<_}
-use native.Mathlib.Nat.{mod-lt, pow-suc, mul-comm, mul-assoc, add-comm, mul-div-cancel, mod-eq-of-lt, div-eq-of-lt, zero-add, mul-add-div-right, mul-add-mod-self-right}
+use Prim.Native.Nat.{ℕ, suc, _+_, _-_, _*_, _/_, _%_, _^_, _<_}
+use native.Mathlib.Nat.{mod-lt, pow-suc, mul-assoc, mod-eq-of-lt, mul-add-div-right, mul-add-mod-self-right}
 use native.Mathlib.Omega.{arith}
 use lib.ListN.{length}
 use lib.Pow.{pow-pos, pow-add}
-use lib.Arith.{digits-div, digits-mod}
-use Rattle.laws.specs.Xor.{two-cases, two-pos}
+use lib.Arith.{digits-div}
+use Rattle.laws.specs.Xor.{two-pos}
 use Rattle.algebra.specs.Values.{bit, coeff}
 use Rattle.gf16.specs.Alpha.{R16}
 use Rattle.bch_remainder.specs.Word.{number}

@@ -1,16 +1,16 @@
 -- What is answered as corrected is a codeword, as far from the word as it was long: nothing is corrected without need.
-use mathlib.Core.Path.{_≡_, refl, sym, ap, ap₂, _∙_, subst}
-use mathlib.Core.Logic.{_≢_, _⊎_, ⊎-elim}
-use mathlib.Core.List.{List, [], _∷_}
-use Prim.Native.Nat.{ℕ, zero, suc, _+_, _≤_, _<_}
+use mathlib.Core.Path.{_≡_, sym, ap, _∙_}
+use mathlib.Core.Logic.{_⊎_, ⊎-elim}
+use mathlib.Core.List.{List, []}
+use Prim.Native.Nat.{ℕ, suc, _+_, _≤_, _<_}
 use native.Mathlib.Omega.{arith}
 use lib.ListN.{length}
 use Rattle.algebra.specs.Ring.{⊞-self-l}
-use Rattle.algebra.specs.Series.{sum, sum-ext, pow, pow-add}
+use Rattle.algebra.specs.Series.{sum-ext, pow, pow-add}
 use Rattle.algebra.specs.Roots.{Distinct}
 use Rattle.algebra.specs.Values.{ev, ev-square}
 use Rattle.algebra.specs.Massey.{Shortest}
-use Rattle.algebra.specs.Errors.{weight, Syndromes}
+use Rattle.algebra.specs.Errors.{weight-ext}
 use Rattle.algebra.specs.Corrects.{Found, corrected, binary}
 use Rattle.algebra.specs.GfField.{El}
 use Rattle.gf16.specs.Field16.{gf16}
@@ -21,8 +21,9 @@ use Rattle.bch_remainder.specs.Laws.{number-lt}
 use Rattle.bch_remainder.specs.Word.{Codeword}
 use Rattle.bch_remainder.specs.Laws.{remainder-codeword}
 use Rattle.bch.specs.Distance.{distance}
-use Rattle.bch.specs.Decode.{syndrome, valueAt, flipped, flips}
-use Rattle.bch.specs.Difference.{difference, weight-distance, weight-ext, syndrome-add}
+use Rattle.bch_locator.specs.Places.{valueAt}
+use Rattle.bch.specs.Decode.{syndrome, flipped, flips}
+use Rattle.bch.specs.Difference.{difference, weight-distance, syndrome-add}
 use Rattle.bch.specs.Flips.{flipped-length, flipped-hit, flipped-miss}
 
 -- S_2i = S_i²: the word is binary
@@ -42,7 +43,7 @@ module _ (w : List ℕ) (size : length w ≤ 65535) (c : ℕ → El 15) (l : ℕ
   distinct i j h h′ = α-distinct i j h (omega arith)
 
   told : (ε : ℕ → El 15) × Found gf16 (length w) (pow R16 α) 1 24 (syndrome w) c l ε
-  unfolding flips valueAt
+  unfolding flips
   told = corrected gf16 (length w) (pow R16 α) (λ p _. α-nz p) distinct 1 24 (syndrome w) c l S full
 
   ε : ℕ → El 15
@@ -59,7 +60,6 @@ module _ (w : List ℕ) (size : length w ≤ 65535) (c : ℕ → El 15) (l : ℕ
 
   -- flipping changes the word by the error that was told
   same : (p : ℕ) → p < length w → difference w (flipped c l w) p ≡ ε p
-  unfolding valueAt
   same p h = pick (gf16 .dec (valueAt c l p) (R16 .𝟘))
     where
       pick : Dec (valueAt c l p ≡ R16 .𝟘) → difference w (flipped c l w) p ≡ ε p
@@ -79,4 +79,4 @@ module _ (w : List ℕ) (size : length w ≤ 65535) (c : ℕ → El 15) (l : ℕ
 
   pub corrected-distance : distance w (flipped c l w) ≡ l
   corrected-distance =
-      sym (weight-distance w (flipped c l w) (flipped-length c l w)) ∙ weight-ext (length w) (difference w (flipped c l w)) ε same ∙ it .count
+      sym (weight-distance w (flipped c l w) (flipped-length c l w)) ∙ weight-ext gf16 (length w) (difference w (flipped c l w)) ε same ∙ it .count

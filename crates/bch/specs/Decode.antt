@@ -1,15 +1,15 @@
 -- What decoding a word gives, in the words of the scope: "A codeword gives 0. Otherwise take the shortest register generating syndromes
 -- S1 to S24. Length over 12: uncorrectable, word unchanged. Otherwise flip each present position whose root it has; if fewer flips
 -- than its length, uncorrectable, flips left in place."
-use mathlib.Core.Path.{_≡_, refl, sym, ap, ap₂, _∙_, subst}
+use mathlib.Core.Path.{_≡_, sym, ap₂, _∙_, subst}
 use mathlib.Core.Logic.{ite, if-pos, if-neg}
 use mathlib.Core.List.{List, [], _∷_}
-use Prim.Native.Nat.{ℕ, zero, suc, _+_, _*_, _/_, _%_, _^_, _≤_, _<_}
+use Prim.Native.Nat.{ℕ, _+_, _≤_}
 use native.Mathlib.Decide.{ℕ-discrete, decLe}
 use native.Mathlib.Omega.{arith}
 use lib.ListN.{length}
 use Rattle.laws.specs.Xor.{_⊕_}
-use Rattle.algebra.specs.Series.{pow, eval}
+use Rattle.algebra.specs.Series.{pow}
 use Rattle.algebra.specs.Values.{ev}
 use Rattle.algebra.specs.Massey.{Shortest, shortest-exists}
 use Rattle.algebra.specs.Unique.{same-length, only-register}
@@ -18,18 +18,15 @@ use Rattle.algebra.specs.GfField.{El}
 use Rattle.gf16.specs.Field16.{gf16}
 use Rattle.gf16.specs.Alpha.{R16, α}
 use Rattle.bch_remainder.specs.Word.{number, remainderOf}
+use Rattle.bch_locator.specs.Places.{valueAt}
 use Rattle.bch.specs.declared.Decoded.{Decoded}
-use Rattle.bch.specs.declared.Decoded.the-variants.{Corrected, Uncorrectable, Refused}
+use Rattle.bch.specs.declared.Decoded.the-variants.{Corrected, Uncorrectable}
 
 -- the syndrome S_(j+1): the word's value at alpha^(j+1)
 unfoldable pub syndrome : List ℕ → ℕ → El 15
 syndrome w j = ev R16 (length w) (number w) (pow R16 α (j + 1))
 
--- the value of the register c of length l at the inverse of alpha^p: the position of power p has its root where this is zero
-unfoldable pub valueAt : (ℕ → El 15) → ℕ → ℕ → El 15
-valueAt c l p = eval R16 (suc l) c (gf16 .inv (pow R16 α p))
-
--- x where the register has the root of the position of power p, y elsewhere
+-- x where the register has the root of the position of power p (bch_locator, Places: valueAt), y elsewhere
 unfoldable pub whereRoot : (ℕ → El 15) → ℕ → ℕ → ℕ → ℕ → ℕ
 whereRoot c l p x y = ite (gf16 .dec (valueAt c l p) (R16 .𝟘)) x y
 
@@ -49,7 +46,7 @@ answerBy c l w = ite (decLe l 12) (ite (ℕ-discrete (flips c l (length w)) l) (
 unfoldable pub leftBy : (ℕ → El 15) → ℕ → List ℕ → List ℕ
 leftBy c l w = ite (decLe l 12) (flipped c l w) w
 
--- "the shortest register": one that is shortest, which there always is; `any-register` shows that it does not matter which
+-- "the shortest register": one that is shortest, which there always is; `any-answer` and `any-left` show that it does not matter which
 unfoldable pub register : (w : List ℕ) → (c : ℕ → El 15) × (l : ℕ) × Shortest R16 (syndrome w) 24 c l
 register w = shortest-exists gf16 (syndrome w) 24
 

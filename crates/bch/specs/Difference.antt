@@ -1,19 +1,19 @@
 -- Where two words of one length differ, as a sequence over the field: its weight is their distance, and it gives the syndromes.
-use mathlib.Core.Path.{_≡_, refl, sym, ap, ap₂, _∙_, subst}
+use mathlib.Core.Path.{_≡_, refl, sym, ap, ap₂, _∙_}
 use mathlib.Core.Logic.{_≢_}
 use mathlib.Core.List.{List, [], _∷_}
-use Prim.Native.Nat.{ℕ, zero, suc, _+_, _-_, _*_, _/_, _%_, _^_, _≤_, _<_}
-use native.Mathlib.Nat.{mod-lt, mul-comm, le-refl, le-of-suc-le-suc, not-suc-le-zero}
+use Prim.Native.Nat.{ℕ, suc, _+_, _*_, _%_, _<_}
+use native.Mathlib.Nat.{mod-lt}
 use native.Mathlib.Decide.{ℕ-discrete}
 use native.Mathlib.Omega.{arith}
 use lib.ListN.{length}
-use Rattle.laws.specs.Xor.{_⊕_, two-cases, two-pos}
-use Rattle.algebra.specs.Ring.{Ring, Field, zero-⊞, dist-⊠}
-use Rattle.algebra.specs.Series.{sum, sum-ext, sum-add, pow, eval}
+use Rattle.laws.specs.Xor.{two-cases, two-pos}
+use Rattle.algebra.specs.Ring.{zero-⊞, dist-⊠}
+use Rattle.algebra.specs.Series.{sum, sum-ext, sum-add, pow}
 use Rattle.algebra.specs.Power.{pow-mul}
 use Rattle.algebra.specs.Values.{ev, ev-zero, bit, coeff, ev-eval}
-use Rattle.algebra.specs.Locator.{eval-add, eval-sums}
-use Rattle.algebra.specs.Errors.{weight, weight-none, weight-same, weight-more, weight-mono}
+use Rattle.algebra.specs.Locator.{eval-sums}
+use Rattle.algebra.specs.Errors.{weight, weight-none, weight-same, weight-more, weight-ext}
 use Rattle.algebra.specs.GfField.{El}
 use Rattle.gf16.specs.Field16.{gf16}
 use Rattle.gf16.specs.Alpha.{R16, α}
@@ -30,12 +30,6 @@ unfoldable pub difference : List ℕ → List ℕ → ℕ → El 15
 difference w v p = R16 ._⊞_ (coeff R16 (number w) p) (coeff R16 (number v) p)
 
 -- ---- distance
-pub weight-ext : (n : ℕ) (ε δ : ℕ → El 15) → ((p : ℕ) → p < n → ε p ≡ δ p) → weight gf16 n ε ≡ weight gf16 n δ
-weight-ext n ε δ h =
-    let a = weight-mono gf16 n ε δ (λ p g ne z. ne (h p g ∙ z)) in
-    let b = weight-mono gf16 n δ ε (λ p g ne z. ne (sym (h p g) ∙ z)) in
-    omega arith
-
 pub difference-top : (a b : ℕ) (w v : List ℕ) → length v ≡ length w → difference (a ∷ w) (b ∷ v) (length w) ≡ R16 ._⊞_ (bit R16 (a % 2)) (bit R16 (b % 2))
 unfolding difference
 difference-top a b w v e = ap₂ (R16 ._⊞_) (coeff-top a w) (ap (coeff R16 (number (b ∷ v))) (sym e) ∙ coeff-top b v)
@@ -67,11 +61,11 @@ weight-distance (a ∷ w) (b ∷ v) e = pick (ℕ-discrete (a % 2) (b % 2)) (wei
     pick (yes q) i =
         let s : distance w v ≡ (a + b) % 2 + distance w v = omega arith in
         weight-same gf16 (length w) _ (difference-top a b w v same ∙ bits-same (a % 2) (b % 2) (mod-lt a two-pos) (mod-lt b two-pos) q)
-        ∙ weight-ext (length w) _ _ (difference-low a b w v same) ∙ i ∙ s
+        ∙ weight-ext gf16 (length w) _ _ (difference-low a b w v same) ∙ i ∙ s
     pick (no q) i =
         let s : suc (distance w v) ≡ (a + b) % 2 + distance w v = omega arith in
         weight-more gf16 (length w) _ (λ f. bits-other (a % 2) (b % 2) (mod-lt a two-pos) (mod-lt b two-pos) q (sym (difference-top a b w v same) ∙ f))
-        ∙ ap suc (weight-ext (length w) _ _ (difference-low a b w v same) ∙ i) ∙ s
+        ∙ ap suc (weight-ext gf16 (length w) _ _ (difference-low a b w v same) ∙ i) ∙ s
 
 -- ---- syndromes
 pub syndrome-sum : (w : List ℕ) (j : ℕ) → syndrome w j ≡ sum R16 (length w) (λ p. R16 ._⊠_ (coeff R16 (number w) p) (pow R16 (pow R16 α p) (1 + j)))

@@ -1,8 +1,8 @@
 -- Decoding is exact: it corrects exactly when a codeword of that length lies within 12 bits, and to the only such codeword.
-use mathlib.Core.Path.{_≡_, refl, sym, ap, ap₂, _∙_, subst}
-use mathlib.Core.Logic.{_≢_, _↔_, ite, if-pos, if-neg}
+use mathlib.Core.Path.{_≡_, refl, sym, ap, ap₂, _∙_}
+use mathlib.Core.Logic.{_↔_, ite, if-pos}
 use mathlib.Core.List.{List, [], _∷_}
-use Prim.Native.Nat.{ℕ, zero, suc, _+_, _*_, _/_, _%_, _≤_, _<_}
+use Prim.Native.Nat.{ℕ, zero, suc, _+_, _%_, _≤_, _<_}
 use native.Mathlib.Decide.{ℕ-discrete, decLe}
 use native.Mathlib.Omega.{arith}
 use lib.ListN.{length}
@@ -21,7 +21,7 @@ use Rattle.bch.specs.Flips.{flipped-length, flipped-rest}
 use Rattle.bch.specs.Within.{within-answer, within-bits}
 use Rattle.bch.specs.Corrected.{corrected-codeword, corrected-distance}
 use Rattle.bch.specs.declared.Decoded.{Decoded}
-use Rattle.bch.specs.declared.Decoded.the-variants.{Corrected, Uncorrectable, Refused}
+use Rattle.bch.specs.declared.Decoded.the-variants.{Corrected, Uncorrectable}
 
 -- a codeword of w's length that differs from w in at most 12 positions
 pub record Near (w v : List ℕ) : Type 0 where

@@ -1,8 +1,8 @@
 -- A word within 12 bits of a codeword is corrected to that codeword: every pattern of up to 12 errors.
-use mathlib.Core.Path.{_≡_, refl, sym, ap, ap₂, _∙_, subst}
-use mathlib.Core.Logic.{_≢_, ite, if-pos, if-neg}
-use mathlib.Core.List.{List, [], _∷_}
-use Prim.Native.Nat.{ℕ, zero, suc, _+_, _≤_, _<_}
+use mathlib.Core.Path.{_≡_, sym, ap, _∙_}
+use mathlib.Core.Logic.{_≢_, if-pos}
+use mathlib.Core.List.{List, []}
+use Prim.Native.Nat.{ℕ, _+_, _≤_, _<_}
 use native.Mathlib.Decide.{ℕ-discrete, decLe}
 use native.Mathlib.Omega.{arith}
 use lib.ListN.{length}
@@ -16,11 +16,11 @@ use Rattle.gf16.specs.Field16.{gf16}
 use Rattle.gf16.specs.Alpha.{R16, α, α-nz, α-distinct}
 use Rattle.bch_remainder.specs.Word.{Codeword}
 use Rattle.bch.specs.Distance.{distance, lowBits}
-use Rattle.bch.specs.Decode.{syndrome, valueAt, flipped, flips, answerBy, leftBy}
+use Rattle.bch_locator.specs.Places.{valueAt}
+use Rattle.bch.specs.Decode.{syndrome, flipped, flips, answerBy, leftBy}
 use Rattle.bch.specs.Difference.{difference, weight-distance, syndrome-difference}
 use Rattle.bch.specs.Flips.{flipped-bits}
-use Rattle.bch.specs.declared.Decoded.{Decoded}
-use Rattle.bch.specs.declared.Decoded.the-variants.{Corrected, Uncorrectable, Refused}
+use Rattle.bch.specs.declared.Decoded.the-variants.{Corrected}
 
 module _ (w v : List ℕ) (size : length w ≤ 65535) (same : length v ≡ length w) (code : Codeword v) (near : distance w v ≤ 12)
     (c : ℕ → El 15) (l : ℕ) (S : Shortest R16 (syndrome w) 24 c l) where
@@ -45,11 +45,9 @@ module _ (w v : List ℕ) (size : length w ≤ 65535) (same : length v ≡ lengt
   it = found gf16 (length w) (pow R16 α) (λ p _. α-nz p) distinct 1 24 (syndrome w) c l S ε syndromes enough
 
   hit : (p : ℕ) → p < length w → valueAt c l p ≡ R16 .𝟘 → ε p ≢ R16 .𝟘
-  unfolding valueAt
   hit = it .right
 
   miss : (p : ℕ) → p < length w → valueAt c l p ≢ R16 .𝟘 → ε p ≡ R16 .𝟘
-  unfolding valueAt
   miss p h z = pick (gf16 .dec (ε p) (R16 .𝟘))
     where
       pick : Dec (ε p ≡ R16 .𝟘) → ε p ≡ R16 .𝟘
@@ -63,7 +61,7 @@ module _ (w v : List ℕ) (size : length w ≤ 65535) (same : length v ≡ lengt
   short = omega (arith, length-is)
 
   flips-are : flips c l (length w) ≡ l
-  unfolding flips valueAt
+  unfolding flips
   flips-are = found-count gf16 (length w) (pow R16 α) (λ p _. α-nz p) distinct 1 24 (syndrome w) c l S ε it
 
   pub within-answer : answerBy c l w ≡ Corrected (distance w v)

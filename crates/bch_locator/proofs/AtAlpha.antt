@@ -8,6 +8,7 @@ use lib.Dec.{T, eqb, eqb→eq, ltb, ltb→lt, lit<}
 use lib.Bits.{xor-block, bitAnd, bitXor, and-mask}
 use lib.Pow.{pow-pos}
 use Rattle.laws.specs.Xor.{_⊕_, ⊕-zero, ⊕-div, ⊕-mod, ⊕-swap, span}
+use Rattle.laws.specs.Poly.{⊕-shift}
 use Rattle.laws.specs.Tests.{below, below-at}
 use Rattle.algebra.specs.Ring.{Ring, ⊠-zero}
 use Rattle.algebra.specs.Series.{pow}
@@ -29,12 +30,8 @@ add-down f k p a b = ap (λ (z : ℕ). z / 2 ^ k) (p a b) ∙ ⊕-div (f a) (f b
 add-low : (f : ℕ → ℕ) (k : ℕ) → Additive f → Additive (λ x. f x % 2 ^ k)
 add-low f k p a b = ap (λ (z : ℕ). z % 2 ^ k) (p a b) ∙ ⊕-mod (f a) (f b) k
 
-⊕-up : (a b k : ℕ) → (a ⊕ b) * 2 ^ k ≡ (a * 2 ^ k) ⊕ (b * 2 ^ k)
-unfolding _⊕_
-⊕-up a b k = sym (ap₂ bitXor (sym (add-zero (a * 2 ^ k))) (sym (add-zero (b * 2 ^ k))) ∙ xor-block k a b 0 0 (pow-pos k) (pow-pos k) ∙ add-zero (bitXor a b * 2 ^ k))
-
 add-up : (f : ℕ → ℕ) (k : ℕ) → Additive f → Additive (λ x. f x * 2 ^ k)
-add-up f k p a b = ap (λ (z : ℕ). z * 2 ^ k) (p a b) ∙ ⊕-up (f a) (f b) k
+add-up f k p a b = ap (λ (z : ℕ). z * 2 ^ k) (p a b) ∙ ⊕-shift (f a) (f b) k
 
 -- ---- the code's
 unfoldable pub high : ℕ → ℕ

@@ -11,7 +11,7 @@ use Rattle.algebra.specs.Values.{ev}
 use Rattle.gf16.specs.Alpha.{R16, α}
 use Rattle.bch_locator.specs.Element.{toEl, poly}
 use Rattle.bch_locator.specs.Lanes.{Lanes, Products}
-use Rattle.bch_locator.proofs.Steps.{zeros-at}
+use Rattle.laws.specs.Lists.{zeros-at}
 
 pub record Filling (P : ℕ → ℕ → Type 0) (r : List ℕ) (i : ℕ) : Type 0 where
   pub lanes : Lanes r

@@ -24,7 +24,7 @@ use Rattle.bch_locator.specs.Syndromes.{Syndromes, odd, first-part, seco
 use Rattle.bch_locator.proofs.Product.{digit-top, digit-next}
 use Rattle.bch_locator.proofs.Raised.{lanes-raised, ev-join}
 use Rattle.bch_locator.proofs.Filling.{Filling}
-use Rattle.bch_locator.proofs.Steps.{zeros-at}
+use Rattle.laws.specs.Lists.{zeros-at}
 
 -- ---- `add_bit`
 abbrev pub Plus : List ℕ → ℕ → ℕ → ℕ → Type 0

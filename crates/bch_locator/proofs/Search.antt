@@ -25,7 +25,7 @@ use Rattle.bch_locator.specs.Element.{toEl, toEl-inj, toEl-xor, toEl-zer
 use Rattle.bch_locator.specs.Lanes.{Lanes, Products, PowersOf}
 use Rattle.bch_locator.specs.Places.{valueAt, Places-of, Reversed}
 use Rattle.bch_locator.proofs.Raised.{raised, lanes-raised, lanes-past}
-use Rattle.bch_locator.proofs.Steps.{zeros-at}
+use Rattle.laws.specs.Lists.{zeros-at}
 use Rattle.bch_locator.proofs.Filling.{zero-lanes, lanes-set}
 
 -- ---- the terms
@@ -81,7 +81,7 @@ pow-one x = R16 .⊠-one x
 unfoldable lifted : List ℕ → ℕ → ℕ → ℕ → El 15
 lifted c l p j = R16 ._⊠_ (poly c j) (pow R16 (pow R16 α p) (l - j))
 
-lifted-sum : (c : List ℕ) (l p : ℕ) → R16 ._⊞_ (sum R16 l (lifted c l p)) (poly c l) ≡ R16 ._⊠_ (pow R16 (pow R16 α p) l) (valueAt c l p)
+lifted-sum : (c : List ℕ) (l p : ℕ) → R16 ._⊞_ (sum R16 l (lifted c l p)) (poly c l) ≡ R16 ._⊠_ (pow R16 (pow R16 α p) l) (valueAt (poly c) l p)
 unfolding lifted
 lifted-sum c l p =
     ap (R16 ._⊞_ (sum R16 l (lifted c l p))) last
@@ -94,7 +94,7 @@ lifted-sum c l p =
     last = let e : 0 ≡ l - l = omega arith in sym (R16 .⊠-one (poly c l)) ∙ ap (R16 ._⊠_ (poly c l)) (pow-none x ∙ ap (pow R16 x) e)
 
 pub total-is : (t c : List ℕ) (l p : ℕ) → l ≤ 12 → Terms t c l p
-    → R16 ._⊞_ (sum R16 16 (poly t)) (poly c l) ≡ R16 ._⊠_ (pow R16 (pow R16 α p) l) (valueAt c l p)
+    → R16 ._⊞_ (sum R16 16 (poly t)) (poly c l) ≡ R16 ._⊠_ (pow R16 (pow R16 α p) l) (valueAt (poly c) l p)
 unfolding lifted
 total-is t c l p h S =
     ap (λ y. R16 ._⊞_ y (poly c l))
@@ -107,7 +107,7 @@ total-is t c l p h S =
         S .at i g ∙ ap (R16 ._⊠_ (poly c (l - suc i))) (pow-mul R16 α p (suc i) ∙ ap (pow R16 (pow R16 α p)) e)
 
 -- length 1: α^p and c 1
-one-is : (c : List ℕ) (p : ℕ) → poly c 0 ≡ R16 .𝟙 → R16 ._⊞_ (pow R16 α p) (poly c 1) ≡ R16 ._⊠_ (pow R16 (pow R16 α p) 1) (valueAt c 1 p)
+one-is : (c : List ℕ) (p : ℕ) → poly c 0 ≡ R16 .𝟙 → R16 ._⊞_ (pow R16 α p) (poly c 1) ≡ R16 ._⊠_ (pow R16 (pow R16 α p) 1) (valueAt (poly c) 1 p)
 unfolding lifted
 one-is c p head =
     ap (λ y. R16 ._⊞_ y (poly c 1)) (sym (sum-last R16 0 f ∙ ap (λ y. R16 ._⊞_ y (f 0)) (sum-none R16 f) ∙ R16 .⊞-comm _ _ ∙ R16 .⊞-zero (f 0) ∙ front)) ∙ lifted-sum c 1 p
@@ -119,37 +119,37 @@ one-is c p head =
     front = ap (λ y. R16 ._⊠_ y (pow R16 (pow R16 α p) 1)) head ∙ one-⊠ R16 _ ∙ pow-one (pow R16 α p)
 
 -- two numbers whose sum is the register's value times a power of α
-module _ (c : List ℕ) (l p v w : ℕ) (both : R16 ._⊞_ (toEl v) (toEl w) ≡ R16 ._⊠_ (pow R16 (pow R16 α p) l) (valueAt c l p)) where
-  hit : v ≡ w → valueAt c l p ≡ R16 .𝟘
+module _ (c : List ℕ) (l p v w : ℕ) (both : R16 ._⊞_ (toEl v) (toEl w) ≡ R16 ._⊠_ (pow R16 (pow R16 α p) l) (valueAt (poly c) l p)) where
+  hit : v ≡ w → valueAt (poly c) l p ≡ R16 .𝟘
   hit e =
-      domain gf16 (valueAt c l p) (pow R16 (pow R16 α p) l)
+      domain gf16 (valueAt (poly c) l p) (pow R16 (pow R16 α p) l)
       (R16 .⊠-comm _ _ ∙ sym both ∙ ap (λ (z : ℕ). R16 ._⊞_ (toEl z) (toEl w)) e ∙ R16 .⊞-self (toEl w))
       (pow-nz gf16 (pow R16 α p) l (α-nz p))
 
-  miss : v < 65536 → w < 65536 → v ≢ w → valueAt c l p ≢ R16 .𝟘
+  miss : v < 65536 → w < 65536 → v ≢ w → valueAt (poly c) l p ≢ R16 .𝟘
   miss hv hw ne z =
       ne (toEl-inj v w hv hw (⊞-cancel R16 (toEl v) (toEl w) (both ∙ ap (R16 ._⊠_ (pow R16 (pow R16 α p) l)) z ∙ ⊠-zero R16 _)))
 
 module _ (t c : List ℕ) (l p v w : ℕ) (h : l ≤ 12) (S : Terms t c l p) (ev : toEl v ≡ sum R16 16 (poly t)) (ew : w ≡ getD c l 0) where
-  both-sum : R16 ._⊞_ (toEl v) (toEl w) ≡ R16 ._⊠_ (pow R16 (pow R16 α p) l) (valueAt c l p)
+  both-sum : R16 ._⊞_ (toEl v) (toEl w) ≡ R16 ._⊠_ (pow R16 (pow R16 α p) l) (valueAt (poly c) l p)
   unfolding poly
   both-sum = ap₂ (R16 ._⊞_) ev (ap toEl ew) ∙ total-is t c l p h S
 
-  pub sum-hit : v ≡ w → valueAt c l p ≡ R16 .𝟘
+  pub sum-hit : v ≡ w → valueAt (poly c) l p ≡ R16 .𝟘
   sum-hit = hit c l p v w both-sum
 
-  pub sum-miss : v < 65536 → w < 65536 → v ≢ w → valueAt c l p ≢ R16 .𝟘
+  pub sum-miss : v < 65536 → w < 65536 → v ≢ w → valueAt (poly c) l p ≢ R16 .𝟘
   sum-miss = miss c l p v w both-sum
 
 module _ (c : List ℕ) (p v w : ℕ) (head : poly c 0 ≡ R16 .𝟙) (ev : toEl v ≡ pow R16 α p) (ew : w ≡ getD c 1 0) where
-  both-one : R16 ._⊞_ (toEl v) (toEl w) ≡ R16 ._⊠_ (pow R16 (pow R16 α p) 1) (valueAt c 1 p)
+  both-one : R16 ._⊞_ (toEl v) (toEl w) ≡ R16 ._⊠_ (pow R16 (pow R16 α p) 1) (valueAt (poly c) 1 p)
   unfolding poly
   both-one = ap₂ (R16 ._⊞_) ev (ap toEl ew) ∙ one-is c p head
 
-  pub one-hit : v ≡ w → valueAt c 1 p ≡ R16 .𝟘
+  pub one-hit : v ≡ w → valueAt (poly c) 1 p ≡ R16 .𝟘
   one-hit = hit c 1 p v w both-one
 
-  pub one-miss : v < 65536 → w < 65536 → v ≢ w → valueAt c 1 p ≢ R16 .𝟘
+  pub one-miss : v < 65536 → w < 65536 → v ≢ w → valueAt (poly c) 1 p ≢ R16 .𝟘
   one-miss = miss c 1 p v w both-one
 
 pub power-start : toEl 1 ≡ pow R16 α 0
@@ -161,52 +161,55 @@ power-again x r p h e f =
     f ∙ raised x 1 h (omega arith) ∙ ap (R16 ._⊠_ (pow R16 α 1)) e ∙ sym (pow-add R16 α 1 p) ∙ ap (pow R16 α) k
 
 -- ---- the list of places
-pub places-start : (at c : List ℕ) (l : ℕ) → length at ≡ 12 → Places-of at 0 c l 0
-places-start at c l e =
+pub places-start : (at c : List ℕ) (l : ℕ) → length at ≡ 12 → ((i : ℕ) → getD at i 0 ≡ 0) → Places-of at 0 c l 0
+places-start at c l e z =
     record {
       size = e;
-      many = sym (zeros-none gf16 (valueAt c l));
+      many = sym (zeros-none gf16 (valueAt (poly c) l));
       most = omega arith;
       in-order = λ i j h k. absurd (not-suc-le-zero k);
       inside = λ i h. absurd (not-suc-le-zero h);
       root = λ i h. absurd (not-suc-le-zero h);
       all = λ p h. absurd (not-suc-le-zero h);
+      behind = λ i h. z i;
     }
 
-pub places-miss : (at : List ℕ) (count : ℕ) (c : List ℕ) (l p : ℕ) → Places-of at count c l p → valueAt c l p ≢ R16 .𝟘 → Places-of at count c l (p + 1)
+pub places-miss : (at : List ℕ) (count : ℕ) (c : List ℕ) (l p : ℕ) → Places-of at count c l p → valueAt (poly c) l p ≢ R16 .𝟘 → Places-of at count c l (p + 1)
 places-miss at count c l p D ne =
     record {
       size = D .size;
-      many = D .many ∙ sym (zeros-same gf16 p (valueAt c l) ne) ∙ ap (λ (k : ℕ). zeros gf16 k (valueAt c l)) (sym (add-one p));
+      many = D .many ∙ sym (zeros-same gf16 p (valueAt (poly c) l) ne) ∙ ap (λ (k : ℕ). zeros gf16 k (valueAt (poly c) l)) (sym (add-one p));
       most = D .most;
       in-order = D .in-order;
       inside = λ i h. let t = D .inside i h in omega arith;
       root = D .root;
       all = λ q h z. pick q h z (ℕ-discrete q p);
+      behind = D .behind;
     }
   where
-    pick : (q : ℕ) → q < p + 1 → valueAt c l q ≡ R16 .𝟘 → Dec (q ≡ p) → (i : ℕ) × (i < count) × (getD at i 0 ≡ q)
-    pick q h z (yes e) = absurd (ne (ap (valueAt c l) (sym e) ∙ z))
+    pick : (q : ℕ) → q < p + 1 → valueAt (poly c) l q ≡ R16 .𝟘 → Dec (q ≡ p) → (i : ℕ) × (i < count) × (getD at i 0 ≡ q)
+    pick q h z (yes e) = absurd (ne (ap (valueAt (poly c) l) (sym e) ∙ z))
     pick q h z (no e) = D .all q (omega arith) z
 
 -- one root more still fits
-pub count-fits : (at : List ℕ) (count : ℕ) (c : List ℕ) (l p : ℕ) → p < 65535 → poly c 0 ≡ R16 .𝟙 → Places-of at count c l p → valueAt c l p ≡ R16 .𝟘 → count < l
+pub count-fits : (at : List ℕ) (count : ℕ) (c : List ℕ) (l p : ℕ) → p < 65535 → poly c 0 ≡ R16 .𝟙 → Places-of at count c l p → valueAt (poly c) l p ≡ R16 .𝟘 → count < l
 count-fits at count c l p h head D z =
-    let m = zeros-more gf16 p (valueAt c l) z in
+    let m = zeros-more gf16 p (valueAt (poly c) l) z in
     let f = roots-fit gf16 (suc p) (pow R16 α) (λ q _. α-nz q) (λ i j a b. α-distinct i j a (omega arith)) (poly c) l head in
     omega (arith, m, f, D .many)
 
 pub places-hit : (at : List ℕ) (count : ℕ) (c : List ℕ) (l p : ℕ) → l ≤ 12 → p < 65535 → poly c 0 ≡ R16 .𝟙 → Places-of at count c l p
-    → valueAt c l p ≡ R16 .𝟘 → Places-of (set at count p) (count + 1) c l (p + 1)
+    → valueAt (poly c) l p ≡ R16 .𝟘 → Places-of (set at count p) (count + 1) c l (p + 1)
 places-hit at count c l p hl h head D z =
     record {
       size = length-set at count p ∙ D .size;
-      many = ap (λ (k : ℕ). k + 1) (D .many) ∙ add-one _ ∙ sym (zeros-more gf16 p (valueAt c l) z) ∙ ap (λ (k : ℕ). zeros gf16 k (valueAt c l)) (sym (add-one p));
+      many = ap (λ (k : ℕ). k + 1) (D .many) ∙ add-one _ ∙ sym (zeros-more gf16 p (valueAt (poly c) l) z) ∙ ap (λ (k : ℕ). zeros gf16 k (valueAt (poly c) l)) (sym (add-one p));
       most = omega (arith, small);
       in-order = λ i j a b. order i j a b (ℕ-discrete j count);
       inside = λ i a. within i a (ℕ-discrete i count);
       root = λ i a. vanish i a (ℕ-discrete i count);
       all = λ q a w. found q a w (ℕ-discrete q p);
+      behind = λ i a. getD-set-other at count i p 0 (λ e. omega arith) ∙ D .behind i (omega arith);
     }
   where
     small : count < l
@@ -229,11 +232,11 @@ places-hit at count c l p hl h head D z =
     within i a (yes e) = let u = newest i e in omega arith
     within i a (no e) = let u = old i (omega arith) in let t = D .inside i (omega arith) in omega arith
 
-    vanish : (i : ℕ) → i < count + 1 → Dec (i ≡ count) → valueAt c l (getD (set at count p) i 0) ≡ R16 .𝟘
-    vanish i a (yes e) = ap (valueAt c l) (newest i e) ∙ z
-    vanish i a (no e) = ap (valueAt c l) (old i (omega arith)) ∙ D .root i (omega arith)
+    vanish : (i : ℕ) → i < count + 1 → Dec (i ≡ count) → valueAt (poly c) l (getD (set at count p) i 0) ≡ R16 .𝟘
+    vanish i a (yes e) = ap (valueAt (poly c) l) (newest i e) ∙ z
+    vanish i a (no e) = ap (valueAt (poly c) l) (old i (omega arith)) ∙ D .root i (omega arith)
 
-    found : (q : ℕ) → q < p + 1 → valueAt c l q ≡ R16 .𝟘 → Dec (q ≡ p) → (i : ℕ) × (i < count + 1) × (getD (set at count p) i 0 ≡ q)
+    found : (q : ℕ) → q < p + 1 → valueAt (poly c) l q ≡ R16 .𝟘 → Dec (q ≡ p) → (i : ℕ) × (i < count + 1) × (getD (set at count p) i 0 ≡ q)
     found q a w (yes e) = (count, omega arith, new ∙ sym e)
     found q a w (no e) =
         let r = D .all q (omega arith) w in

@@ -153,12 +153,13 @@ module _ (s c b : List ℕ) (l m e k : ℕ) (S : State s c b l m e k) where
           same : l ≡ k + 1 + 1 - (k + 1 - l + 1)
           same = omega (arith, S .l-k)
 
-    pub state-fail : 12 < k + 1 - l → Register-of s c 13
-    state-fail g =
+    pub state-fail : 12 < k + 1 - l → (c₀ : List ℕ) → ((i : ℕ) → getD c₀ i 0 ≡ 0) → Register-of s c₀ 13
+    state-fail g c₀ z =
         record {
           most = omega arith;
           gen = λ a. absurd (omega arith);
           short = λ c′ l′ G. let t = no-shorter gf16 (poly s) k l (k + 1 - (l + m)) m (poly c) (poly b) (toEl e) (S .inv) nz 24 h c′ l′ G in omega arith;
+          none = λ a. z;
         }
 
   pub state-end : 24 ≤ k → Register-of s c l
@@ -167,6 +168,7 @@ module _ (s c b : List ℕ) (l m e k : ℕ) (S : State s c b l m e k) where
         most = omega (arith, S .l-le);
         gen = λ a. subst (λ (z : ℕ). Gen R16 (poly s) z (poly c) l) k-is (S .inv .gen);
         short = λ c′ l′ G. S .inv .short c′ l′ (subst (λ (z : ℕ). Gen R16 (poly s) z c′ l′) (sym k-is) G);
+        none = λ a. absurd (omega (arith, S .l-le));
       }
     where
       k-is : k ≡ 24
@@ -194,8 +196,3 @@ state-start s c b n e f =
 
 pub state-move : (s : List ℕ) {c c′ b b′ : List ℕ} {l l′ m m′ e e′ : ℕ} (k : ℕ) → State s c b l m e k → c′ ≡ c → b′ ≡ b → l′ ≡ l → m′ ≡ m → e′ ≡ e → State s c′ b′ l′ m′ e′ k
 state-move s k S pc pb pl pm pe = transport (λ i. State s (sym pc i) (sym pb i) (sym pl i) (sym pm i) (sym pe i) k) S
-
-pub zeros-at : (n i : ℕ) → getD {A = ℕ} (replicate n 0) i 0 ≡ 0
-zeros-at zero i = refl
-zeros-at (suc n) zero = refl
-zeros-at (suc n) (suc i) = zeros-at n i

@@ -1,7 +1,7 @@
 -- The code's numbers as elements of GF(2^16), and its arrays as sequences of them.
 use mathlib.Core.Path.{_≡_, refl, sym, ap, ap₂, _∙_, subst}
 use mathlib.Core.List.{List}
-use Prim.Native.Nat.{ℕ, _%_, _^_, _<_}
+use Prim.Native.Nat.{ℕ, _%_, _<_}
 use native.Mathlib.Nat.{mod-lt, mod-eq-of-lt}
 use lib.Dec.{lit<}
 use lib.ListN.{getD}

@@ -3,8 +3,7 @@ use mathlib.Core.Path.{_≡_}
 use mathlib.Core.List.{List}
 use Prim.Native.Nat.{ℕ, suc, _-_, _≤_, _<_}
 use lib.ListN.{getD, length}
-use Rattle.algebra.specs.Series.{pow}
-use Rattle.algebra.specs.Errors.{chien}
+use Rattle.algebra.specs.Series.{pow, eval}
 use Rattle.algebra.specs.Places.{zeros}
 use Rattle.algebra.specs.GfField.{El}
 use Rattle.gf16.specs.Field16.{gf16}
@@ -12,19 +11,20 @@ use Rattle.gf16.specs.Alpha.{R16, α}
 use Rattle.bch_locator.specs.Element.{poly}
 use Rattle.bch_locator.specs.Lanes.{Lanes}
 
--- the register c of length l at α^-p
-abbrev pub valueAt : List ℕ → ℕ → ℕ → El 15
-valueAt c l p = chien gf16 (poly c) l (pow R16 α) p
+-- the value of the register c of length l at the inverse of α^p: the position of power p has its root where this is zero
+abbrev pub valueAt : (ℕ → El 15) → ℕ → ℕ → El 15
+valueAt c l p = eval R16 (suc l) c (gf16 .inv (pow R16 α p))
 
--- the powers below n at which the register vanishes, ascending, each once: the first `count` of `at`
+-- the powers below n at which the register vanishes, ascending, each once: the first `count` of `at`; zeros behind them
 pub record Places-of (at : List ℕ) (count : ℕ) (c : List ℕ) (l n : ℕ) : Type 0 where
   pub size : length at ≡ 12
-  pub many : count ≡ zeros gf16 n (valueAt c l)
+  pub many : count ≡ zeros gf16 n (valueAt (poly c) l)
   pub most : count ≤ l
   pub in-order : (i j : ℕ) → i < j → j < count → getD at i 0 < getD at j 0
   pub inside : (i : ℕ) → i < count → getD at i 0 < n
-  pub root : (i : ℕ) → i < count → valueAt c l (getD at i 0) ≡ R16 .𝟘
-  pub all : (p : ℕ) → p < n → valueAt c l p ≡ R16 .𝟘 → (i : ℕ) × (i < count) × (getD at i 0 ≡ p)
+  pub root : (i : ℕ) → i < count → valueAt (poly c) l (getD at i 0) ≡ R16 .𝟘
+  pub all : (p : ℕ) → p < n → valueAt (poly c) l p ≡ R16 .𝟘 → (i : ℕ) × (i < count) × (getD at i 0 ≡ p)
+  pub behind : (i : ℕ) → count ≤ i → getD at i 0 ≡ 0
 
 -- c 0 to c l from the end, without c l, in lanes
 pub record Reversed (t c : List ℕ) (l : ℕ) : Type 0 where

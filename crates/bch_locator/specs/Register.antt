@@ -3,7 +3,7 @@
 use mathlib.Core.Path.{_≡_}
 use mathlib.Core.List.{List}
 use Prim.Native.Nat.{ℕ, _-_, _≤_, _<_}
-use lib.ListN.{length}
+use lib.ListN.{getD, length}
 use Rattle.algebra.specs.Series.{sum}
 use Rattle.algebra.specs.Massey.{Gen, fixed}
 use Rattle.algebra.specs.GfField.{El}
@@ -11,11 +11,13 @@ use Rattle.gf16.specs.Field16.{gf16}
 use Rattle.gf16.specs.Alpha.{R16}
 use Rattle.bch_locator.specs.Element.{toEl, poly}
 
--- l at most 12: c of length l generates s, and no register that does is shorter. "Length over 12": l is 13, and none is shorter than that.
+-- l at most 12: c of length l generates s, and no register that does is shorter. "Length over 12": l is 13, none is
+-- shorter than that, and c is zeros.
 pub record Register-of (s c : List ℕ) (l : ℕ) : Type 0 where
   pub most : l ≤ 13
   pub gen : l ≤ 12 → Gen R16 (poly s) 24 (poly c) l
   pub short : (c′ : ℕ → El 15) (l′ : ℕ) → Gen R16 (poly s) 24 c′ l′ → l ≤ l′
+  pub none : 12 < l → (i : ℕ) → getD c i 0 ≡ 0
 
 -- the sum of the first n of c i s (k - i)
 unfoldable pub term : List ℕ → List ℕ → ℕ → ℕ → El 15

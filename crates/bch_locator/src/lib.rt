@@ -189,7 +189,7 @@ fn mend(c: &mut [u16; 13], q: u16, m: usize, b: &[u16; 13])
     }
 }
 
-// The register 1 + c[1] x + .. + c[len] x^len; a length of 13 stands for any over 12.
+// The register 1 + c[1] x + .. + c[len] x^len; a length of 13, with zeros, stands for any over 12.
 pub struct Register {
     pub c: [u16; 13],
     pub len: usize,
@@ -215,7 +215,10 @@ pub fn shortest(s: [u16; 24]) -> Register
             let q = mul(d, inverse(e));
             if l + l <= k {
                 if 12 < k + 1 - l {
-                    return Register { c: c, len: 13 };
+                    return Register {
+                        c: [0u16; 13],
+                        len: 13,
+                    };
                 }
                 let t = c;
                 mend(&mut c, q, m, &b);
@@ -291,7 +294,7 @@ fn place_powers() -> [u16; 16]
     ]
 }
 
-// The powers of the places, ascending, in the first `count` of `at`.
+// The powers of the places, ascending, in the first `count` of `at`, and zeros behind them.
 pub struct Places {
     pub at: [usize; 12],
     pub count: usize,

@@ -98,10 +98,6 @@ pub parity-lt : (m : List ℕ) → parityOf m < 2 ^ 192
 unfolding parityOf
 parity-lt m = rem-lt 192 generator (length m + 192) (number m * 2 ^ 192) generator-top
 
-pub remainder-lt : (w : List ℕ) → remainderOf w < 2 ^ 192
-unfolding remainderOf
-remainder-lt w = rem-lt 192 generator (length w) (number w) generator-top
-
 -- a first short byte
 pub parity-start : (c : List ℕ) → length c ≤ 8 → parityOf c ≡ stepOf 0 (number c)
 unfolding parityOf stepOf

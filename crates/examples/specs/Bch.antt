@@ -1,8 +1,8 @@
 -- The starred examples of the BCH word.
-use mathlib.Core.Path.{_≡_, refl, sym, ap, _∙_}
-use mathlib.Core.Logic.{ite, if-pos, if-neg}
+use mathlib.Core.Path.{_≡_, refl, ap, _∙_}
+use mathlib.Core.Logic.{if-pos, if-neg}
 use mathlib.Core.List.{List, [], _∷_}
-use Prim.Native.Nat.{ℕ, _+_, _≤_}
+use Prim.Native.Nat.{ℕ}
 use native.Mathlib.Decide.{ℕ-discrete}
 use native.Mathlib.Omega.{arith}
 use lib.ListN.{length, replicate}
@@ -35,7 +35,7 @@ pub record Bch : Type 0 where
   -- "193 zero bits but the first: corrected, 1."
   pub first-bit : decodedOf first-set ≡ Corrected 1
   -- "192 bits: 11."
-  pub short : decodedOf (zeros 192) ≡ Refused 11
+  pub short : (w : List ℕ) → length w ≡ 192 → decodedOf w ≡ Refused 11
 
 alpha : (pow R16 α 16) .0 ≡ 0x100B
 unfolding pow gf16 gf-field gf-ring mul mulN xt _⊕_
@@ -67,11 +67,11 @@ first =
     if-pos (ℕ-discrete (wordRefusal (length first-set)) 0) (fair-word (length first-set) (omega (arith, size)) (omega (arith, size))) (answerOf first-set) (Refused (wordRefusal (length first-set)))
     ∙ up-to-12 (zeros 193) first-set zeros-codeword same (omega (arith, size)) (omega (arith, apart)) .0 ∙ ap Corrected apart
 
-too-short : decodedOf (zeros 192) ≡ Refused 11
-unfolding decodedOf zeros
-too-short =
-    let e = short-word 192 (omega arith) in
-    if-neg (ℕ-discrete (wordRefusal (length (zeros 192))) 0) (λ z. omega (arith, e)) (answerOf (zeros 192)) (Refused (wordRefusal (length (zeros 192)))) ∙ ap Refused e
+too-short : (w : List ℕ) → length w ≡ 192 → decodedOf w ≡ Refused 11
+unfolding decodedOf
+too-short w n =
+    let e = short-word (length w) (omega (arith, n)) in
+    if-neg (ℕ-discrete (wordRefusal (length w)) 0) (λ z. omega (arith, e)) (answerOf w) (Refused (wordRefusal (length w))) ∙ ap Refused e
 
 pub bch : Bch
 bch = record { alpha-16 = alpha; first-bit = first; short = too-short }

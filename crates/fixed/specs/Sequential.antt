@@ -1,13 +1,13 @@
 -- THE COLUMN LAW of the sequential iteration, stated once for any lane count.
-use mathlib.Core.Path.{_≡_, refl, sym, ap, _∙_, subst}
+use mathlib.Core.Path.{_≡_, refl, sym, _∙_, subst}
 use mathlib.Core.List.{List}
-use Prim.Native.Nat.{ℕ, zero, suc, _+_, _*_, _-_, _≤_, _<_}
+use Prim.Native.Nat.{ℕ, _+_, _≤_, _<_}
 use native.Mathlib.Omega.{arith}
 use native.Mathlib.Numerals.{add-one}
-use lib.ListN.{getD, length}
+use lib.ListN.{getD}
 use lib.IntN.{ℤ}
-use Rattle.lane_math.specs.Check.{Word, check}
-use Rattle.lane_math.specs.Iteration.{Code, degree, sequential}
+use Rattle.lane_math.specs.Check.{check}
+use Rattle.lane_math.specs.Iteration.{degree, sequential}
 use Rattle.lane_memory.specs.Column.{column}
 use Rattle.lane_memory.specs.Room.{var}
 use Rattle.simd.specs.Words.{word, CheckNode}

@@ -1,8 +1,8 @@
 -- The code of n, row lengths and addresses, and the lists that say it.
-use mathlib.Core.Path.{_≡_, refl, sym, ap, ap₂, _∙_, subst}
+use mathlib.Core.Path.{_≡_, refl, sym, ap, _∙_, subst}
 use mathlib.Core.Bool.{Bool, true, false}
 use mathlib.Core.List.{List, [], _++_, append-nil}
-use Prim.Native.Nat.{ℕ, zero, suc, _+_, _*_, _-_, _≤_, _<_}
+use Prim.Native.Nat.{ℕ, zero, suc, _+_, _-_, _≤_, _<_}
 use native.Mathlib.Omega.{arith}
 use native.Mathlib.Numerals.{add-one}
 use borrow.Author.Tests.{ltb-true, ltb-false}
@@ -10,7 +10,7 @@ use lib.Dec.{ltb}
 use lib.ListN.{getD, length, take, drop, length-append, List·getD-append}
 use lib.Seq.{take-at, drop-at, getD-append-add}
 use Rattle.lane_math.specs.Iteration.{Code}
-use Rattle.ldpc_shape.specs.Shape.{pOf, eOf, refusalOf}
+use Rattle.ldpc_shape.specs.Shape.{pOf, eOf}
 use Rattle.ldpc_shape.specs.Accepted.{Accepted, p-is, q-pos}
 use Rattle.ldpc_edges.specs.Code.{check, joined, rowStart, rows, edgeLists}
 use Rattle.ldpc_edges.specs.Count.{check-below}

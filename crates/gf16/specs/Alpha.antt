@@ -2,12 +2,12 @@
 use mathlib.Core.Path.{_≡_, refl, sym, ap, _∙_, subst}
 use mathlib.Core.Logic.{_≢_}
 use mathlib.Core.Bool.{Bool}
-use Prim.Native.Nat.{ℕ, zero, suc, _+_, _-_, _*_, _/_, _%_, _≤_, _<_}
+use Prim.Native.Nat.{ℕ, suc, _-_, _*_, _/_, _%_, _<_}
 use native.Mathlib.Omega.{arith}
 use lib.Dec.{T, eqb, eqb-refl, lit<}
 use Rattle.laws.specs.Xor.{_⊕_}
 use Rattle.algebra.specs.Gf.{mul, mulN, xt}
-use Rattle.algebra.specs.Ring.{Ring, Field}
+use Rattle.algebra.specs.Ring.{Ring}
 use Rattle.algebra.specs.Series.{pow}
 use Rattle.algebra.specs.Power.{digit, fast, fast-pow, misses, order-part}
 use Rattle.algebra.specs.Roots.{Distinct, power-nz, power-distinct}

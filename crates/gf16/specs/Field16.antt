@@ -1,7 +1,7 @@
 -- GF(2^16), alpha^16 = alpha^12 + alpha^3 + alpha + 1: the two checks that make it a field are computed.
 use mathlib.Core.Path.{_≡_, refl}
 use mathlib.Core.List.{List, [], _∷_}
-use Prim.Native.Nat.{ℕ, zero, suc, _<_, _^_}
+use Prim.Native.Nat.{ℕ}
 use lib.Dec.{T, lit<}
 use Rattle.laws.specs.Xor.{_⊕_}
 use Rattle.laws.specs.Tests.{below}

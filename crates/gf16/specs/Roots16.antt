@@ -1,27 +1,25 @@
 -- The generator's roots: the powers alpha^1 to alpha^24 and their conjugates, 192 in all. A binary polynomial is a multiple of the
 -- generator exactly when it vanishes at alpha, alpha^3, .. alpha^23.
-use mathlib.Core.Path.{_≡_, refl, sym, ap, ap₂, _∙_, subst}
-use mathlib.Core.Logic.{_≢_}
-use mathlib.Core.Bool.{Bool, true, false, not}
+use mathlib.Core.Path.{_≡_, sym, ap, ap₂, _∙_, subst}
+use mathlib.Core.Bool.{not}
 use mathlib.Core.List.{List, [], _∷_}
-use Prim.Native.Nat.{ℕ, zero, suc, _+_, _-_, _*_, _/_, _%_, _^_, _≤_, _<_}
-use native.Mathlib.Nat.{not-suc-le-zero, le-of-suc-le-suc, mod-lt, pow-suc, mul-one, le-refl, lt-of-lt-of-le, zero-mul, one-mul, suc-add}
-use lib.Pow.{pow-pos, pow-mono}
+use Prim.Native.Nat.{ℕ, zero, suc, _+_, _*_, _/_, _%_, _^_, _≤_, _<_}
+use native.Mathlib.Nat.{not-suc-le-zero, le-of-suc-le-suc, mod-lt, pow-suc, mul-one, le-refl}
 use native.Mathlib.Decide.{decLe}
 use native.Mathlib.Omega.{arith}
 use lib.Dec.{T, ltb, ltb→lt, eqb, eqb→eq, eqb-refl, T-not, lit<}
 use lib.ListN.{getD, length}
-use Rattle.laws.specs.Xor.{_⊕_, ⊕-lt, two-cases, two-pos}
+use Rattle.laws.specs.Xor.{_⊕_}
 use Rattle.laws.specs.Tests.{below, below-at, both, both-l, both-r}
 use Rattle.laws.specs.Poly.{clmul, clmul-lt, rem, quo, division, rem-lt}
 use Rattle.bch_table.specs.Generator.{masks, product, generator, generator-lt, generator-top}
 use Rattle.algebra.specs.Gf.{mul, mulN, xt}
-use Rattle.algebra.specs.Ring.{Ring, Field, ⊠-zero, zero-⊠, ⊞-cancel, zero-⊞}
+use Rattle.algebra.specs.Ring.{⊠-zero, zero-⊠, zero-⊞}
 use Rattle.algebra.specs.GfField.{El, gf-ring, gf-field, el-path}
 use Rattle.algebra.specs.Series.{pow, pow-add}
 use Rattle.algebra.specs.Power.{fast, digit, fast-pow, pow-mod}
-use Rattle.algebra.specs.Roots.{Distinct, domain}
-use Rattle.algebra.specs.Values.{ev, bit, ev-add, ev-square, ev-clmul, ev-more, multiple, vanishes}
+use Rattle.algebra.specs.Roots.{Distinct}
+use Rattle.algebra.specs.Values.{ev, bit, ev-add, ev-square, ev-clmul, ev-more, multiple}
 use Rattle.gf16.specs.Field16.{gf16}
 use Rattle.gf16.specs.Alpha.{R16, α, α-full, α-distinct}
 
@@ -131,11 +129,7 @@ first-24 k w z i h =
     let l = ltb→lt (getD odds i 0) 12 (both-r (eqb ((2 * getD odds i 0 + 1) * 2 ^ getD twos i 0) (i + 1)) (ltb (getD odds i 0) 12) t) in
     ap (λ (m : ℕ). ev R16 k w (pow R16 α m)) (sym e) ∙ conjugates k w (2 * getD odds i 0 + 1) (z (getD odds i 0) l) (getD twos i 0)
 
--- ---- a multiple of the generator vanishes at alpha^1 to alpha^24, and what vanishes there is a multiple
-pub multiple-vanishes : (k q w : ℕ) → w < 2 ^ k → w ≡ clmul k q generator → (i : ℕ) → i < 24 → ev R16 k w (pow R16 α (i + 1)) ≡ R16 .𝟘
-multiple-vanishes k q w h e =
-    first-24 k w (λ i hi. vanishes gf16 193 generator k q w (pow R16 α (2 * i + 1)) generator-lt h (generator-odd i hi) e)
-
+-- what vanishes at alpha^1 to alpha^24 is a multiple of the generator
 pub vanishing-multiple : (k w : ℕ) → w < 2 ^ k → ((i : ℕ) → i < 24 → ev R16 k w (pow R16 α (i + 1)) ≡ R16 .𝟘) → rem 192 generator k w ≡ 0
 vanishing-multiple k w h z = zero-syndromes k w h (λ i hi. z (2 * i) (omega arith))
 

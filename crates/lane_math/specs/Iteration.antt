@@ -5,7 +5,7 @@ use lib.Dec.{eqb}
 use lib.IntN.{ℤ, pos, _+ℤ_, _-ℤ_}
 use Rattle.laws.specs.Signed.{negative}
 use Rattle.lane_math.specs.Value.{satZ}
-use Rattle.lane_math.specs.Check.{Word, check, tOf, newR}
+use Rattle.lane_math.specs.Check.{Word, check, newR}
 
 -- The code as the iteration sees it: edge e's variable, and check c's edges, which are row-start c up to row-start (c + 1).
 pub record Code : Type 0 where

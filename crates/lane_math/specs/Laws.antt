@@ -1,16 +1,16 @@
 -- A lane's reply is the message of the definition; writes in order; the sign of a product tells an odd number of negatives.
 use mathlib.Core.Path.{_≡_, refl, sym, ap, subst, _∙_}
-use mathlib.Core.Bool.{Bool, true, false, not, cond}
+use mathlib.Core.Bool.{Bool, true, false, cond}
 use Prim.Native.Nat.{ℕ, zero, suc, _+_, _%_, _≤_, _<_, min, max}
 use native.Mathlib.Omega.{arith}
 use borrow.Author.Tests.{ltb-true, ltb-false, eqb-true, eqb-false, eq-eqb, ne-eqb}
 use lib.Dec.{ltb, eqb}
-use lib.IntN.{ℤ, pos, _+ℤ_, _-ℤ_}
+use lib.IntN.{ℤ, pos, _-ℤ_}
 use lib.Signed.{ltZ}
 use Rattle.laws.specs.Signed.{negative, times, times-swap, times-twice, max-nonneg}
 use Rattle.lane_math.specs.Value.{satZ, magnitude, signed, reduced, replied}
 use Rattle.lane_math.specs.Check.{min1, min2, first, others, message, put, wrote}
-use Rattle.lane_math.specs.Iteration.{hard, negatives, unsatisfied}
+use Rattle.lane_math.specs.Iteration.{negatives, unsatisfied}
 
 -- the sign of the product of the first n edges
 unfoldable pub parity : (ℕ → ℤ) → ℕ → Bool

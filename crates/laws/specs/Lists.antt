@@ -1,10 +1,10 @@
--- Tests joined by or, and parts of lists.
+-- Tests joined by or, parts of lists, and lists of zeros.
 use mathlib.Core.Path.{_≡_, refl, sym, ap, _∙_}
 use mathlib.Core.Bool.{Bool, true, false, cond, _||_}
 use mathlib.Core.List.{List, [], _∷_}
 use Prim.Native.Nat.{ℕ, zero, suc, _-_}
 use native.Mathlib.Omega.{arith}
-use lib.ListN.{take, drop}
+use lib.ListN.{getD, take, drop, replicate}
 use lib.Seq.{take-nil}
 
 pub true-false : true ≡ false → ⊥
@@ -24,3 +24,8 @@ drop-take zero t l = let e : t ≡ t - 0 = omega arith in ap (λ (z : ℕ). take
 drop-take (suc f) zero l = let e : 0 ≡ 0 - suc f = omega arith in ap (λ (z : ℕ). take z (drop (suc f) l)) e
 drop-take (suc f) (suc t) [] = sym (take-nil (suc t - suc f))
 drop-take (suc f) (suc t) (x ∷ l) = drop-take f t l ∙ (let e : t - f ≡ suc t - suc f = omega arith in ap (λ (z : ℕ). take z (drop f l)) e)
+
+pub zeros-at : (n i : ℕ) → getD {A = ℕ} (replicate n 0) i 0 ≡ 0
+zeros-at zero i = refl
+zeros-at (suc n) zero = refl
+zeros-at (suc n) (suc i) = zeros-at n i

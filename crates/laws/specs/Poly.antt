@@ -1,6 +1,5 @@
 -- Polynomials over two elements as numbers, digit i the coefficient of x^i: their product, and division by a polynomial of degree d.
 use mathlib.Core.Path.{_≡_, refl, sym, ap, ap₂, _∙_, subst}
-use mathlib.Core.Logic.{}
 use Prim.Native.Nat.{ℕ, zero, suc, _+_, _*_, _/_, _%_, _^_, _≤_, _<_}
 use native.Mathlib.Nat.{mod-lt, pow-suc, zero-mul, one-mul, mul-div-cancel, mul-mod-left, mul-comm, div-add-mod', zero-add, zero-div, suc-add, add-zero, add-suc, add-comm, mul-one, mul-assoc, div-le-self, lt-of-lt-of-le, lt-of-le-of-lt, mod-eq-of-lt, div-lt-iff-lt-mul, div-eq-of-lt}
 use native.Mathlib.Omega.{arith}

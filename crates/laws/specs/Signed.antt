@@ -1,7 +1,7 @@
 -- Whole numbers of 8 and 16 bits: the smaller and the larger of two, signs, and that sums, differences and negatives fit.
-use mathlib.Core.Path.{_≡_, refl, sym, ap, subst, _∙_}
+use mathlib.Core.Path.{_≡_, refl, ap, subst, _∙_}
 use mathlib.Core.Bool.{Bool, true, false, not, cond}
-use Prim.Native.Nat.{ℕ, zero, suc, _+_, _-_, _<_, _≤_, _^_, _/_}
+use Prim.Native.Nat.{ℕ, zero, suc, _-_, _<_, _≤_, _^_, _/_}
 use native.Mathlib.Omega.{arith}
 use lib.IntN.{ℤ, pos, negsuc, _+ℤ_, _-ℤ_, negℤ, natAbs, +ℤ-idl}
 use lib.Signed.{ltZ}

@@ -1,5 +1,5 @@
 -- What the entry points answer, and what they leave in the lent slices: the first refusal that applies, and then nothing is changed.
-use mathlib.Core.Bool.{Bool, cond, not}
+use mathlib.Core.Bool.{cond}
 use mathlib.Core.List.{List, _++_}
 use Prim.Native.Nat.{ℕ, suc, _+_}
 use lib.Dec.{eqb, ltb, leb}
@@ -13,7 +13,7 @@ use Rattle.ldpc.specs.declared.Counted.the-variants as counted
 use Rattle.ldpc.specs.declared.Written.{Written}
 use Rattle.ldpc.specs.declared.Written.the-variants as written
 
--- ---- the document's number of each answer, 0 for none
+-- ---- the scope's number of each answer, 0 for none
 abbrev pub madeNumber : Made → ℕ
 madeNumber (made.Refused r) = r
 madeNumber (made.Code k p q e) = 0

@@ -1,9 +1,8 @@
--- The document's examples of the code, as one list.
-use mathlib.Core.Path.{_≡_, refl, sym, ap, _∙_}
-use mathlib.Core.Bool.{cond}
+-- The scope's examples of the code, as one list.
+use mathlib.Core.Path.{_≡_, refl, sym}
 use mathlib.Core.List.{List, [], _∷_}
-use Prim.Native.Nat.{ℕ, zero, suc}
-use lib.ListN.{length, replicate}
+use Prim.Native.Nat.{ℕ}
+use lib.ListN.{replicate}
 use Rattle.ldpc_shape.specs.Shape.{kOf, pOf, qOf, eOf, rowsOf, total, anyOver, countMod, countsMod, badLength, refusalOf}
 use Rattle.ldpc_edges.specs.Code.{met, ofBits, ofRows, meets, only, stairs, check, flip, flips, sums, parity}
 use Rattle.ldpc_edges.specs.Modulo.{mods, check-mods, parity-mods}
@@ -26,11 +25,11 @@ pub record Examples : Type 0 where
   -- "n 374: no rows accepted, E 747; one row gives 3"; the answers are those of `new`
   pub rows-none : newAnswer 374 [] [] 1122 ≡ made.Code 0 374 1 747
   pub edges-374 : eOf 374 [] [] ≡ 747
-  pub rows-one : (size : ℕ) → newAnswer 374 (1 ∷ []) row0 size ≡ made.Refused 3
-  -- "n 44,880 accepted without rows; 45,254 and 0 give 2"
+  pub rows-one : (l : ℕ) (addrs : List ℕ) (size : ℕ) → newAnswer 374 (l ∷ []) addrs size ≡ made.Refused 3
+  -- "n 44,880 accepted without rows; 45,254 and 0 give 2", whatever the rows
   pub long-44880 : refusalOf 44880 [] [] ≡ 0
-  pub long-45254 : (size : ℕ) → newAnswer 45254 [] [] size ≡ made.Refused 2
-  pub long-0 : (size : ℕ) → newAnswer 0 [] [] size ≡ made.Refused 2
+  pub long-45254 : (lens addrs : List ℕ) (size : ℕ) → newAnswer 45254 lens addrs size ≡ made.Refused 2
+  pub long-0 : (lens addrs : List ℕ) (size : ℕ) → newAnswer 0 lens addrs size ≡ made.Refused 2
 
 pub examples : Examples
 unfolding check only meets ofRows ofBits met stairs kOf pOf qOf rowsOf eOf refusalOf badLength anyOver countsMod countMod total parity sums flips flip mods newAnswer newRefusal orElse shortOf
@@ -44,8 +43,8 @@ examples =
       parity-as-0 = λ info. sym (parity-mods 748 (1 ∷ []) (374 ∷ []) info);
       rows-none = refl;
       edges-374 = refl;
-      rows-one = λ size. refl;
+      rows-one = λ l addrs size. refl;
       long-44880 = refl;
-      long-45254 = λ size. refl;
-      long-0 = λ size. refl;
+      long-45254 = λ lens addrs size. refl;
+      long-0 = λ lens addrs size. refl;
     }

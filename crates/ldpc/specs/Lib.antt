@@ -1,3 +1,3 @@
--- What the entry points promise, and the document's examples.
+-- What the entry points promise, and the scope's examples.
 pub mod Answers
 pub mod Examples

@@ -154,13 +154,6 @@ rest-end q c lens addrs g from h =
     ap (λ (ls : List ℕ). only c (ofRows (374 * q) q (374 * g) (rowsOf ls (drop from addrs)))) (drop-of-length-le lens {i = g} h)
 
 module _ (q c : ℕ) (lens addrs : List ℕ) (g from : ℕ) (h : g < length lens) where
-  pub rows-end-fits : (r : ℕ) → r ≡ getD lens g 0 → from + total (drop g lens) ≡ length addrs → (from + r ≤ length addrs) × (from + r + total (drop (g + 1) lens) ≡ length addrs)
-  unfolding total
-  rows-end-fits r e f =
-      let a = ap total (drop-cons lens g 0 h) in
-      let b = ap (λ (z : ℕ). total (drop z lens)) (add-one g) in
-      (omega arith, omega arith)
-
   -- the row's addresses as they are lent
   pub rest-next : (r first : ℕ) → r ≡ getD lens g 0 → first ≡ 374 * g
       → restOf q c lens addrs g from ≡ only c (ofBits (374 * q) q 374 first 0 (take (from + r - from) (drop from addrs))) ++ restOf q c lens addrs (g + 1) (from + r)

@@ -1,5 +1,5 @@
 -- The edges of a code, the lists of its checks, parity, encoded word and syndrome weight.
-use mathlib.Core.Bool.{Bool, cond}
+use mathlib.Core.Bool.{cond}
 use mathlib.Core.List.{List, [], _∷_, _++_}
 use Prim.Native.Nat.{ℕ, zero, suc, _+_, _*_, _%_}
 use lib.Bits.{bitXor}

@@ -1,8 +1,8 @@
 -- All edges of a code: those of the information bits, then the stairs. They are E, and each lies at one check.
 use mathlib.Core.Path.{_≡_, refl, sym, ap, ap₂, _∙_, subst}
 use mathlib.Core.Bool.{Bool, true, false, cond}
-use mathlib.Core.List.{List, [], _∷_, _++_, append-assoc, append-nil}
-use Prim.Native.Nat.{ℕ, zero, suc, _+_, _-_, _*_, _/_, _%_, _≤_, _<_}
+use mathlib.Core.List.{List, [], _∷_, _++_, append-nil}
+use Prim.Native.Nat.{ℕ, zero, suc, _+_, _-_, _*_, _≤_, _<_}
 use native.Mathlib.Omega.{arith}
 use native.Mathlib.Decide.{ℕ-discrete, decLt}
 use borrow.Author.Tests.{eq-eqb, ne-eqb}
@@ -11,7 +11,7 @@ use lib.ListN.{length, take, drop, getD, length-append, length-take, length-drop
 use Rattle.ldpc_shape.specs.Shape.{kOf, pOf, qOf, eOf, rowsOf, total}
 use Rattle.ldpc_shape.specs.Accepted.{Accepted, p-pos, n-is}
 use Rattle.ldpc_edges.specs.Code.{Edge, edge, met, ofBits, ofRows, meets, only, stairs, check, startOf}
-use Rattle.ldpc_edges.specs.Inside.{Inside, inside-append, meets-inside, only-append, only-length}
+use Rattle.ldpc_edges.specs.Inside.{Inside, inside-append, meets-inside, only-append}
 
 -- how many of the edges lie at checks below c
 unfoldable pub start : List Edge → ℕ → ℕ

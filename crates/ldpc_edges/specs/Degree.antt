@@ -1,8 +1,8 @@
 -- The order and the degree law: check c lists its information bits ascending, and has one edge for each address equal to c modulo q, plus 2 (plus 1 for c = 0). It has at most 128.
 use mathlib.Core.Path.{_≡_, refl, sym, ap, ap₂, _∙_, subst}
 use mathlib.Core.Bool.{Bool, true, false, cond}
-use mathlib.Core.List.{List, [], _∷_, _++_}
-use Prim.Native.Nat.{ℕ, zero, suc, _+_, _-_, _*_, _/_, _%_, _≤_, _<_}
+use mathlib.Core.List.{List, [], _∷_}
+use Prim.Native.Nat.{ℕ, zero, suc, _+_, _*_, _%_, _≤_, _<_}
 use native.Mathlib.Omega.{arith}
 use native.Mathlib.Nat.{mod-lt}
 use borrow.Author.Tests.{ne-eqb}
@@ -10,7 +10,7 @@ use lib.Dec.{eqb}
 use lib.ListN.{length, take, drop, length-drop, length-append}
 use Rattle.ldpc_shape.specs.Shape.{kOf, pOf, qOf, rowsOf, total, countMod}
 use Rattle.ldpc_shape.specs.Accepted.{Accepted, p-is, q-pos, few}
-use Rattle.ldpc_edges.specs.Code.{Edge, ofBits, ofRows, meets, only, stairs, check, met}
+use Rattle.ldpc_edges.specs.Code.{ofBits, ofRows, meets, only, stairs, check, met}
 use Rattle.ldpc_edges.specs.Inside.{only-append, only-length}
 use Rattle.ldpc_edges.specs.Insert.{insert, insert-length, place, row-cons, Rising, bits-rising}
 

@@ -2,12 +2,12 @@
 use mathlib.Core.Path.{_≡_, refl, sym, ap, ap₂, _∙_, subst}
 use mathlib.Core.Bool.{Bool, true, false, cond}
 use mathlib.Core.List.{List, [], _∷_, _++_, append-nil}
-use Prim.Native.Nat.{ℕ, zero, suc, _+_, _-_, _*_, _/_, _%_, _≤_, _<_}
+use Prim.Native.Nat.{ℕ, zero, suc, _+_, _%_, _≤_, _<_}
 use native.Mathlib.Omega.{arith}
 use borrow.Author.Tests.{eqb-true, eqb-false}
 use lib.Bits.{bitXor}
 use lib.Dec.{eqb}
-use lib.ListN.{length, take, drop, getD, set, replicate, length-set, length-replicate, getD-replicate, length-append, List·getD-append, List·getD-eq-default}
+use lib.ListN.{length, getD, set, replicate, length-set, length-replicate, getD-replicate, length-append, List·getD-append, List·getD-eq-default}
 use lib.Seq.{getD-set-same, getD-set-other, getD-append-add, ext-getD}
 use native.Mathlib.Decide.{ℕ-discrete, decLt}
 use Rattle.laws.specs.Modulo.{xor-parity, xor-bit}

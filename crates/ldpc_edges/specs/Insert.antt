@@ -6,11 +6,11 @@ use Prim.Native.Nat.{ℕ, zero, suc, _+_, _-_, _*_, _/_, _%_, _≤_, _<_}
 use native.Mathlib.Omega.{arith}
 use native.Mathlib.Nat.{mod-lt, div-add-mod', add-mul-mod-self-right, add-mul-div-right, div-lt-iff-lt-mul}
 use native.Mathlib.Decide.{ℕ-discrete}
-use borrow.Author.Tests.{eqb-true, eqb-false, eq-eqb, ne-eqb, lt-ltb, le-ltb, ltb-true, ltb-false}
+use borrow.Author.Tests.{eqb-true, eqb-false, eq-eqb, ne-eqb, le-ltb, ltb-false}
 use lib.Arith.{mod-mul, digits-div, digits-mod}
 use lib.Dec.{eqb, ltb}
 use lib.ListN.{length, getD}
-use Rattle.ldpc_edges.specs.Code.{Edge, edge, met, ofBits, only, ones}
+use Rattle.ldpc_edges.specs.Code.{met, ofBits, only, ones}
 use Rattle.ldpc_edges.specs.Inside.{only-append}
 
 -- v in its place among the ascending bits

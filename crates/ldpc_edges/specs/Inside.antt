@@ -1,12 +1,12 @@
 -- Lists of edges: their parts, and where their checks and bits lie.
-use mathlib.Core.Path.{_≡_, refl, sym, ap, ap₂, _∙_, subst}
+use mathlib.Core.Path.{_≡_, refl, ap, _∙_}
 use mathlib.Core.Bool.{Bool, true, false, cond}
-use mathlib.Core.List.{List, [], _∷_, _++_, append-assoc}
-use Prim.Native.Nat.{ℕ, zero, suc, _+_, _-_, _*_, _/_, _%_, _≤_, _<_}
+use mathlib.Core.List.{List, [], _∷_, _++_}
+use Prim.Native.Nat.{ℕ, zero, suc, _+_, _*_, _≤_, _<_}
 use native.Mathlib.Omega.{arith}
 use native.Mathlib.Nat.{mod-lt}
 use lib.Dec.{eqb}
-use lib.ListN.{length, take, drop, getD, length-append}
+use lib.ListN.{length, drop, length-append}
 use Rattle.ldpc_shape.specs.Shape.{kOf, pOf, qOf, rowsOf}
 use Rattle.ldpc_edges.specs.Code.{Edge, edge, met, ofBits, ofRows, meets, only}
 

@@ -1,13 +1,13 @@
 -- The layout of the lists in one slice, for its readers: check c's bits are `rows` from row_start[c] to row_start[c + 1].
 use mathlib.Core.Path.{_≡_, refl, sym, ap, ap₂, _∙_, subst}
-use mathlib.Core.List.{List, [], _∷_, _++_, append-assoc}
-use Prim.Native.Nat.{ℕ, zero, suc, _+_, _-_, _*_, _/_, _%_, _≤_, _<_}
+use mathlib.Core.List.{List, [], _++_, append-assoc}
+use Prim.Native.Nat.{ℕ, zero, suc, _+_, _-_, _≤_, _<_}
 use native.Mathlib.Omega.{arith}
 use native.Mathlib.Numerals.{add-one}
 use lib.ListN.{length, take, drop, getD, length-append, length-drop, List·getD-append}
 use lib.Seq.{drop-at, drop-append-add, take-append-seam, take-append-le, drop-append-le}
-use Rattle.ldpc_shape.specs.Shape.{kOf, pOf, qOf, eOf}
-use Rattle.ldpc_shape.specs.Accepted.{Accepted, p-pos}
+use Rattle.ldpc_shape.specs.Shape.{pOf, eOf}
+use Rattle.ldpc_shape.specs.Accepted.{Accepted}
 use Rattle.ldpc_edges.specs.Code.{check, startOf, starts, joined, rowStart, rows, edgeLists}
 use Rattle.ldpc_edges.specs.Degree.{degree-le}
 use Rattle.ldpc_edges.specs.Count.{start-last, check-below}

@@ -1,9 +1,9 @@
 -- Addresses count modulo P only.
-use mathlib.Core.Path.{_≡_, refl, sym, ap, ap₂, _∙_}
+use mathlib.Core.Path.{_≡_, refl, ap, ap₂, _∙_}
 use mathlib.Core.List.{List, [], _∷_, _++_}
-use Prim.Native.Nat.{ℕ, zero, suc, _+_, _-_, _*_, _/_, _%_}
+use Prim.Native.Nat.{ℕ, zero, suc, _+_, _*_, _%_}
 use native.Mathlib.Nat.{mod-add-mod}
-use lib.ListN.{length, take, drop, replicate}
+use lib.ListN.{take, drop, replicate}
 use Rattle.ldpc_shape.specs.Shape.{kOf, pOf, qOf, rowsOf}
 use Rattle.ldpc_edges.specs.Code.{Edge, edge, met, ofBits, ofRows, meets, only, stairs, check, flips, sums, parity}
 

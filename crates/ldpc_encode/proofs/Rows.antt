@@ -67,13 +67,6 @@ unfoldable pub infoFrom : ℕ → ℕ → List ℕ → List ℕ → List ℕ →
 infoFrom q l w lens addrs g from j = ones w (only (l + j * q) (ofRows (374 * q) q (374 * g) (rowsOf (drop g lens) (drop from addrs))))
 
 module _ (q l : ℕ) (w lens addrs : List ℕ) (g from : ℕ) (h : g < length lens) where
-  pub rows-end-fits : (r : ℕ) → r ≡ getD lens g 0 → from + total (drop g lens) ≡ length addrs → (from + r ≤ length addrs) × (from + r + total (drop (g + 1) lens) ≡ length addrs)
-  unfolding total
-  rows-end-fits r e f =
-      let a = ap total (drop-cons lens g 0 h) in
-      let b = ap (λ (z : ℕ). total (drop z lens)) (add-one g) in
-      (omega arith, omega arith)
-
   info-next : l < q → (j : ℕ) → j < 374 → infoFrom q l w lens addrs g from j
       ≡ rowBit q l (take 374 (drop (374 * g) w)) (take (getD lens g 0) (drop from addrs)) j + infoFrom q l w lens addrs (g + 1) (from + getD lens g 0) j
   unfolding infoFrom ofRows rowsOf

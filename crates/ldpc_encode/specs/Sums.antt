@@ -1,11 +1,11 @@
 -- The sums that the code keeps: for each residue l modulo q, whether each of the checks l + iq has an odd number of ones.
-use mathlib.Core.Path.{_≡_, refl, sym, ap, ap₂, _∙_, subst}
-use mathlib.Core.Bool.{Bool, true, false, cond}
-use mathlib.Core.List.{List, [], _∷_, _++_}
-use Prim.Native.Nat.{ℕ, zero, suc, _+_, _-_, _*_, _/_, _%_, _≤_, _<_}
+use mathlib.Core.Path.{_≡_}
+use mathlib.Core.Bool.{cond}
+use mathlib.Core.List.{List, [], _∷_}
+use Prim.Native.Nat.{ℕ, zero, suc, _+_, _-_, _*_, _/_, _%_, _<_}
 use lib.Bits.{bitXor}
 use lib.Dec.{eqb}
-use lib.ListN.{length, take, drop, getD}
+use lib.ListN.{length, getD}
 use Rattle.ldpc_shape.specs.Shape.{rowsOf}
 use Rattle.ldpc_edges.specs.Code.{ofRows, only, ones}
 

@@ -1,17 +1,16 @@
 -- Filling the lists of all checks from their ends: each edge, the last first, is put before what its check has so far.
-use mathlib.Core.Path.{_≡_, refl, sym, ap, ap₂, _∙_, subst}
+use mathlib.Core.Path.{_≡_, refl, sym, ap, _∙_, subst}
 use mathlib.Core.Logic.{_≢_}
-use mathlib.Core.Bool.{Bool, true, false, cond}
-use mathlib.Core.List.{List, [], _∷_, _++_, append-assoc}
-use Prim.Native.Nat.{ℕ, zero, suc, _+_, _-_, _*_, _/_, _%_, _≤_, _<_}
+use mathlib.Core.Bool.{cond}
+use mathlib.Core.List.{List, [], _∷_, _++_}
+use Prim.Native.Nat.{ℕ, zero, suc, _+_, _-_, _≤_, _<_}
 use native.Mathlib.Omega.{arith}
 use native.Mathlib.Decide.{ℕ-discrete, decLt}
-use borrow.Author.Tests.{eqb-true, eqb-false, eq-eqb, ne-eqb}
-use lib.Dec.{eqb, ltb}
-use lib.ListN.{length, take, drop, getD, set, length-append, length-set, length-take, length-drop}
+use borrow.Author.Tests.{eq-eqb, ne-eqb}
+use lib.ListN.{length, take, drop, getD, set, length-set}
 use lib.Seq.{getD-set-same, getD-set-other, ext-getD, slice, length-slice, getD-take, getD-drop}
 use Rattle.ldpc_edges.specs.Code.{Edge, edge, only}
-use Rattle.ldpc_edges.specs.Inside.{Inside, only-append, only-length}
+use Rattle.ldpc_edges.specs.Inside.{Inside, only-length}
 use Rattle.ldpc_edges.specs.Count.{start, start-le}
 
 -- the lists and their starts, which are cursors while they are filled

@@ -8,12 +8,12 @@ use native.Mathlib.Numerals.{add-one}
 use native.Mathlib.Decide.{ℕ-discrete}
 use borrow.Author.Tests.{eqb-true, eqb-false, eq-eqb, ne-eqb, ltb-true, ltb-false, not-false, lt-ltb, le-ltb, le-leb, lt-leb}
 use lib.Dec.{eqb, ltb, leb}
-use lib.ListN.{length, take, drop, getD, set, replicate, getD-replicate, length-take}
+use lib.ListN.{length, take, drop, getD, set, replicate, length-take}
 use lib.Seq.{drop-cons, drop-length, getD-set-same, getD-set-other, take-suc, take-length}
-use Rattle.laws.specs.Lists.{or-left, or-right}
+use Rattle.laws.specs.Lists.{or-left, or-right, zeros-at}
 use Rattle.ldpc_shape.specs.Shape.{kOf, pOf, qOf, total, anyOver, countMod, countsMod, badLength, refusalOf}
 use Rattle.ldpc_shape.specs.Accepted.{total-le}
-use Rattle.ldpc_shape.specs.Counts.{Counted, tops, tops-counts}
+use Rattle.ldpc_shape.specs.Counts.{Counted, Counts-of, tops, tops-counts}
 
 -- ---- counting
 count-append : (q l : ℕ) (xs : List ℕ) (a : ℕ) → countMod q l (xs ++ a ∷ []) ≡ cond (eqb (a % q) l) (suc (countMod q l xs)) (countMod q l xs)
@@ -38,13 +38,13 @@ count-le q l (x ∷ xs) = go (eqb (x % q) l) (count-le q l xs)
     go true ih = omega arith
     go false ih = omega arith
 
-pub counted-start : (q : ℕ) (addrs : List ℕ) → q ≤ 120 → Counted (replicate 120 0) q (take 0 addrs)
+pub counted-start : (q : ℕ) (addrs : List ℕ) → Counts-of (replicate 120 0) q (take 0 addrs)
 unfolding countMod
-counted-start q addrs h l g = getD-replicate 120 l 0 0 (omega arith)
+counted-start q addrs = record { below = λ l h. zeros-at 120 l; behind = λ l h. zeros-at 120 l }
 
-pub counted-again : (q : ℕ) (addrs r : List ℕ) (i p : ℕ) → i < length addrs → p ≡ getD addrs i 0 % q → p < length r → p < q
+one-more : (q : ℕ) (addrs r : List ℕ) (i p : ℕ) → i < length addrs → p ≡ getD addrs i 0 % q → p < length r → p < q
     → Counted r q (take i addrs) → Counted (set r p (getD r p 0 + 1)) q (take (i + 1) addrs)
-counted-again q addrs r i p h e g hq C l hl =
+one-more q addrs r i p h e g hq C l hl =
     go (ℕ-discrete p l)
     ∙ sym (ap (λ (z : ℕ). countMod q l (take z addrs)) (add-one i) ∙ ap (countMod q l) (take-suc addrs i 0 h) ∙ count-append q l (take i addrs) (getD addrs i 0))
   where
@@ -57,13 +57,21 @@ counted-again q addrs r i p h e g hq C l hl =
         getD-set-other r p l (getD r p 0 + 1) 0 (λ w. f (sym w)) ∙ C l hl
         ∙ ap (λ b. cond b (suc (countMod q l (take i addrs))) (countMod q l (take i addrs))) (sym (ne-eqb _ l (λ w. f (e ∙ w))))
 
+pub counted-again : (q : ℕ) (addrs r : List ℕ) (i p : ℕ) → i < length addrs → p ≡ getD addrs i 0 % q → p < length r → p < q
+    → Counts-of r q (take i addrs) → Counts-of (set r p (getD r p 0 + 1)) q (take (i + 1) addrs)
+counted-again q addrs r i p h e g hq C =
+    record {
+      below = one-more q addrs r i p h e g hq (C .below);
+      behind = λ l hl. getD-set-other r p l (getD r p 0 + 1) 0 (λ w. omega arith) ∙ C .behind l hl;
+    }
+
 pub counted-room : (q : ℕ) (addrs r : List ℕ) (i p : ℕ) → p < q → i ≤ length addrs → length addrs ≤ 15360 → Counted r q (take i addrs) → getD r p 0 ≤ 15360
 counted-room q addrs r i p h g k C = omega (arith, C p h, count-le q p (take i addrs), length-take i addrs)
 
-pub counted-end : (q : ℕ) (addrs r : List ℕ) (i : ℕ) → length addrs ≤ i → i ≤ length addrs → Counted r q (take i addrs) → Counted r q addrs
+pub counted-end : (q : ℕ) (addrs r : List ℕ) (i : ℕ) → length addrs ≤ i → i ≤ length addrs → Counts-of r q (take i addrs) → Counts-of r q addrs
 counted-end q addrs r i h g C =
     let e : i ≡ length addrs = omega arith in
-    subst (λ (as′ : List ℕ). Counted r q as′) (ap (λ (z : ℕ). take z addrs) e ∙ take-length addrs) C
+    subst (λ (as′ : List ℕ). Counts-of r q as′) (ap (λ (z : ℕ). take z addrs) e ∙ take-length addrs) C
 
 -- ---- a row that is too long
 pub over-hit : (m : ℕ) (lens : List ℕ) (i : ℕ) → i < length lens → m < getD lens i 0 → anyOver m lens ≡ anyOver m (drop i lens) → true ≡ anyOver m lens

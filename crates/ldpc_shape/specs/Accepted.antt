@@ -1,15 +1,17 @@
 -- What it says of a code that no refusal applies.
-use mathlib.Core.Path.{_≡_, refl, sym, ap, _∙_, subst}
+use mathlib.Core.Path.{_≡_, refl, sym, ap, subst}
 use mathlib.Core.Bool.{Bool, true, false, cond, not, _||_}
 use mathlib.Core.List.{List, [], _∷_}
-use Prim.Native.Nat.{ℕ, zero, suc, _+_, _-_, _*_, _/_, _%_, _≤_, _<_}
+use Prim.Native.Nat.{ℕ, zero, suc, _+_, _*_, _%_, _≤_, _<_}
 use native.Mathlib.Omega.{arith}
 use native.Mathlib.Decide.{ℕ-discrete}
-use borrow.Author.Tests.{eqb-true, eqb-false, ltb-false, leb-false}
+use native.Mathlib.Numerals.{add-one}
+use borrow.Author.Tests.{eqb-true, ltb-false, leb-false}
 use lib.Dec.{eqb, ltb, leb}
-use lib.ListN.{length}
+use lib.ListN.{length, drop, getD}
+use lib.Seq.{drop-cons}
 use Rattle.laws.specs.Lists.{or-left, or-right}
-use Rattle.ldpc_shape.specs.Shape.{kOf, pOf, qOf, eOf, total, anyOver, countMod, countsMod, badLength, refusalOf}
+use Rattle.ldpc_shape.specs.Shape.{kOf, pOf, qOf, total, anyOver, countMod, countsMod, badLength, refusalOf}
 
 pub record Accepted (n : ℕ) (lens addrs : List ℕ) : Type 0 where
   pub whole : n % 374 ≡ 0
@@ -38,6 +40,15 @@ accepted n lens addrs h =
     go false true false false false true true z pb pc pd pe pf pg = absurd (omega arith)
     go false true false false false true false z pb pc pd pe pf pg =
         record { whole = eqb-true _ 0 pb; small = ltb-false _ _ pc; rows = leb-false _ _ pd; short = pe; adds = eqb-true _ _ pf; few = pg }
+
+-- the addresses of row g, which begin at `from`, end inside the list, and those of the next rows follow
+module _ (lens addrs : List ℕ) (g from : ℕ) (h : g < length lens) where
+  pub rows-end-fits : (r : ℕ) → r ≡ getD lens g 0 → from + total (drop g lens) ≡ length addrs → (from + r ≤ length addrs) × (from + r + total (drop (g + 1) lens) ≡ length addrs)
+  unfolding total
+  rows-end-fits r e f =
+      let a = ap total (drop-cons lens g 0 h) in
+      let b = ap (λ (z : ℕ). total (drop z lens)) (add-one g) in
+      (omega arith, omega arith)
 
 -- no number above the limit: the sum is at most the limit times how many there are
 pub total-le : (m : ℕ) (xs : List ℕ) → anyOver m xs ≡ false → total xs ≤ length xs * m

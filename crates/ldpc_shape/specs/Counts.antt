@@ -6,9 +6,14 @@ use native.Mathlib.Omega.{arith}
 use lib.ListN.{getD}
 use Rattle.ldpc_shape.specs.Shape.{countMod, countsMod}
 
--- the counts of the addresses so far
+-- r has, for each l below q, how many of the addresses are l modulo q
 abbrev pub Counted : List ℕ → ℕ → List ℕ → Type 0
 Counted r q addrs = (l : ℕ) → l < q → getD r l 0 ≡ countMod q l addrs
+
+-- and zeros from q on
+pub record Counts-of (r : List ℕ) (q : ℕ) (addrs : List ℕ) : Type 0 where
+  pub below : Counted r q addrs
+  pub behind : (l : ℕ) → q ≤ l → getD r l 0 ≡ 0
 
 -- the first m counts, the last first
 unfoldable pub tops : List ℕ → ℕ → List ℕ

@@ -4,7 +4,7 @@ ghost use mathlib.Core.Bool.{true, false};
 ghost use Prim.Native.Nat.{_%_, _<_, _≤_};
 ghost use lib.ListN.{length};
 ghost use Rattle.ldpc_shape.specs.Shape.{kOf, total, anyOver, badLength, refusalOf};
-ghost use Rattle.ldpc_shape.specs.Counts.{Counted, tops};
+ghost use Rattle.ldpc_shape.specs.Counts.{Counts-of, tops};
 
 pub fn wide(x: u32) -> usize
     ensures { λ r. ⌜ r ≡ x ⌝ }
@@ -61,10 +61,10 @@ fn sum_of(lens: &[u32]) -> usize
     s
 }
 
-// How many addresses are l modulo q, for each l below q.
+// How many addresses are l modulo q, for each l below q; zeros from q on.
 pub fn counts(addrs: &[u16], q: u32) -> [u32; 120]
     requires { ⌜ (0 < q) × (q ≤ 120) × (length (now addrs) ≤ 15360) ⌝ }
-    ensures { λ r. ⌜ Counted r q (now (addrs .entry)) ⌝ }
+    ensures { λ r. ⌜ Counts-of r q (now (addrs .entry)) ⌝ }
 {
     let mut r = [0u32; 120];
     let mut i: usize = 0;

@@ -7,6 +7,7 @@ use Rattle.gf16.specs.Alpha.{R16, α}
 use Rattle.bch_locator.specs.Element.{toEl}
 use Rattle.bch_locator.specs.Places.{Places-of}
 use Rattle.bch_locator.proofs.Search.{one-hit, one-miss, power-start, power-again, places-start, places-miss, places-hit, places-full, places-end}
+use Rattle.laws.specs.Lists.{zeros-at}
 use borrow.Author.Needs.{needs}
 use native.Mathlib.Omega.{arith}
 use Rattle.bch_locator.proofs.root.Statement.{statement}
@@ -19,7 +20,7 @@ abbrev μ-loop : tie.MeasureT-loop
 μ-loop c n at₀ x₀ p₀ at x p = n - p
 
 loop-holds : tie.Need-loop-holds Inv-loop μ-loop
-loop-holds c = (omega arith, omega arith, power-start, places-start _ _ _ refl)
+loop-holds c = (omega arith, omega arith, power-start, places-start _ _ _ refl (zeros-at 12))
 
 entry-requires : tie.Need-entry-requires Inv-loop μ-loop
 entry-requires c κs = search needs

@@ -7,6 +7,7 @@ use Rattle.bch_locator.specs.Lanes.{PowersOf}
 use Rattle.bch_locator.specs.Places.{Places-of}
 use Rattle.bch_locator.proofs.Raised.{powers-small}
 use Rattle.bch_locator.proofs.Search.{Terms, terms-start, terms-again, sum-hit, sum-miss, count-fits, places-start, places-miss, places-hit, places-full, places-as, places-end}
+use Rattle.laws.specs.Lists.{zeros-at}
 use borrow.Author.Needs.{needs}
 use native.Mathlib.Omega.{arith}
 use Rattle.bch_locator.proofs.roots.Statement.{statement}
@@ -25,7 +26,7 @@ reversed-requires : tie.Need-reversed-requires Inv-loop μ-loop
 reversed-requires c κs = search needs
 
 loop-holds : tie.Need-loop-holds Inv-loop μ-loop
-loop-holds c = (omega arith, c .before .place-powers .ensures, terms-start _ _ _ (c .reversed .ensures), places-start _ _ _ refl)
+loop-holds c = (omega arith, c .before .place-powers .ensures, terms-start _ _ _ (c .reversed .ensures), places-start _ _ _ refl (zeros-at 12))
 
 lane-sum-requires : tie.Need-lane-sum-requires Inv-loop μ-loop
 lane-sum-requires c κs = search needs

@@ -3,7 +3,8 @@
 use mathlib.Core.Path.{refl}
 use mathlib.Core.Logic.{⊎-elim}
 use Prim.Native.Nat.{_-_}
-use Rattle.bch_locator.proofs.Steps.{State, state-zero, state-keep, state-grow, state-fail, state-end, state-start, state-move, one-first, zeros-at}
+use Rattle.bch_locator.proofs.Steps.{State, state-zero, state-keep, state-grow, state-fail, state-end, state-start, state-move, one-first}
+use Rattle.laws.specs.Lists.{zeros-at}
 use borrow.Author.Needs.{needs}
 use Rattle.bch_locator.proofs.shortest.Statement.{statement}
 use Rattle.bch_locator.proofs.shortest.Tie as tie
@@ -48,7 +49,7 @@ returns : tie.Need-returns Inv-loop μ-loop
 returns c =
     let d = c .before .before .before .before .before in
     let l = d .before .before .before .before .loop in
-    state-fail _ (l .c) (l .b) (l .l) (l .m) (l .e) (l .k) (l .inv) (d .discrepancy .result) (search needs) (d .discrepancy .ensures) (search needs) (search needs) (search needs)
+    state-fail _ (l .c) (l .b) (l .l) (l .m) (l .e) (l .k) (l .inv) (d .discrepancy .result) (search needs) (d .discrepancy .ensures) (search needs) (search needs) (search needs) _ (zeros-at 13)
 
 mend-requires : tie.Need-mend-requires Inv-loop μ-loop
 mend-requires c κs = search needs

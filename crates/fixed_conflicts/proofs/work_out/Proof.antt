@@ -189,7 +189,7 @@ loop-again c =
     let q : g < length (a .lens .now) = c .before .before .before .before .before .before .before .loop-test .taken in
     let v = c .before .before .before .before .before .wide2 in (
       omega (arith, q),
-      working-again (h .loop .at + v .result) (c .before .before .before .counts .result) w q (omega (arith, rows-le (a .n) (a .lens .now) (a .addrs .now) A, q)) (ap (λ (z : ℕ). h .loop .at + z) (v .ensures)) (c .before .before .before .counts .ensures)
+      working-again (h .loop .at + v .result) (c .before .before .before .counts .result) w q (omega (arith, rows-le (a .n) (a .lens .now) (a .addrs .now) A, q)) (ap (λ (z : ℕ). h .loop .at + z) (v .ensures)) (c .before .before .before .counts .ensures .below)
           (subst (λ (z : ℕ). Marked (h .loop .layers) (c .before .before .before .counts .result) z (c .before .mark .result .layers) (c .before .mark .result .any)) (c .before .before .before .before .before .before .before .before .before .wide .ensures) (c .before .mark .ensures)),
     )
 

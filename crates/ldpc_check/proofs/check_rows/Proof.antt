@@ -1,5 +1,6 @@
 -- `ldpc_check::check_rows` meets its contract. Assumes nothing.
-use Rattle.ldpc_check.proofs.Loops.{allOf, restOf, rest-start, rest-end, rows-end-fits, rest-next, list-fits, rows-size, rows-below, rows-all, rows-kept, rows-done}
+use Rattle.ldpc_shape.specs.Accepted.{rows-end-fits}
+use Rattle.ldpc_check.proofs.Loops.{allOf, restOf, rest-start, rest-end, rest-next, list-fits, rows-size, rows-below, rows-all, rows-kept, rows-done}
 use Rattle.ldpc_edges.specs.Code.{only, ofBits}
 use Rattle.ldpc_shape.specs.Shape.{total}
 use lib.ListN.{length, take, drop}
@@ -37,7 +38,7 @@ add-end : tie.Need-add-end Inv-loop μ-loop
 add-end c =
     let s = c .before .before .before .before .before .before .before in
     let l = c .before .before .before .loop in
-    omega (arith, rows-end-fits (s .args .q) (s .args .c) (s .args .lens .now) (s .args .addrs .now) (l .g) (l .from) (search needs) (c .wide .result) (c .wide .ensures) (l .inv .2))
+    omega (arith, rows-end-fits (s .args .lens .now) (s .args .addrs .now) (l .g) (l .from) (search needs) (c .wide .result) (c .wide .ensures) (l .inv .2))
 
 mul-check-row : tie.Need-mul-check-row Inv-loop μ-loop
 mul-check-row c = search needs
@@ -64,7 +65,7 @@ part-check-row-end-2 : tie.Need-part-check-row-end-2 Inv-loop μ-loop
 part-check-row-end-2 c =
     let s = c .before .before .before .before .before .before .before .before in
     let l = c .before .before .before .before .loop in
-    omega (arith, rows-end-fits (s .args .q) (s .args .c) (s .args .lens .now) (s .args .addrs .now) (l .g) (l .from) (search needs) (c .before .wide .result) (c .before .wide .ensures) (l .inv .2))
+    omega (arith, rows-end-fits (s .args .lens .now) (s .args .addrs .now) (l .g) (l .from) (search needs) (c .before .wide .result) (c .before .wide .ensures) (l .inv .2))
 
 check-row-requires : tie.Need-check-row-requires Inv-loop μ-loop
 unfolding allOf
@@ -101,7 +102,7 @@ loop-again c =
     let l = c .before .before .before .before .before .before .before .before .loop in (
       omega arith,
       omega arith,
-      rows-end-fits (s .args .q) (s .args .c) (s .args .lens .now) (s .args .addrs .now) (l .g) (l .from) (search needs) (c .before .before .before .before .before .wide .result) (c .before .before .before .before .before .wide .ensures) (l .inv .2) .1,
+      rows-end-fits (s .args .lens .now) (s .args .addrs .now) (l .g) (l .from) (search needs) (c .before .before .before .before .before .wide .result) (c .before .before .before .before .before .wide .ensures) (l .inv .2) .1,
       rows-size (l .out) (s .args .out .now) (l .n) (allOf (s .args .q) (s .args .c) (s .args .lens .now) (s .args .addrs .now)) (only (s .args .c) (ofBits (374 * (s .args .q)) (s .args .q) 374 (l .first) 0 (take ((l .from) + (c .before .before .before .before .before .wide .result) - (l .from)) (drop (l .from) (s .args .addrs .now))))) (restOf (s .args .q) (s .args .c) (s .args .lens .now) (s .args .addrs .now) ((l .g) + 1) ((l .from) + (c .before .before .before .before .before .wide .result))) (l .inv .3) (l .inv .4) ((l .inv .5) ∙ ap (λ (z : List ℕ). take (l .n) (l .out) ++ z) (rest-next (s .args .q) (s .args .c) (s .args .lens .now) (s .args .addrs .now) (l .g) (l .from) (search needs) (c .before .before .before .before .before .wide .result) (l .first) (c .before .before .before .before .before .wide .ensures) (l .inv .1))) (s .pre .5) (c .before .before .check-row .last .0) (c .before .before .check-row .result) (c .before .before .check-row .ensures .0) (c .before .before .check-row .ensures .1) (l .inv .6),
       rows-below (l .out) (s .args .out .now) (l .n) (allOf (s .args .q) (s .args .c) (s .args .lens .now) (s .args .addrs .now)) (only (s .args .c) (ofBits (374 * (s .args .q)) (s .args .q) 374 (l .first) 0 (take ((l .from) + (c .before .before .before .before .before .wide .result) - (l .from)) (drop (l .from) (s .args .addrs .now))))) (restOf (s .args .q) (s .args .c) (s .args .lens .now) (s .args .addrs .now) ((l .g) + 1) ((l .from) + (c .before .before .before .before .before .wide .result))) (l .inv .3) (l .inv .4) ((l .inv .5) ∙ ap (λ (z : List ℕ). take (l .n) (l .out) ++ z) (rest-next (s .args .q) (s .args .c) (s .args .lens .now) (s .args .addrs .now) (l .g) (l .from) (search needs) (c .before .before .before .before .before .wide .result) (l .first) (c .before .before .before .before .before .wide .ensures) (l .inv .1))) (s .pre .5) (c .before .before .check-row .last .0) (c .before .before .check-row .result) (c .before .before .check-row .ensures .0) (c .before .before .check-row .ensures .1) (l .inv .6),
       rows-all (l .out) (s .args .out .now) (l .n) (allOf (s .args .q) (s .args .c) (s .args .lens .now) (s .args .addrs .now)) (only (s .args .c) (ofBits (374 * (s .args .q)) (s .args .q) 374 (l .first) 0 (take ((l .from) + (c .before .before .before .before .before .wide .result) - (l .from)) (drop (l .from) (s .args .addrs .now))))) (restOf (s .args .q) (s .args .c) (s .args .lens .now) (s .args .addrs .now) ((l .g) + 1) ((l .from) + (c .before .before .before .before .before .wide .result))) (l .inv .3) (l .inv .4) ((l .inv .5) ∙ ap (λ (z : List ℕ). take (l .n) (l .out) ++ z) (rest-next (s .args .q) (s .args .c) (s .args .lens .now) (s .args .addrs .now) (l .g) (l .from) (search needs) (c .before .before .before .before .before .wide .result) (l .first) (c .before .before .before .before .before .wide .ensures) (l .inv .1))) (s .pre .5) (c .before .before .check-row .last .0) (c .before .before .check-row .result) (c .before .before .check-row .ensures .0) (c .before .before .check-row .ensures .1) (l .inv .6),

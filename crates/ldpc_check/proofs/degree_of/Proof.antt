@@ -45,23 +45,23 @@ wide-requires-2 c κs = search needs
 add-result : tie.Need-add-result
 add-result c =
     let s = c .before .before .before .before .before .before in
-    omega (arith, degree-is (s .args .n) (s .args .lens .now) (s .args .addrs .now) (s .pre .0) (c .before .before .before .counts .result) (c .before .before .before .counts .ensures) (s .args .c) (s .pre .1) (c .before .before .wide .result) (c .before .wide2 .result) (c .before .before .wide .ensures) (c .before .wide2 .ensures), degree-small (s .args .n) (s .args .lens .now) (s .args .addrs .now) (s .pre .0) (s .args .c) (s .pre .1))
+    omega (arith, degree-is (s .args .n) (s .args .lens .now) (s .args .addrs .now) (s .pre .0) (c .before .before .before .counts .result) (c .before .before .before .counts .ensures .below) (s .args .c) (s .pre .1) (c .before .before .wide .result) (c .before .wide2 .result) (c .before .before .wide .ensures) (c .before .wide2 .ensures), degree-small (s .args .n) (s .args .lens .now) (s .args .addrs .now) (s .pre .0) (s .args .c) (s .pre .1))
 
 returns : tie.Need-returns
 returns c =
     let s = c .before .before .before .before .before .before in
-    sym (degree-is (s .args .n) (s .args .lens .now) (s .args .addrs .now) (s .pre .0) (c .before .before .before .counts .result) (c .before .before .before .counts .ensures) (s .args .c) (s .pre .1) (c .before .before .wide .result) (c .before .wide2 .result) (c .before .before .wide .ensures) (c .before .wide2 .ensures)
+    sym (degree-is (s .args .n) (s .args .lens .now) (s .args .addrs .now) (s .pre .0) (c .before .before .before .counts .result) (c .before .before .before .counts .ensures .below) (s .args .c) (s .pre .1) (c .before .before .wide .result) (c .before .wide2 .result) (c .before .before .wide .ensures) (c .before .wide2 .ensures)
     ∙ ap (λ b. (c .before .wide2 .result) + cond b 1 2) (eq-eqb _ _ (c .if1 .taken)))
 
 add-result-2 : tie.Need-add-result-2
 add-result-2 c =
     let s = c .before .before .before .before .before .before in
-    omega (arith, degree-is (s .args .n) (s .args .lens .now) (s .args .addrs .now) (s .pre .0) (c .before .before .before .counts .result) (c .before .before .before .counts .ensures) (s .args .c) (s .pre .1) (c .before .before .wide .result) (c .before .wide2 .result) (c .before .before .wide .ensures) (c .before .wide2 .ensures), degree-small (s .args .n) (s .args .lens .now) (s .args .addrs .now) (s .pre .0) (s .args .c) (s .pre .1))
+    omega (arith, degree-is (s .args .n) (s .args .lens .now) (s .args .addrs .now) (s .pre .0) (c .before .before .before .counts .result) (c .before .before .before .counts .ensures .below) (s .args .c) (s .pre .1) (c .before .before .wide .result) (c .before .wide2 .result) (c .before .before .wide .ensures) (c .before .wide2 .ensures), degree-small (s .args .n) (s .args .lens .now) (s .args .addrs .now) (s .pre .0) (s .args .c) (s .pre .1))
 
 returns-2 : tie.Need-returns-2
 returns-2 c =
     let s = c .before .before .before .before .before .before in
-    sym (degree-is (s .args .n) (s .args .lens .now) (s .args .addrs .now) (s .pre .0) (c .before .before .before .counts .result) (c .before .before .before .counts .ensures) (s .args .c) (s .pre .1) (c .before .before .wide .result) (c .before .wide2 .result) (c .before .before .wide .ensures) (c .before .wide2 .ensures)
+    sym (degree-is (s .args .n) (s .args .lens .now) (s .args .addrs .now) (s .pre .0) (c .before .before .before .counts .result) (c .before .before .before .counts .ensures .below) (s .args .c) (s .pre .1) (c .before .before .wide .result) (c .before .wide2 .result) (c .before .before .wide .ensures) (c .before .wide2 .ensures)
     ∙ ap (λ b. (c .before .wide2 .result) + cond b 1 2) (ne-eqb _ _ (c .if1 .left)))
 
 pub degree-of-spec : {M : Type 1} → statement M

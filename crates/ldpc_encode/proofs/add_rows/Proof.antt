@@ -1,5 +1,6 @@
 -- `ldpc_encode::add_rows` meets its contract. Assumes nothing.
-use Rattle.ldpc_encode.proofs.Rows.{infoFrom, rows-end-fits, info-add, info-start, info-end}
+use Rattle.ldpc_shape.specs.Accepted.{rows-end-fits}
+use Rattle.ldpc_encode.proofs.Rows.{infoFrom, info-add, info-start, info-end}
 use Rattle.ldpc_encode.proofs.Bits.{Left}
 use Rattle.ldpc_encode.specs.Sums.{infoBit}
 use Rattle.ldpc_shape.specs.Shape.{total}
@@ -39,7 +40,7 @@ add-end : tie.Need-add-end Inv-loop μ-loop
 add-end c =
     let s = c .before .before .before .before .before .before .before .before in
     let l = c .before .before .before .loop in
-    omega (arith, rows-end-fits (s .args .q) (s .args .l) (s .args .w .now) (s .args .lens .now) (s .args .addrs .now) (l .g) (l .from) (search needs) (c .wide .result) (c .wide .ensures) (l .inv .2))
+    omega (arith, rows-end-fits (s .args .lens .now) (s .args .addrs .now) (l .g) (l .from) (search needs) (c .wide .result) (c .wide .ensures) (l .inv .2))
 
 add-last : tie.Need-add-last Inv-loop μ-loop
 add-last c = omega (arith, (c .before .before .before .before .before .before .before .before .pre .1), (c .before .before .before .loop .inv .1))
@@ -66,7 +67,7 @@ part-add-row-end-2 : tie.Need-part-add-row-end-2 Inv-loop μ-loop
 part-add-row-end-2 c =
     let s = c .before .before .before .before .before .before .before .before .before .before in
     let l = c .before .before .before .before .before .loop in
-    omega (arith, rows-end-fits (s .args .q) (s .args .l) (s .args .w .now) (s .args .lens .now) (s .args .addrs .now) (l .g) (l .from) (search needs) (c .before .before .wide .result) (c .before .before .wide .ensures) (l .inv .2))
+    omega (arith, rows-end-fits (s .args .lens .now) (s .args .addrs .now) (l .g) (l .from) (search needs) (c .before .before .wide .result) (c .before .before .wide .ensures) (l .inv .2))
 
 add-row-requires : tie.Need-add-row-requires Inv-loop μ-loop
 add-row-requires c κs =
@@ -84,7 +85,7 @@ loop-again : tie.Need-loop-again Inv-loop μ-loop
 loop-again c =
     let s = c .before .before .before .before .before .before .before .before .before .before .before .before .before .before in
     let l = c .before .before .before .before .before .before .before .before .before .loop in
-    let f = rows-end-fits (s .args .q) (s .args .l) (s .args .w .now) (s .args .lens .now) (s .args .addrs .now) (l .g) (l .from) (search needs) (c .before .before .before .before .before .before .wide .result) (c .before .before .before .before .before .before .wide .ensures) (l .inv .2) in (
+    let f = rows-end-fits (s .args .lens .now) (s .args .addrs .now) (l .g) (l .from) (search needs) (c .before .before .before .before .before .before .wide .result) (c .before .before .before .before .before .before .wide .ensures) (l .inv .2) in (
       omega arith,
       omega arith,
       f .1,

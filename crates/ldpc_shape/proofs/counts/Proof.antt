@@ -2,7 +2,7 @@
 use mathlib.Core.Path.{_≡_, refl, _∙_}
 use Prim.Native.Nat.{ℕ, _≤_, _-_}
 use lib.ListN.{length, take, length-set}
-use Rattle.ldpc_shape.specs.Counts.{Counted}
+use Rattle.ldpc_shape.specs.Counts.{Counts-of}
 use Rattle.ldpc_shape.proofs.Loops.{counted-start, counted-again, counted-room, counted-end}
 use borrow.Author.Needs.{needs}
 use native.Mathlib.Omega.{arith}
@@ -10,7 +10,7 @@ use Rattle.ldpc_shape.proofs.counts.Statement.{statement}
 use Rattle.ldpc_shape.proofs.counts.Tie as tie
 
 abbrev Inv-loop : tie.InvT-loop
-Inv-loop addrs q r₀ i₀ r i = (i ≤ length addrs) × (length r ≡ 120) × Counted r q (take i addrs)
+Inv-loop addrs q r₀ i₀ r i = (i ≤ length addrs) × (length r ≡ 120) × Counts-of r q (take i addrs)
 
 abbrev μ-loop : tie.MeasureT-loop
 μ-loop addrs q r₀ i₀ r i = length addrs - i
@@ -18,7 +18,7 @@ abbrev μ-loop : tie.MeasureT-loop
 loop-holds : tie.Need-loop-holds Inv-loop μ-loop
 loop-holds c =
     let s = c .before in
-    (omega arith, refl, counted-start (s .args .q) (s .args .addrs .now) (s .pre .1))
+    (omega arith, refl, counted-start (s .args .q) (s .args .addrs .now))
 
 mul-residue : tie.Need-mul-residue Inv-loop μ-loop
 mul-residue c = search needs
@@ -39,7 +39,7 @@ add-r : tie.Need-add-r Inv-loop μ-loop
 add-r c =
     let s = c .before .before .before .before .before in
     let l = c .before .before .before .loop in
-    omega (arith, counted-room (s .args .q) (s .args .addrs .now) (l .r) (l .i) (c .residue .result) (c .residue .ensures .1) (l .inv .0) (s .pre .2) (l .inv .2))
+    omega (arith, counted-room (s .args .q) (s .args .addrs .now) (l .r) (l .i) (c .residue .result) (c .residue .ensures .1) (l .inv .0) (s .pre .2) (l .inv .2 .below))
 
 mul-r-2 : tie.Need-mul-r-2 Inv-loop μ-loop
 mul-r-2 c = search needs

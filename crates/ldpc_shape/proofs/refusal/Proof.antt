@@ -56,12 +56,12 @@ any-many-requires c κs = omega (arith, small _ (sym (c .before .before .before 
 returns-5 : tie.Need-returns-5
 returns-5 c =
     refuse-many _ _ _ (sym (c .before .before .before .before .before .before .before .before .before .before .if1 .left) ∙ (c .before .before .before .before .before .before .before .before .before .before .before .bad-length .ensures)) (subst (λ (z : ℕ). length (c .before .before .before .before .before .before .before .before .before .before .before .before .before .before .args .lens .now) < z) (c .before .before .before .before .before .before .before .before .before .wide .ensures) (c .before .before .before .before .before .before .before .before .if2 .left))
-    (sym (c .before .before .before .before .before .before .if3 .left) ∙ (c .before .before .before .before .before .before .before .any-long .ensures)) (sym (c .before .before .before .before .before .sum-of .ensures) ∙ (c .before .before .before .before .if4 .left)) _ _ refl (c .before .before .before .counts .ensures) (sym (c .if5 .taken) ∙ (c .before .any-many .ensures))
+    (sym (c .before .before .before .before .before .before .if3 .left) ∙ (c .before .before .before .before .before .before .before .any-long .ensures)) (sym (c .before .before .before .before .before .sum-of .ensures) ∙ (c .before .before .before .before .if4 .left)) _ _ refl (c .before .before .before .counts .ensures .below) (sym (c .if5 .taken) ∙ (c .before .any-many .ensures))
 
 returns-6 : tie.Need-returns-6
 returns-6 c =
     refuse-none _ _ _ (sym (c .before .before .before .before .before .before .before .before .before .before .if1 .left) ∙ (c .before .before .before .before .before .before .before .before .before .before .before .bad-length .ensures)) (subst (λ (z : ℕ). length (c .before .before .before .before .before .before .before .before .before .before .before .before .before .before .args .lens .now) < z) (c .before .before .before .before .before .before .before .before .before .wide .ensures) (c .before .before .before .before .before .before .before .before .if2 .left))
-    (sym (c .before .before .before .before .before .before .if3 .left) ∙ (c .before .before .before .before .before .before .before .any-long .ensures)) (sym (c .before .before .before .before .before .sum-of .ensures) ∙ (c .before .before .before .before .if4 .left)) _ _ refl (c .before .before .before .counts .ensures) (sym (c .if5 .left) ∙ (c .before .any-many .ensures))
+    (sym (c .before .before .before .before .before .before .if3 .left) ∙ (c .before .before .before .before .before .before .before .any-long .ensures)) (sym (c .before .before .before .before .before .sum-of .ensures) ∙ (c .before .before .before .before .if4 .left)) _ _ refl (c .before .before .before .counts .ensures .below) (sym (c .if5 .left) ∙ (c .before .any-many .ensures))
 
 pub refusal-spec : {M : Type 1} → statement M
 refusal-spec =
