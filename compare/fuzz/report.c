@@ -1,10 +1,19 @@
 /* libFuzzer target: the whole report program. Its `main` is `report_main` here, and its read and write are those below, which hand
    out the text in pieces, take the output in pieces, and fail. The report is held to the scope's (scope.c). */
 #include "scope.h"
-#include <sanitizer/asan_interface.h>
 #include <stdio.h>
 #include <stdlib.h>
 #include <string.h>
+#if __has_feature(memory_sanitizer)
+#include <sanitizer/msan_interface.h>
+/* whether it may be lent to be filled; whether it was written before it is handed out */
+static int outside(const void *p, size_t size) { return (void)p, (void)size, 0; }
+static int unwritten(const void *p, size_t size) { return __msan_test_shadow(p, size) != -1; }
+#else
+#include <sanitizer/asan_interface.h>
+static int outside(const void *p, size_t size) { return __asan_region_is_poisoned((void *)(uintptr_t)p, size) != NULL; }
+static int unwritten(const void *p, size_t size) { return outside(p, size); }
+#endif
 
 #define BUDGET 200000 /* edges */
 
@@ -34,7 +43,7 @@ ssize_t fuzz_read(int fd, void *buf, size_t count)
     if (fd != 0) wrong("read from another descriptor");
     if (world.ended) wrong("read after the end");
     if (count == 0) wrong("read of nothing");
-    if (__asan_region_is_poisoned(buf, count)) wrong("lent more than it has");
+    if (outside(buf, count)) wrong("lent more than it has");
     if (++world.reads == world.fail_read) {
         world.failed_read = 1;
         world.ended = 1;
@@ -53,7 +62,7 @@ ssize_t fuzz_write(int fd, const void *buf, size_t count)
 {
     if (fd != 1 && fd != 2) wrong("written to another descriptor");
     if (count == 0) wrong("write of nothing");
-    if (__asan_region_is_poisoned((void *)(uintptr_t)buf, count)) wrong("written from outside");
+    if (unwritten(buf, count)) wrong("written from outside, or what was never filled");
     if (fd == 1 && ++world.writes == world.fail_write) {
         world.failed_write = 1;
         return world.none ? 0 : -1;

@@ -3,25 +3,34 @@
 #   run.sh report SECONDS     run.sh archive SECONDS
 # and runs what a fuzzer has kept in target/fuzz/corpus-.. once more, without the fuzzer's time limit, in builds with other checks:
 #   run.sh report again       run.sh archive again
+# and tells the stack that the archive's functions take, which fails if a run takes more than so many bytes:
+#   run.sh stack BYTES
 # The modules come from modules.sh, which proves and compiles the product if they are not there. Needs Debian's clang-22, llvm-22 and
 # libclang-rt-22-dev, as old as the kit's clang, since a module is read only by an LLVM that is no older.
 set -eu
 here=$(cd "$(dirname "$0")" && pwd)
 top=$(cd "$here/../.." && pwd)
-out=$top/target/fuzz
+out=${FUZZ_OUT:-$top/target/fuzz}
 target=${1:-}
 seconds=${2:-}
 case $target in
 report) module=report ;;
 archive) module=raxdov ;;
+stack) module= ;;
 *) target= ;;
 esac
 if [ -z "$target" ] || [ -z "$seconds" ]; then
-    sed -n '2,7s/^# \{0,1\}//p' "$0" >&2
+    sed -n '2,9s/^# \{0,1\}//p' "$0" >&2
     exit 2
 fi
 clang=${CLANG:-clang-22} opt=${OPT:-opt-22} objcopy=${OBJCOPY:-llvm-objcopy-22}
 mkdir -p "$out"
+if [ $target = stack ]; then
+    [ -f "$top/target/staticlib/libraxdov.a" ] || (cd "$top" && rt staticlib raxdov)
+    cc -O2 -I"$top/bindings/c" "$here/stack.c" "$top/target/staticlib/libraxdov.a" -pthread -o "$out/stack"
+    "$out/stack" "$seconds"
+    exit
+fi
 [ -f "$out/$module.bc" ] || "$here/modules.sh"
 
 # Compiles the product's module with a check of every access that the optimiser leaves (address), of every access as the compiler
