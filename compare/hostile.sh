@@ -27,8 +27,8 @@ if [ "${1:-}" = --wrong ]; then
         LIMIT=6 REPORT=$wrong "$here/hostile.sh" > "wrong-$(basename $wrong)" 2> /dev/null
         echo "$(basename $wrong): $(tail -1 "wrong-$(basename $wrong)")"
     done
-    grep -h '^FAILED ' wrong-* | sed 's/^FAILED *//; s/:.*//' | sort | uniq -c > failures
-    grep -hE '^(ok|FAILED) ' wrong-* | sed 's/^[a-zA-Z]* *//; s/:.*//' | sort -u > names
+    grep -ah '^FAILED ' wrong-* | sed 's/^FAILED *//; s/:.*//' | sort | uniq -c > failures
+    grep -ahE '^(ok|FAILED) ' wrong-* | sed 's/^[a-zA-Z]* *//; s/:.*//' | sort -u > names
     never=0
     while read -r name; do
         count=$(awk -v n="$name" '{ c = $1; sub(/^ *[0-9]+ /, ""); if ($0 == n) print c }' failures)
