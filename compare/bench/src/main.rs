@@ -7,7 +7,8 @@ mod noise;
 mod runs;
 mod time;
 
-const USAGE: &str = "bench codes | growth | runs [CHART.svg] | noise [CHART.svg] [WORDS]";
+const USAGE: &str =
+    "bench codes | growth | runs [CHART.svg] [SCHEDULE] [LANES] | noise [CHART.svg] [WORDS]";
 
 fn main() {
     let words: Vec<String> = std::env::args().skip(1).collect();
@@ -15,7 +16,11 @@ fn main() {
     match words.first().map(String::as_str) {
         Some("codes") => codes::bench(),
         Some("growth") => growth::bench(),
-        Some("runs") => runs::bench(chart),
+        Some("runs") => runs::bench(
+            chart,
+            words.get(2).map_or("", String::as_str),
+            words.get(3).and_then(|w| w.parse().ok()),
+        ),
         Some("noise") => noise::bench(
             chart,
             words.get(2).and_then(|w| w.parse().ok()).unwrap_or(200),

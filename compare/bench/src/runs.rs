@@ -119,7 +119,10 @@ fn both(
     (given / p.ours.least, given / p.theirs.least)
 }
 
-pub fn bench(file: Option<&str>) {
+/// All rows, or those whose schedule starts with `name` and whose lane count is `count`.
+pub fn bench(file: Option<&str>, name: &str, count: Option<u32>) {
+    let wanted =
+        |what: &str, lanes: u32| what.starts_with(name) && count.is_none_or(|c| c == lanes);
     let mut r = Random(9);
     let (apart, pairs) = (plan(&mut r, false), plan(&mut r, true));
     let mut chart = Chart::new(
@@ -138,6 +141,9 @@ pub fn bench(file: Option<&str>) {
     ] {
         let (mut a, mut b) = (Vec::new(), Vec::new());
         for lanes in LANES {
+            if !wanted(name, lanes) {
+                continue;
+            }
             let (x, y) = both(&mut r, &apart, lanes, layered, step, false, name);
             a.push((f64::from(lanes), x));
             b.push((f64::from(lanes), y));
@@ -153,16 +159,19 @@ pub fn bench(file: Option<&str>) {
             dashed: true,
         });
     }
-    for lanes in LANES {
-        both(&mut r, &apart, lanes, 0, 0, true, "sequential");
-    }
-    for lanes in LANES {
-        both(&mut r, &apart, lanes, 1, 374, true, "layered 374");
+    for (name, layered, step) in [("sequential", 0, 0), ("layered 374", 1, 374)] {
+        for lanes in LANES {
+            if wanted(name, lanes) {
+                both(&mut r, &apart, lanes, layered, step, true, name);
+            }
+        }
     }
     for step in [34, 374] {
         for lanes in [1, 16, 64] {
             let what = format!("layered {step}, equal addresses");
-            both(&mut r, &pairs, lanes, 1, step, false, &what);
+            if wanted(&what, lanes) {
+                both(&mut r, &pairs, lanes, 1, step, false, &what);
+            }
         }
     }
     if let Some(file) = file {

@@ -1,13 +1,14 @@
 -- One lane's word read out of the memory: its bits and what was counted.
-use mathlib.Core.Path.{_≡_, refl, sym, ap, _∙_}
-use mathlib.Core.Bool.{true}
+use mathlib.Core.Path.{_≡_, refl, sym, ap, subst, _∙_}
+use mathlib.Core.Bool.{Bool, true, false}
 use mathlib.Core.List.{List, _∷_, _++_, append-nil}
 use Prim.Native.Nat.{ℕ, zero, suc, _+_, _-_, _*_, _≤_, _<_}
 use native.Mathlib.Nat.{mul-le-mul, mul-le-mul-right}
 use native.Mathlib.Omega.{arith}
 use borrow.Author.Tests.{eqb-true}
+use lib.Dec.{T}
 use lib.IntN.{ℤ}
-use lib.ListN.{length, take, drop, length-drop, drop-of-length-le}
+use lib.ListN.{getD, length, take, drop, length-drop, drop-of-length-le}
 use lib.Seq.{length-take-le}
 use Rattle.lane_math.specs.Check.{Word}
 use Rattle.lane_math.specs.Iteration.{Code, hard}
@@ -15,8 +16,7 @@ use Rattle.lane_memory.specs.Column.{column}
 use Rattle.simd.specs.Words.{within, wordOf, word}
 use Rattle.fixed_code.specs.Lists.{edgesIn, codeIn, Memory}
 use Rattle.fixed_lanes.specs.Read.{decisions}
-use Rattle.fixed_syndrome.specs.Unmet as syndrome
-use Rattle.fixed_syndrome.specs.declared.Unmet.{Unmet}
+use Rattle.fixed_syndrome.specs.Count as syndrome
 use Rattle.outcome.specs.Outcome.{ownWord, bitsFrom, bitsOf, unmetOf, metOf}
 use Rattle.outcome.specs.Scan.{Counted}
 use Rattle.decoder_words.specs.Part.{word-ends}
@@ -53,17 +53,28 @@ lane-bits n E lanes l work part part′ e s =
     e ∙ ap (λ r. decisions (within n (column lanes work l)) 0 n ++ r) (drop-of-length-le part h) ∙ append-nil _
     ∙ decisions-are (wordOf n E (column lanes work l)) 0 n
 
-pub lane-counted : (code : Code) (p : ℕ) (x : Word) (u : Unmet) → syndrome.Counted code p (x .L) u → Counted code p x (u .count) (u .check)
+lane-counted : (code : Code) (p : ℕ) (x : Word) (count check : ℕ) → syndrome.Counted code p (x .L) count check → Counted code p x count check
 unfolding unmetOf
-lane-counted code p x u k =
+lane-counted code p x count check k = record { all = k .count-is; named = record { some = k .named .one; none = k .named .none } }
+
+-- If asked, each lane's count and check are those of its own word, and 0 past the last lane; else all are 0.
+pub record CountsOf (plan : Plan) (index : List ℕ) (work : List ℤ) (asked : Bool) (counts checks : List ℕ) : Type 0 where
+  pub lane : asked ≡ true → (l : ℕ) → l < plan .lanes → Counted (laneCode plan index) (plan .p) (laneWord plan index work l) (getD counts l 0) (getD checks l 0)
+  pub past : asked ≡ true → (l : ℕ) → plan .lanes ≤ l → l < 64 → (getD counts l 0 ≡ 0) × (getD checks l 0 ≡ 0)
+  pub none : asked ≡ false → (l : ℕ) → l < 64 → (getD counts l 0 ≡ 0) × (getD checks l 0 ≡ 0)
+
+pub counts-asked : {plan : Plan} {index : List ℕ} {work : List ℤ} {asked : Bool} {counts checks : List ℕ} → asked ≡ true
+    → syndrome.CountedLanes (plan .n) (plan .p) (plan .lanes) index work counts checks → CountsOf plan index work asked counts checks
+counts-asked {plan} {index} {work} {asked} {counts} {checks} e k =
     record {
-      all = k .count-is;
-      named =
-          record {
-            some = λ h. k .one (λ z. omega (arith, h, z, k .count-is));
-            none = λ z. k .none (k .count-is ∙ z);
-          };
+      lane = λ _ l q. lane-counted (laneCode plan index) (plan .p) (laneWord plan index work l) (getD counts l 0) (getD checks l 0) (k .lane l q);
+      past = λ _. k .past;
+      none = λ f. absurd (subst T (sym e ∙ f) tt);
     }
+
+pub counts-none : {plan : Plan} {index : List ℕ} {work : List ℤ} {asked : Bool} {counts checks : List ℕ} → asked ≡ false → ((l : ℕ) → l < 64 → getD counts l 0 ≡ 0) → ((l : ℕ) → l < 64 → getD checks l 0 ≡ 0)
+    → CountsOf plan index work asked counts checks
+counts-none e f g = record { lane = λ h. absurd (subst T (sym h ∙ e) tt); past = λ h. absurd (subst T (sym h ∙ e) tt); none = λ _ l q. (f l q, g l q) }
 
 -- a word that is met leaves none, and names 0
 pub met-counted : (code : Code) (p : ℕ) (x : Word) → metOf code p x ≡ true → Counted code p x 0 0

@@ -5,15 +5,15 @@ ghost use Prim.Native.Nat.{ℕ, _+_, _-_, _*_, _<_};
 ghost use lib.ListN.{length, getD};
 ghost use Rattle.fixed_code.specs.Lists.{edgesIn};
 ghost use Rattle.schedule.specs.Lanes.{Sized};
-ghost use Rattle.outcome.specs.Outcome.{bitsOf, metOf, corrected, bchOf};
+ghost use Rattle.outcome.specs.Outcome.{bitsOf, corrected, bchOf};
 ghost use Rattle.outcome.specs.Scan.{Counted};
 ghost use Rattle.decoder_words.specs.Book.{book, view, Room, Only};
 ghost use Rattle.decoder_words.specs.Tells.{Ends, Holds};
-ghost use Rattle.decoder_lanes.specs.Lane.{Working, laneWord, laneCode};
+ghost use Rattle.decoder_lanes.specs.Lane.{Working, laneWord, laneCode, CountsOf};
 ghost use Rattle.decoder_lanes.specs.Load.{Loads};
 use decoder_words::Noted;
 use decoder_words::Plan;
-use fixed_syndrome::Unmet;
+use fixed_syndrome::Counts;
 
 // A lane's hard decisions, with the BCH part corrected. BCH's result.
 fn lane_part(plan: Plan, l: usize, index: &[u32], work: &[i8], part: &mut [u8]) -> u32
@@ -26,26 +26,29 @@ fn lane_part(plan: Plan, l: usize, index: &[u32], work: &[i8], part: &mut [u8]) 
     outcome::correct(part, plan.first, plan.size)
 }
 
-// How many checks lane l's word leaves unsatisfied, and one of them. A word that is met is not gone through again.
-fn unmet_of(plan: Plan, l: usize, met: bool, index: &[u32], work: &[i8]) -> Unmet
-    requires { ⌜ Working plan (now index) (now work) × (l < plan .lanes) ⌝ }
-    requires { ⌜ met ≡ metOf (laneCode plan (now index)) (plan .p) (laneWord plan (now index) (now work) l) ⌝ }
-    ensures { λ r. ⌜ Counted (laneCode plan (now (index .entry))) (plan .p) (laneWord plan (now (index .entry)) (now (work .entry)) l) (r .count) (r .check) ⌝ }
+// How many checks each lane's word leaves unsatisfied, and one of them. Where none is asked for the checks are not gone through, and there are zeros.
+pub fn counts(plan: Plan, asked: bool, index: &[u32], work: &[i8]) -> Counts
+    requires { ⌜ Working plan (now index) (now work) ⌝ }
+    ensures { λ r. ⌜ CountsOf plan (now (index .entry)) (now (work .entry)) asked (r .counts) (r .checks) ⌝ }
 {
-    if met {
-        return Unmet { count: 0, check: 0 };
+    if !asked {
+        return Counts {
+            counts: [0; 64],
+            checks: [0; 64],
+        };
     }
     let n = plan.n as usize;
-    fixed_syndrome::count_lane(index, work, n, plan.p, plan.lanes, l)
+    fixed_syndrome::count_lanes(index, work, n, plan.p, plan.lanes)
 }
 
-// Lane l's word, w, leaves after i iterations: its bits and its record. `met` is the lane's verdict.
+// Lane l's word, w, leaves after i iterations: its bits and its record. They leave `count` checks unsatisfied, `named` is one of them.
 pub fn leave(
     plan: Plan,
     w: usize,
     l: usize,
     i: u32,
-    met: bool,
+    count: u32,
+    named: u32,
     index: &[u32],
     work: &[i8],
     out: &mut [u8],
@@ -57,31 +60,32 @@ pub fn leave(
 )
     requires { ⌜ Working plan (now index) (now work) × (w < plan .words) × (l < plan .lanes) ⌝ }
     requires { ⌜ Room (plan .n) (plan .words) (book (now state) (now iterations) (now unsatisfied) (now check) (now bch) (now out)) ⌝ }
-    requires { ⌜ met ≡ metOf (laneCode plan (now index)) (plan .p) (laneWord plan (now index) (now work) l) ⌝ }
+    requires { ⌜ Counted (laneCode plan (now index)) (plan .p) (laneWord plan (now index) (now work) l) count named ⌝ }
     ensures only { λ _. ⌜ Only (plan .n) w (book (now (state .entry)) (now (iterations .entry)) (now (unsatisfied .entry)) (now (check .entry)) (now (bch .entry)) (now (out .entry))) (book (now (state .exit)) (now (iterations .exit)) (now (unsatisfied .exit)) (now (check .exit)) (now (bch .exit)) (now (out .exit))) ⌝ }
     ensures ends { λ _. ⌜ Ends (laneCode plan (now (index .entry))) (plan .n) (plan .p) (plan .first) (plan .size) (laneWord plan (now (index .entry)) (now (work .entry)) l) i (view (plan .n) (book (now (state .exit)) (now (iterations .exit)) (now (unsatisfied .exit)) (now (check .exit)) (now (bch .exit)) (now (out .exit))) w) ⌝ }
 {
     let n = plan.n as usize;
     let a = w * n;
     let b = a + n;
-    let u = unmet_of(plan, l, met, index, work);
     let result = lane_part(plan, l, index, work, &mut out[a..b]);
     let r = Noted {
-        state: outcome::state_of(u.count == 0),
+        state: outcome::state_of(count == 0),
         iterations: i,
-        unsatisfied: u.count,
-        check: u.check,
+        unsatisfied: count,
+        check: named,
         bch: result,
     };
     decoder_words::note(w, r, state, iterations, unsatisfied, check, bch);
 }
 
-// Lane l's word, w, is held at the end after i iterations: its present bits and its record.
+// Lane l's word, w, is held at the end after i iterations: its present bits and its record. They leave `count` checks unsatisfied, `named` is one of them.
 pub fn hold(
     plan: Plan,
     w: usize,
     l: usize,
     i: u32,
+    count: u32,
+    named: u32,
     index: &[u32],
     work: &[i8],
     out: &mut [u8],
@@ -93,19 +97,19 @@ pub fn hold(
 )
     requires { ⌜ Working plan (now index) (now work) × (w < plan .words) × (l < plan .lanes) ⌝ }
     requires { ⌜ Room (plan .n) (plan .words) (book (now state) (now iterations) (now unsatisfied) (now check) (now bch) (now out)) ⌝ }
+    requires { ⌜ Counted (laneCode plan (now index)) (plan .p) (laneWord plan (now index) (now work) l) count named ⌝ }
     ensures only { λ _. ⌜ Only (plan .n) w (book (now (state .entry)) (now (iterations .entry)) (now (unsatisfied .entry)) (now (check .entry)) (now (bch .entry)) (now (out .entry))) (book (now (state .exit)) (now (iterations .exit)) (now (unsatisfied .exit)) (now (check .exit)) (now (bch .exit)) (now (out .exit))) ⌝ }
     ensures holds { λ _. ⌜ Holds (laneCode plan (now (index .entry))) (plan .n) (plan .p) (plan .first) (plan .size) (laneWord plan (now (index .entry)) (now (work .entry)) l) i (view (plan .n) (book (now (state .exit)) (now (iterations .exit)) (now (unsatisfied .exit)) (now (check .exit)) (now (bch .exit)) (now (out .exit))) w) ⌝ }
 {
     let n = plan.n as usize;
     let a = w * n;
     let b = a + n;
-    let u = fixed_syndrome::count_lane(index, work, n, plan.p, plan.lanes, l);
     fixed_lanes::hard(work, n, plan.lanes, l, &mut out[a..b]);
     let r = Noted {
         state: 1,
         iterations: i,
-        unsatisfied: u.count,
-        check: u.check,
+        unsatisfied: count,
+        check: named,
         bch: 0,
     };
     decoder_words::note(w, r, state, iterations, unsatisfied, check, bch);

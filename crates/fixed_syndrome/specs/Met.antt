@@ -1,66 +1,37 @@
 -- Which lanes' words meet every check. A lane's verdict is that of its own column.
 use mathlib.Core.Path.{_≡_, refl, sym, ap, _∙_, subst}
-use mathlib.Core.Bool.{Bool, true, false, _&&_, _||_}
+use mathlib.Core.Bool.{Bool, true, false, not, _&&_}
 use mathlib.Core.List.{List}
-use Prim.Native.Nat.{ℕ, zero, suc, _+_, _-_, _%_, _≤_, _<_}
+use Prim.Native.Nat.{ℕ, zero, suc, _+_, _*_, _-_, _≤_, _<_, max}
 use native.Mathlib.Omega.{arith}
 use native.Mathlib.Numerals.{add-one}
-use borrow.Author.Tests.{eqb-true, eqb-false, eq-eqb, ne-eqb}
-use lib.Dec.{eqb}
-use borrow.Author.Count.{below-more}
-use lib.ListN.{getD, set, length}
-use lib.Seq.{getD-set-same, getD-set-other}
+use borrow.Author.Tests.{eqb-true, eqb-false, eq-eqb, ne-eqb, ltb-true, ltb-false, lt-ltb, le-ltb}
+use lib.Dec.{eqb, ltb}
+use lib.ListN.{getD}
 use lib.IntN.{ℤ}
-use Rattle.laws.specs.Lists.{or-left, or-right}
 use Rattle.lane_math.specs.Iteration.{Code, degree, unsatisfied, unsatisfiedCount}
-use Rattle.lane_memory.specs.Room.{var}
 use Rattle.simd.specs.Words.{word, SignParity}
-use Rattle.fixed_code.specs.Lists.{rowsIn, edgesIn, codeIn, start-in, degree-in}
+use Rattle.fixed_code.specs.Lists.{rowsIn, edgesIn, codeIn, Memory}
+use Rattle.fixed_syndrome.specs.Chunk.{Filled, least, least-le, lane-bit}
 
-abbrev pub at : List Bool → ℕ → Bool
-at v i = getD v i false
+abbrev pub flag : List Bool → ℕ → Bool
+flag v i = getD v i false
 
--- ---- the lanes left whose bit is 0, of the first k
-pub record Narrowing (left : List Bool) (bits : List ℕ) (k : ℕ) (v : List Bool) (any : Bool) : Type 0 where
-  pub lanes-are : (i : ℕ) → i < k → at v i ≡ (at left i && eqb (getD bits i 0) 0)
-  pub none-left : any ≡ false → (i : ℕ) → i < k → at v i ≡ false
+-- of the first i lanes: 0 for those that are there and held
+pub record Shut (held : List Bool) (lanes i : ℕ) (v : List ℕ) : Type 0 where
+  pub is : (k : ℕ) → k < i → eqb (getD v k 0) 0 ≡ (ltb k lanes && flag held k)
 
-abbrev pub Narrowed : List Bool → List ℕ → List Bool → Bool → Type 0
-Narrowed left bits v any = Narrowing left bits 64 v any
+-- the first i from at on
+pub record Taken (a : List ℕ) (at i : ℕ) (v : List ℕ) : Type 0 where
+  pub is : (k : ℕ) → k < i → getD v k 0 ≡ getD a (at + k) 0
 
-pub narrowing-start : (left : List Bool) (bits : List ℕ) (v : List Bool) → Narrowing left bits 0 v false
-narrowing-start left bits v = record { lanes-are = λ i q. absurd (omega (arith, q)); none-left = λ e i q. absurd (omega (arith, q)) }
-
-pub narrowing-again : {left : List Bool} {bits : List ℕ} {k : ℕ} {v : List Bool} {any : Bool} {b any′ : Bool} → Narrowing left bits k v any → k < length v
-    → b ≡ (at left k && eqb (getD bits k 0) 0) → any′ ≡ (any || b) → Narrowing left bits (k + 1) (set v k b) any′
-narrowing-again {left} {bits} {k} {v} {any} {b} {any′} m h e f =
-    record {
-      lanes-are =
-          below-more (λ (i : ℕ). at (set v k b) i ≡ (at left i && eqb (getD bits i 0) 0)) k
-          (λ i q. getD-set-other v k i b false (λ x. omega arith) ∙ m .lanes-are i q)
-          (getD-set-same v k b false h ∙ e);
-      none-left =
-          λ z. below-more (λ (i : ℕ). at (set v k b) i ≡ false) k
-          (λ i q. getD-set-other v k i b false (λ x. omega arith) ∙ m .none-left (or-left any b (sym f ∙ z)) i q)
-          (getD-set-same v k b false h ∙ or-right any b (sym f ∙ z));
-    }
-
--- ---- after c checks: the held lanes whose words meet them all; past the last lane as it was
-pub record Upto (n p lanes : ℕ) (index : List ℕ) (a : List ℤ) (held : List Bool) (c : ℕ) (r : List Bool) : Type 0 where
-  pub verdict : (i : ℕ) → i < lanes → at r i ≡ (at held i && eqb (unsatisfiedCount (codeIn p index) c (word n (edgesIn p index) lanes a i .L)) 0)
-  pub past : (i : ℕ) → lanes ≤ i → i < 64 → at r i ≡ at held i
+pub record Larger (a b : List ℕ) (i : ℕ) (v : List ℕ) : Type 0 where
+  pub is : (k : ℕ) → k < i → getD v k 0 ≡ max (getD a k 0) (getD b k 0)
 
 -- For each of 64 lanes: whether it is held and its own word leaves no check unsatisfied.
-abbrev pub Met : ℕ → ℕ → ℕ → List ℕ → List ℤ → List Bool → List Bool → Type 0
-Met n p lanes index a held r = Upto n p lanes index a held p r
-
-pub upto-start : (n p lanes : ℕ) (index : List ℕ) (a : List ℤ) (held : List Bool) → Upto n p lanes index a held 0 held
-unfolding unsatisfiedCount
-upto-start n p lanes index a held = record { verdict = λ i q. and-true (at held i); past = λ i q h. refl }
-  where
-    and-true : (b : Bool) → b ≡ (b && true)
-    and-true true = refl
-    and-true false = refl
+pub record Met (n p lanes : ℕ) (index : List ℕ) (a : List ℤ) (held r : List Bool) : Type 0 where
+  pub verdict : (i : ℕ) → i < lanes → flag r i ≡ (flag held i && eqb (unsatisfiedCount (codeIn p index) p (word n (edgesIn p index) lanes a i .L)) 0)
+  pub past : (i : ℕ) → lanes ≤ i → i < 64 → flag r i ≡ false
 
 and-zero : (b : Bool) (x y : ℕ) → ((b && eqb x 0) && eqb y 0) ≡ (b && eqb (x + y) 0)
 and-zero false x y = refl
@@ -71,47 +42,63 @@ and-zero true x y = go (eqb x 0) (eqb y 0) refl refl
     go true false e f = sym (ne-eqb (x + y) 0 (λ k. eqb-false y 0 f (omega arith)))
     go false t e f = sym (ne-eqb (x + y) 0 (λ k. eqb-false x 0 e (omega arith)))
 
+max-zero : (x y : ℕ) → eqb (max x y) 0 ≡ (eqb x 0 && eqb y 0)
+max-zero x y = go (eqb x 0) (eqb y 0) refl refl
+  where
+    go : (s t : Bool) → eqb x 0 ≡ s → eqb y 0 ≡ t → eqb (max x y) 0 ≡ (s && t)
+    go true true e f = eq-eqb (max x y) 0 (omega (arith, eqb-true x 0 e, eqb-true y 0 f))
+    go true false e f = ne-eqb (max x y) 0 (λ k. eqb-false y 0 f (omega arith))
+    go false t e f = ne-eqb (max x y) 0 (λ k. eqb-false x 0 e (omega arith))
+
 -- the count never falls
-pub count-grows : (code : Code) (L : ℕ → ℤ) (c d : ℕ) → unsatisfiedCount code c L ≤ unsatisfiedCount code (c + d) L
+count-grows : (code : Code) (L : ℕ → ℤ) (c d : ℕ) → unsatisfiedCount code c L ≤ unsatisfiedCount code (c + d) L
 unfolding unsatisfiedCount
 count-grows code L c zero = let e : c ≡ c + 0 = omega arith in omega (arith, ap (λ (j : ℕ). unsatisfiedCount code j L) e)
 count-grows code L c (suc d) =
     let e : suc (c + d) ≡ c + suc d = omega arith in
     omega (arith, count-grows code L c d, ap (λ (j : ℕ). unsatisfiedCount code j L) e)
 
-module _ {n p lanes : ℕ} {index : List ℕ} {a : List ℤ} {held : List Bool} where
-  pub upto-again : {left v : List Bool} {any : Bool} {bits : List ℕ} {c s d : ℕ} → c < p → lanes ≤ 64 → s ≡ getD index c 0 → s + d ≡ getD index (c + 1) 0
-      → Upto n p lanes index a held c left → SignParity (rowsIn p index) s d n lanes a bits → Narrowed left bits v any → Upto n p lanes index a held (c + 1) v
+-- after c checks, of the sixteen lanes from at: 0 for those that were 0 at first and whose own words leave none of the checks unsatisfied
+pub record Seen (n p lanes : ℕ) (index : List ℕ) (a : List ℤ) (at : ℕ) (first : List ℕ) (c : ℕ) (v : List ℕ) : Type 0 where
+  pub is : (k : ℕ) → k < 16 → eqb (getD v k 0) 0 ≡ (eqb (getD first k 0) 0 && eqb (unsatisfiedCount (codeIn p index) c (word n (edgesIn p index) lanes a (at + k) .L)) 0)
+
+module _ {n p lanes : ℕ} {index : List ℕ} {a : List ℤ} where
+  pub seen-start : (at : ℕ) (first : List ℕ) → Seen n p lanes index a at first 0 first
   unfolding unsatisfiedCount
-  upto-again {left} {v} {any} {bits} {c} {s} {d} h few e f u k m =
-      subst (λ (j : ℕ). Upto n p lanes index a held j v) (sym (add-one c))
+  seen-start at first = record { is = λ k q. and-true (eqb (getD first k 0) 0) }
+    where
+      and-true : (b : Bool) → b ≡ (b && true)
+      and-true true = refl
+      and-true false = refl
+
+  pub seen-again : {first v v′ bits : List ℕ} {c s d at : ℕ} → Memory n p lanes index a → c < p → s ≡ getD index c 0 → s + d ≡ getD index (c + 1) 0
+      → Seen n p lanes index a at first c v → SignParity (rowsIn p index) s d lanes at a bits → Larger v bits 16 v′ → Seen n p lanes index a at first (c + 1) v′
+  unfolding unsatisfiedCount
+  seen-again {first} {v} {v′} {bits} {c} {s} {d} {at} m h e f u k w =
+      subst (λ (j : ℕ). Seen n p lanes index a at first j v′) (sym (add-one c))
       (record {
-        verdict =
-            λ i q. m .lanes-are i (omega arith)
-            ∙ (λ j. u .verdict i q j && eqb ((k .bits i q ∙ same i) j) 0)
-            ∙ and-zero (at held i) (unsatisfiedCount (codeIn p index) c (L i)) (unsatisfied (var (rowsIn p index)) (codeIn p index .row-start c) (degree (codeIn p index) c) (L i));
-        past = λ i q r. m .lanes-are i r ∙ (λ j. u .past i q r j && eqb (k .none i q r j) 0) ∙ and-true (at held i);
+        is =
+            λ i q. ap (λ (x : ℕ). eqb x 0) (w .is i q)
+            ∙ max-zero (getD v i 0) (getD bits i 0)
+            ∙ (λ j. u .is i q j && eqb (lane-bit m h e f k i q j) 0)
+            ∙ and-zero (eqb (getD first i 0) 0) (unsatisfiedCount (codeIn p index) c (L (at + i)))
+            (unsatisfied (codeIn p index .rows) (codeIn p index .row-start c) (degree (codeIn p index) c) (L (at + i)));
       })
     where
       L : ℕ → ℕ → ℤ
       L i = word n (edgesIn p index) lanes a i .L
 
-      and-true : (b : Bool) → (b && true) ≡ b
-      and-true true = refl
-      and-true false = refl
-
-      same : (i : ℕ) → unsatisfied (var (rowsIn p index)) s d (L i) ≡ unsatisfied (var (rowsIn p index)) (codeIn p index .row-start c) (degree (codeIn p index) c) (L i)
-      same i = λ j. unsatisfied (var (rowsIn p index)) ((e ∙ sym (start-in p index c (omega arith))) j) (sym (degree-in p index c s d h e f) j) (L i)
-
-  pub upto-end : {c : ℕ} {r : List Bool} → c ≡ p → Upto n p lanes index a held c r → Met n p lanes index a held r
-  upto-end {c} {r} e u = subst (λ (j : ℕ). Upto n p lanes index a held j r) e u
-
   -- none is left: the checks that follow change nothing
-  pub upto-none : {c : ℕ} {r : List Bool} → c ≤ p → lanes ≤ 64 → ((i : ℕ) → i < 64 → at r i ≡ false) → Upto n p lanes index a held c r → Met n p lanes index a held r
-  upto-none {c} {r} h few none u = record { verdict = λ i q. none i (omega arith) ∙ still (at held i) (L i) (sym (u .verdict i q) ∙ none i (omega arith)); past = u .past }
+  pub seen-none : {c at : ℕ} {first v : List ℕ} → c ≤ p → not (eqb (least v 16) 0) ≡ true → Seen n p lanes index a at first c v → Seen n p lanes index a at first p v
+  seen-none {c} {at} {first} {v} h none u =
+      record { is = λ k q. zero-no k q ∙ still (eqb (getD first k 0) 0) (word n (edgesIn p index) lanes a (at + k) .L) (sym (u .is k q) ∙ zero-no k q) }
     where
-      L : ℕ → ℕ → ℤ
-      L i = word n (edgesIn p index) lanes a i .L
+      some : (b : Bool) → not b ≡ true → b ≡ false
+      some true e = sym e
+      some false e = refl
+
+      zero-no : (k : ℕ) → k < 16 → eqb (getD v k 0) 0 ≡ false
+      zero-no k q = ne-eqb (getD v k 0) 0 (λ z. eqb-false (least v 16) 0 (some (eqb (least v 16) 0) none) (omega (arith, least-le v 16 k q)))
 
       still : (b : Bool) (L : ℕ → ℤ) → (b && eqb (unsatisfiedCount (codeIn p index) c L) 0) ≡ false → false ≡ (b && eqb (unsatisfiedCount (codeIn p index) p L) 0)
       still false L e = refl
@@ -120,3 +107,33 @@ module _ {n p lanes : ℕ} {index : List ℕ} {a : List ℤ} {held : List Bool} 
           let g = count-grows (codeIn p index) L c (p - c) in
           let y = ap (λ (j : ℕ). unsatisfiedCount (codeIn p index) j L) k in
           sym (ne-eqb (unsatisfiedCount (codeIn p index) p L) 0 (λ z. eqb-false (unsatisfiedCount (codeIn p index) c L) 0 e (omega arith)))
+
+  pub seen-end : {c at : ℕ} {first v : List ℕ} → c ≡ p → Seen n p lanes index a at first c v → Seen n p lanes index a at first p v
+  seen-end {c} {at} {first} {v} e u = subst (λ (j : ℕ). Seen n p lanes index a at first j v) e u
+
+-- ---- what lane i of 64 is to have: whether it was 0 and its own word leaves no check unsatisfied
+module _ (n p lanes : ℕ) (index : List ℕ) (a : List ℤ) (all : List ℕ) where
+  abbrev pub VerdictIn : ℕ → Bool → Type 0
+  VerdictIn i x = x ≡ (eqb (getD all i 0) 0 && eqb (unsatisfiedCount (codeIn p index) p (word n (edgesIn p index) lanes a i .L)) 0)
+
+module _ {n p lanes : ℕ} {index : List ℕ} {a : List ℤ} {all : List ℕ} where
+  pub verdicts-in : {at : ℕ} {first v : List ℕ} → Taken all at 16 first → Seen n p lanes index a at first p v → (k : ℕ) → k < 16 → VerdictIn n p lanes index a all (at + k) (eqb (getD v k 0) 0)
+  verdicts-in {at} {first} {v} t u k q =
+      u .is k q ∙ ap (λ (x : ℕ). eqb x 0 && eqb (unsatisfiedCount (codeIn p index) p (word n (edgesIn p index) lanes a (at + k) .L)) 0) (t .is k q)
+
+  pub met-end : {m : ℕ} {held r : List Bool} → lanes ≤ 64 → lanes ≤ m → Shut held lanes 64 all → Filled false (VerdictIn n p lanes index a all) m r → Met n p lanes index a held r
+  met-end {m} {held} {r} few h o f =
+      record {
+        verdict =
+            λ i q. f .done i (omega arith)
+            ∙ ap (λ (b : Bool). b && eqb (unsatisfiedCount (codeIn p index) p (word n (edgesIn p index) lanes a i .L)) 0)
+            (o .is i (omega arith) ∙ ap (λ (b : Bool). b && flag held i) (lt-ltb i lanes q));
+        past = λ i q s. beyond i q s (ltb i m) refl;
+      }
+    where
+      beyond : (i : ℕ) → lanes ≤ i → i < 64 → (b : Bool) → ltb i m ≡ b → flag r i ≡ false
+      beyond i q s true e =
+          f .done i (ltb-true i m e)
+          ∙ ap (λ (b : Bool). b && eqb (unsatisfiedCount (codeIn p index) p (word n (edgesIn p index) lanes a i .L)) 0)
+          (o .is i s ∙ ap (λ (b : Bool). b && flag held i) (le-ltb i lanes q))
+      beyond i q s false e = f .rest i (ltb-false i m e) s

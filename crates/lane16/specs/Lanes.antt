@@ -1,5 +1,5 @@
 -- What the functions on sixteen lanes make of lane k.
-use Prim.Native.Nat.{ℕ, _<_, _≤_, min, max}
+use Prim.Native.Nat.{ℕ, _<_, min, max}
 use mathlib.Core.Path.{_≡_, ap, _∙_}
 use mathlib.Core.Bool.{false}
 use mathlib.Core.List.{List}
@@ -57,7 +57,10 @@ pub record Answered (t s : List ℤ) (a : List ℕ) (m1 m2 : List ℤ) (m L : Li
 pub record Added (t m y : List ℤ) : Type 0 where
   pub is : (k : ℕ) → k < 16 → z y k ≡ satZ (z t k +ℤ z m k)
 
--- hard decisions of the first `lanes` of 64 lanes, 0 past them
-pub record Decided (lanes : ℕ) (a : List ℤ) (b : List ℕ) : Type 0 where
-  pub is : (k : ℕ) → k < lanes → n b k ≡ hard (z a k)
-  pub none : (k : ℕ) → lanes ≤ k → k < 64 → n b k ≡ 0
+-- signs multiplied
+pub record Flipped (g x r : List ℤ) : Type 0 where
+  pub is : (k : ℕ) → k < 16 → negative (z r k) ≡ times (negative (z g k)) (negative (z x k))
+
+-- hard decisions
+pub record Decided (a : List ℤ) (b : List ℕ) : Type 0 where
+  pub is : (k : ℕ) → k < 16 → n b k ≡ hard (z a k)

@@ -1,6 +1,5 @@
 // Sixteen lanes by value: one fused loop for the scan of an edge and one for its answer.
-ghost use Prim.Native.Nat.{_≤_};
-ghost use Rattle.lane16.specs.Lanes.{Scanned, Readied, NoneNegative, Answered, Added, Decided};
+ghost use Rattle.lane16.specs.Lanes.{Scanned, Readied, NoneNegative, Answered, Added, Flipped, Decided};
 
 // Where a pass over a check's edges stands: the two smallest magnitudes, the sign of the product, and the last edge's t.
 pub struct Pass {
@@ -104,14 +103,26 @@ pub fn add(t: [i8; 16], m: [i8; 16]) -> [i8; 16]
     y
 }
 
-// 1 where the lane is negative, of `lanes` lanes; 0 past the last of them.
-pub fn bits(a: [i8; 64], lanes: usize) -> [u8; 64]
-    requires { ⌜ lanes ≤ 64 ⌝ }
-    ensures { λ r. ⌜ Decided lanes a r ⌝ }
+// The signs of two times sixteen lanes multiplied.
+pub fn flip(g: [i8; 16], x: [i8; 16]) -> [i8; 16]
+    ensures { λ r. ⌜ Flipped g x r ⌝ }
 {
-    let mut v: [u8; 64] = [0; 64];
+    let mut v: [i8; 16] = [0; 16];
     let mut i: usize = 0;
-    while i < lanes {
+    while i < 16 {
+        v[i] = lane_math::flip(g[i], x[i]);
+        i += 1;
+    }
+    v
+}
+
+// 1 where the lane is negative.
+pub fn bits(a: [i8; 16]) -> [u8; 16]
+    ensures { λ r. ⌜ Decided a r ⌝ }
+{
+    let mut v: [u8; 16] = [0; 16];
+    let mut i: usize = 0;
+    while i < 16 {
         v[i] = lane_math::bit(a[i]);
         i += 1;
     }

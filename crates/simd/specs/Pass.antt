@@ -15,7 +15,7 @@ use Rattle.laws.specs.Signed.{negative, times, times-assoc}
 use Rattle.lane_math.specs.Value.{satZ, magnitude, reduced, replied}
 use Rattle.lane_math.specs.Check.{min1, min2, message, put, tOf}
 use Rattle.lane_math.specs.Laws.{min1-small, min2-small, min2-step, parity, reply-is, put-same, put-other, last-or}
-use Rattle.lane16.specs.Lanes.{z, n, Scanned, Reduced, Readied, Answered}
+use Rattle.lane16.specs.Lanes.{z, n, Scanned, Reduced, Readied, Answered, Flipped}
 use Rattle.lane_memory.specs.Column.{column, Off, Stored, Part}
 
 -- t of a check's edges in a column whose messages start at row base
@@ -139,6 +139,9 @@ module _ {w : ℕ} {v : ℕ → ℕ} {s base lanes at : ℕ} {t g : List ℤ} {l
         outside = λ i q f. sy .outside i q f ∙ sm .outside i q f ∙ c .outside i q f;
       })
 
+pub replied-width : {w w′ : ℕ} {v : ℕ → ℕ} {s base lanes at : ℕ} {t g : List ℤ} {least : List ℕ} {m1 m2 a : List ℤ} {d : ℕ} {a′ : List ℤ} → w ≡ w′ → Replied w v s base lanes at t g least m1 m2 a d a′ → Replied w′ v s base lanes at t g least m1 m2 a d a′
+replied-width {w} {w′} {v} {s} {base} {lanes} {at} {t} {g} {least} {m1} {m2} {a} {d} {a′} e c = subst (λ (j : ℕ). Replied j v s base lanes at t g least m1 m2 a d a′) e c
+
 pub replied-end : {w : ℕ} {v : ℕ → ℕ} {s base lanes at : ℕ} {t g : List ℤ} {least : List ℕ} {m1 m2 a : List ℤ} {i d : ℕ} {a′ : List ℤ} → i ≡ d → Replied w v s base lanes at t g least m1 m2 a i a′ → Replied w v s base lanes at t g least m1 m2 a d a′
 replied-end {w} {v} {s} {base} {lanes} {at} {t} {g} {least} {m1} {m2} {a} {i} {d} {a′} e c = subst (λ (j : ℕ). Replied w v s base lanes at t g least m1 m2 a j a′) e c
 
@@ -232,57 +235,20 @@ scan-to {v} {s} {base} {lanes} {at} {a} b {d} same c =
       sign-is = λ k q. c .sign-is k q ∙ ap (λ (f : ℕ → ℤ). parity (tAt v s base f) d) (same k q);
     }
 
--- ---- signs alone: a row's signs multiplied into the first i of the sixteen lanes from at
-pub record Flipped (u lanes at : ℕ) (a g : List ℤ) (i : ℕ) (g′ : List ℤ) : Type 0 where
-  pub long : length g′ ≡ length g
-  pub inside : (k : ℕ) → k < i → negative (z g′ (at + k)) ≡ times (negative (z g (at + k))) (negative (column lanes a (at + k) u))
-  pub outside : (p : ℕ) → Off at i p → z g′ p ≡ z g p
+-- ---- signs alone: those of a check's first d values multiplied, of the sixteen lanes from at
+pub record Signs (v : ℕ → ℕ) (s lanes at : ℕ) (a : List ℤ) (d : ℕ) (g : List ℤ) : Type 0 where
+  pub is : (k : ℕ) → k < 16 → negative (z g k) ≡ parity (λ e. column lanes a (at + k) (v (s + e))) d
 
-pub flipped-start : (u lanes at : ℕ) (a g : List ℤ) → Flipped u lanes at a g 0 g
-flipped-start u lanes at a g = record { long = refl; inside = λ k q. absurd (omega (arith, q)); outside = λ p off. refl }
-
-pub flipped-again : {u lanes at : ℕ} {a g : List ℤ} {i : ℕ} {g′ : List ℤ} (y : ℤ) → Flipped u lanes at a g i g′ → at + i < length g → negative y ≡ times (negative (z g′ (at + i))) (negative (column lanes a (at + i) u)) → Flipped u lanes at a g (i + 1) (set g′ (at + i) y)
-flipped-again {u} {lanes} {at} {a} {g} {i} {g′} y c room e =
-    record {
-      long = simp length-set (c .long);
-      inside =
-          below-more (λ (k : ℕ). negative (z (set g′ (at + i) y) (at + k)) ≡ times (negative (z g (at + k))) (negative (column lanes a (at + k) u))) i
-          (λ k q. ap negative (getD-set-other g′ (at + i) (at + k) y (pos 0) (λ r. omega arith)) ∙ c .inside k q)
-          (ap negative (getD-set-same g′ (at + i) y (pos 0) (omega (arith, c .long)))
-          ∙ e
-          ∙ ap (λ (x : ℤ). times (negative x) (negative (column lanes a (at + i) u))) (c .outside (at + i) (λ k q r. omega arith)));
-      outside = λ p off. getD-set-other g′ (at + i) p y (pos 0) (λ r. off i (omega arith) r) ∙ c .outside p (λ k q r. off k (omega arith) r);
-    }
-
-pub flipped-end : {u lanes at : ℕ} {a g : List ℤ} {i j : ℕ} {g′ : List ℤ} → i ≡ j → Flipped u lanes at a g i g′ → Flipped u lanes at a g j g′
-flipped-end {u} {lanes} {at} {a} {g} {i} {j} {g′} e c = subst (λ (l : ℕ). Flipped u lanes at a g l g′) e c
-
--- of d edges
-pub record Signs (v : ℕ → ℕ) (s lanes at : ℕ) (a g : List ℤ) (d : ℕ) (g′ : List ℤ) : Type 0 where
-  pub long : length g′ ≡ length g
-  pub inside : (k : ℕ) → k < 16 → negative (z g′ (at + k)) ≡ times (negative (z g (at + k))) (parity (λ e. column lanes a (at + k) (v (s + e))) d)
-  pub outside : (p : ℕ) → Off at 16 p → z g′ p ≡ z g p
-
-times-false : (b : Bool) → b ≡ times b false
-times-false true = refl
-times-false false = refl
-
-pub signs-start : (v : ℕ → ℕ) (s lanes at : ℕ) (a g : List ℤ) → Signs v s lanes at a g 0 g
+pub signs-start : (v : ℕ → ℕ) (s lanes at : ℕ) (a g : List ℤ) → ((k : ℕ) → k < 16 → z g k ≡ pos 0) → Signs v s lanes at a 0 g
 unfolding parity
-signs-start v s lanes at a g = record { long = refl; inside = λ k q. times-false (negative (z g (at + k))); outside = λ p off. refl }
+signs-start v s lanes at a g h = record { is = λ k q. ap negative (h k q) }
 
-pub signs-again : {v : ℕ → ℕ} {s lanes at : ℕ} {a g : List ℤ} {d : ℕ} {g′ g″ : List ℤ} {u : ℕ} → Signs v s lanes at a g d g′ → u ≡ v (s + d) → Flipped u lanes at a g′ 16 g″ → Signs v s lanes at a g (d + 1) g″
+pub signs-again : {v : ℕ → ℕ} {s lanes at : ℕ} {a : List ℤ} {d : ℕ} {g g′ x : List ℤ} {u : ℕ} → Signs v s lanes at a d g → u ≡ v (s + d)
+    → ((k : ℕ) → k < 16 → z x k ≡ column lanes a (at + k) u) → Flipped g x g′ → Signs v s lanes at a (d + 1) g′
 unfolding parity
-signs-again {v} {s} {lanes} {at} {a} {g} {d} {g′} {g″} {u} c edge f =
-    subst (λ (j : ℕ). Signs v s lanes at a g j g″) (sym (add-one d))
-    (record {
-      long = f .long ∙ c .long;
-      inside =
-          λ k q. f .inside k q
-          ∙ (λ i. times (c .inside k q i) (negative (column lanes a (at + k) (edge i))))
-          ∙ times-assoc (negative (z g (at + k))) (parity (λ e. column lanes a (at + k) (v (s + e))) d) (negative (column lanes a (at + k) (v (s + d))));
-      outside = λ p off. f .outside p off ∙ c .outside p off;
-    })
+signs-again {v} {s} {lanes} {at} {a} {d} {g} {g′} {x} {u} c edge h f =
+    subst (λ (j : ℕ). Signs v s lanes at a j g′) (sym (add-one d))
+    (record { is = λ k q. f .is k q ∙ (λ i. times (c .is k q i) (negative ((h k q ∙ ap (column lanes a (at + k)) edge) i))) })
 
-pub signs-end : {v : ℕ → ℕ} {s lanes at : ℕ} {a g : List ℤ} {i d : ℕ} {g′ : List ℤ} → i ≡ d → Signs v s lanes at a g i g′ → Signs v s lanes at a g d g′
-signs-end {v} {s} {lanes} {at} {a} {g} {i} {d} {g′} e c = subst (λ (j : ℕ). Signs v s lanes at a g j g′) e c
+pub signs-end : {v : ℕ → ℕ} {s lanes at : ℕ} {a : List ℤ} {i d : ℕ} {g : List ℤ} → i ≡ d → Signs v s lanes at a i g → Signs v s lanes at a d g
+signs-end {v} {s} {lanes} {at} {a} {i} {d} {g} e c = subst (λ (j : ℕ). Signs v s lanes at a j g) e c

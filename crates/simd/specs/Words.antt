@@ -34,10 +34,9 @@ pub record CheckNode (rows : List ℕ) (s d n lanes : ℕ) (o : ℤ) (a a′ : L
   pub words : (i : ℕ) → i < lanes → word n (length rows) lanes a′ i ≡ check o (var rows) s d (word n (length rows) lanes a i)
   pub rest : (i : ℕ) → i < lanes → (u : ℕ) → n + length rows ≤ u → column lanes a′ i u ≡ column lanes a i u
 
--- Which of 64 lanes have the check unsatisfied; none past the last lane.
-pub record SignParity (rows : List ℕ) (s d n lanes : ℕ) (a : List ℤ) (b : List ℕ) : Type 0 where
-  pub bits : (i : ℕ) → i < lanes → getD b i 0 ≡ unsatisfied (var rows) s d (word n (length rows) lanes a i .L)
-  pub none : (i : ℕ) → lanes ≤ i → i < 64 → getD b i 0 ≡ 0
+-- Which of the sixteen lanes from at have the check unsatisfied.
+pub record SignParity (rows : List ℕ) (s d lanes at : ℕ) (a : List ℤ) (b : List ℕ) : Type 0 where
+  pub is : (k : ℕ) → k < 16 → getD b k 0 ≡ unsatisfied (var rows) s d (column lanes a (at + k))
 
 -- what a slice holds behind the rows that a law speaks of
 pub tail-kept : (m lanes : ℕ) (a a′ : List ℤ) → 0 < lanes → ((i : ℕ) → i < lanes → (u : ℕ) → m ≤ u → column lanes a′ i u ≡ column lanes a i u) → (p : ℕ) → m * lanes ≤ p → getD a′ p (pos 0) ≡ getD a p (pos 0)
@@ -180,39 +179,7 @@ module _ {rows : List ℕ} {s d n lanes : ℕ} {a : List ℤ} (r : Room rows s d
       value-is : (k : ℕ) → k < d → column lanes a i (var rows (s + k)) ≡ word n (length rows) lanes a i .L (var rows (s + k))
       value-is k q = sym (within-at n (column lanes a i) (var rows (s + k)) (inside .0 k q))
 
--- ---- the signs of the first m of 64 lanes, the others 0
-pub record Parities (v : ℕ → ℕ) (s lanes : ℕ) (a : List ℤ) (d m : ℕ) (g : List ℤ) : Type 0 where
-  pub done : (i : ℕ) → i < m → negative (z g i) ≡ parity (λ e. column lanes a i (v (s + e))) d
-  pub none : (i : ℕ) → m ≤ i → i < 64 → z g i ≡ pos 0
-
-pub parities-start : (v : ℕ → ℕ) (s lanes : ℕ) (a : List ℤ) (d : ℕ) (g : List ℤ) → ((k : ℕ) → k < 64 → z g k ≡ pos 0) → Parities v s lanes a d (0 * 16) g
-parities-start v s lanes a d g h = record { done = λ i q. absurd (omega (arith, q)); none = λ i q p. h i p }
-
-pub parities-again : {v : ℕ → ℕ} {s lanes : ℕ} {a : List ℤ} {d : ℕ} {g g′ : List ℤ} (j : ℕ) → j < 4 → Parities v s lanes a d (j * 16) g → Signs v s lanes (j * 16) a g d g′ → Parities v s lanes a d ((j + 1) * 16) g′
-parities-again {v} {s} {lanes} {a} {d} {g} {g′} j few c sx =
-    record {
-      done = λ i q. grow i q (ltb i (j * 16)) refl;
-      none = λ i q p. sx .outside i (λ k b e. omega arith) ∙ c .none i (omega arith) p;
-    }
-  where
-    grow : (i : ℕ) → i < (j + 1) * 16 → (b : Bool) → ltb i (j * 16) ≡ b → negative (z g′ i) ≡ parity (λ e. column lanes a i (v (s + e))) d
-    grow i q true e =
-        let p : i < j * 16 = ltb-true i (j * 16) e in
-        ap negative (sx .outside i (λ k b y. omega arith)) ∙ c .done i p
-    grow i q false e =
-        let p : j * 16 ≤ i = ltb-false i (j * 16) e in
-        let y : j * 16 + (i - j * 16) ≡ i = omega arith in
-        subst (λ (l : ℕ). negative (z g′ l) ≡ parity (λ e. column lanes a l (v (s + e))) d) y
-        (sx .inside (i - j * 16) (omega arith)
-        ∙ ap (λ (x : ℤ). times (negative x) (parity (λ e. column lanes a (j * 16 + (i - j * 16)) (v (s + e))) d)) (c .none (j * 16 + (i - j * 16)) (omega arith) (omega arith)))
-
-pub parities-end : {rows : List ℕ} {s d n lanes m : ℕ} {a g : List ℤ} {b : List ℕ} → Room rows s d n lanes a → lanes ≤ m → Parities (var rows) s lanes a d m g → Decided lanes g b → SignParity rows s d n lanes a b
-parities-end {rows} {s} {d} {n} {lanes} {m} {a} {g} {b} r e c h =
-    record {
-      bits =
-          λ i q. h .is i q
-          ∙ ap (λ (y : Bool). cond y 1 0) (c .done i (omega arith))
-          ∙ sym (unsatisfied-is (var rows) s d (column lanes a i))
-          ∙ sign-parity r i;
-      none = h .none;
-    }
+-- the hard decisions of the signs
+pub sign-parities : {rows : List ℕ} {s d lanes at : ℕ} {a g : List ℤ} {b : List ℕ} → Signs (var rows) s lanes at a d g → Decided g b → SignParity rows s d lanes at a b
+sign-parities {rows} {s} {d} {lanes} {at} {a} {g} {b} c h =
+    record { is = λ k q. h .is k q ∙ ap (λ (y : Bool). cond y 1 0) (c .is k q) ∙ sym (unsatisfied-is (var rows) s d (column lanes a (at + k))) }

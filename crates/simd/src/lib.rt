@@ -9,7 +9,7 @@ ghost use lib.ListN.{length};
 ghost use Rattle.lane16.specs.Lanes.{NoneNegative};
 ghost use Rattle.lane_memory.specs.Column.{Part};
 ghost use Rattle.lane_memory.specs.Room.{var, Room, Width};
-ghost use Rattle.simd.specs.Pass.{Scan, Replied, RepliedTwo, Flipped, Signs, checkColumn};
+ghost use Rattle.simd.specs.Pass.{Scan, Replied, RepliedTwo, Signs, checkColumn};
 ghost use Rattle.simd.specs.Words.{CheckNode, SignParity};
 
 // The first pass over a check's edges; edge k's t goes to row k of t, which has sixteen lanes.
@@ -138,6 +138,38 @@ fn reply(
     }
 }
 
+// The same, with a constant width for sixteen lanes and for eight, so that the loop has no test of the width.
+fn reply_lanes(
+    rows: &[u32],
+    s: usize,
+    d: usize,
+    a: &mut [i8],
+    t: &[i8],
+    n: usize,
+    lanes: usize,
+    at: usize,
+    w: usize,
+    sign: [i8; 16],
+    least: [u8; 16],
+    m1: [i8; 16],
+    m2: [i8; 16],
+)
+    requires { ⌜ Room (now rows) s d n lanes (now a) ⌝ }
+    requires { ⌜ (at + w ≤ lanes) × (Width w × (2048 ≤ length (now t))) ⌝ }
+    requires { ⌜ NoneNegative m1 × NoneNegative m2 ⌝ }
+    ensures { λ _. ⌜ Replied w (var (now (rows .entry))) s n lanes at (now (t .entry)) sign least m1 m2 (now (a .entry)) d (now (a .exit)) ⌝ }
+{
+    if w == 16 {
+        reply(rows, s, d, a, t, n, lanes, at, 16, sign, least, m1, m2);
+        return;
+    }
+    if w == 8 {
+        reply(rows, s, d, a, t, n, lanes, at, 8, sign, least, m1, m2);
+        return;
+    }
+    reply(rows, s, d, a, t, n, lanes, at, w, sign, least, m1, m2);
+}
+
 // The second pass on two times sixteen lanes, with the t of t and of u.
 fn reply_two(
     rows: &[u32],
@@ -263,7 +295,7 @@ fn chunk(
     let least = r.least;
     let m1 = r.m1;
     let m2 = r.m2;
-    reply(rows, s, d, a, t, n, lanes, at, w, sign, least, m1, m2);
+    reply_lanes(rows, s, d, a, t, n, lanes, at, w, sign, least, m1, m2);
     w
 }
 
@@ -290,22 +322,25 @@ pub fn check_node(
     }
 }
 
-// Row u's signs, of the sixteen lanes from `at`, multiplied into g.
-fn flip_row(g: &mut [i8], a: &[i8], u: usize, lanes: usize, at: usize)
-    requires { ⌜ (u * lanes + at + 16 ≤ length (now a)) × (at + 16 ≤ length (now g)) ⌝ }
-    ensures { λ _. ⌜ Flipped u lanes at (now (a .entry)) (now (g .entry)) 16 (now (g .exit)) ⌝ }
+// The signs of a check's values multiplied, of the sixteen lanes from `at`.
+fn signs(rows: &[u32], s: usize, d: usize, a: &[i8], n: usize, lanes: usize, at: usize) -> [i8; 16]
+    requires { ⌜ Room (now rows) s d n lanes (now a) × (at < lanes) ⌝ }
+    ensures { λ r. ⌜ Signs (var (now (rows .entry))) s lanes at (now (a .entry)) d r ⌝ }
 {
-    let base = u * lanes + at;
-    let mut i: usize = 0;
-    while i < 16 {
-        g[at + i] = lane_math::flip(g[at + i], a[base + i]);
-        i += 1;
+    let mut g: [i8; 16] = [0; 16];
+    let mut k: usize = 0;
+    while k < d {
+        let v = lane_memory::variable(rows, s + k);
+        let x = lane_memory::load(a, v, lanes, at);
+        let y = lane16::flip(g, x);
+        g = y;
+        k += 1;
     }
+    g
 }
 
-// The signs of a check's values, of the sixteen lanes from `at`, multiplied into g.
-fn signs(
-    g: &mut [i8],
+// Which of the sixteen lanes from `at` have the check unsatisfied: 1 where an odd number of its values are negative.
+pub fn sign_parity(
     rows: &[u32],
     s: usize,
     d: usize,
@@ -313,29 +348,10 @@ fn signs(
     n: usize,
     lanes: usize,
     at: usize,
-)
-    requires { ⌜ Room (now rows) s d n lanes (now a) ⌝ }
-    requires { ⌜ (at < lanes) × (at + 16 ≤ length (now g)) ⌝ }
-    ensures { λ _. ⌜ Signs (var (now (rows .entry))) s lanes at (now (a .entry)) (now (g .entry)) d (now (g .exit)) ⌝ }
+) -> [u8; 16]
+    requires { ⌜ Room (now rows) s d n lanes (now a) × (at < lanes) ⌝ }
+    ensures { λ r. ⌜ SignParity (now (rows .entry)) s d lanes at (now (a .entry)) r ⌝ }
 {
-    let mut k: usize = 0;
-    while k < d {
-        let v = lane_memory::variable(rows, s + k);
-        flip_row(g, a, v, lanes, at);
-        k += 1;
-    }
-}
-
-// Which lanes have the check unsatisfied: 1 where an odd number of its values are negative, 0 past the last lane.
-pub fn sign_parity(rows: &[u32], s: usize, d: usize, a: &[i8], n: usize, lanes: usize) -> [u8; 64]
-    requires { ⌜ Room (now rows) s d n lanes (now a) ⌝ }
-    ensures { λ r. ⌜ SignParity (now (rows .entry)) s d n lanes (now (a .entry)) r ⌝ }
-{
-    let mut g: [i8; 64] = [0; 64];
-    let mut j: usize = 0;
-    while j * 16 < lanes {
-        signs(&mut g, rows, s, d, a, n, lanes, j * 16);
-        j += 1;
-    }
-    lane16::bits(g, lanes)
+    let g = signs(rows, s, d, a, n, lanes, at);
+    lane16::bits(g)
 }

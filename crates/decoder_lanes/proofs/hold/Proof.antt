@@ -11,7 +11,7 @@ use Rattle.decoder_words.specs.Book.{View}
 use Rattle.decoder_words.specs.Tells.{Holds}
 use Rattle.decoder_words.specs.Part.{word-ends, written-view, written-only}
 use Rattle.decoder_words.specs.Finish.{holding-so}
-use Rattle.decoder_lanes.specs.Lane.{all-le, rows-fit, middle, lane-counted, lane-bits}
+use Rattle.decoder_lanes.specs.Lane.{all-le, rows-fit, middle, lane-bits}
 use Rattle.decoder_lanes.proofs.hold.Statement.{statement}
 use Rattle.decoder_lanes.proofs.hold.Tie as tie
 
@@ -24,9 +24,6 @@ mul-a c = omega (arith, word-ends (c .before .before .before .before .before .be
 add-b : tie.Need-add-b
 add-b c = omega (arith, word-ends (c .before .before .before .before .before .before .before .before .args .plan .n) (c .before .before .before .before .before .before .before .before .args .w) (c .before .before .before .before .before .before .before .before .args .plan .words) (c .before .before .before .before .before .before .before .before .pre .0 .1), all-le _ _ _ (c .before .before .before .before .before .before .before .before .pre .0 .0))
 
-count-lane-requires : tie.Need-count-lane-requires
-count-lane-requires c κs = (c .before .before .before .before .before .before .before .before .pre .0 .0 .memory, (c .before .before .before .before .before .before .before .before .pre .0 .2, c .before .before .before .before .before .before .before .before .pre .0 .0 .p-le))
-
 sub-hard : tie.Need-sub-hard
 sub-hard c = search needs
 
@@ -34,13 +31,13 @@ part-hard-start : tie.Need-part-hard-start
 part-hard-start c = search needs
 
 part-hard-end : tie.Need-part-hard-end
-part-hard-end c = omega (arith, word-ends (c .before .before .before .before .before .before .before .before .before .args .plan .n) (c .before .before .before .before .before .before .before .before .before .args .w) (c .before .before .before .before .before .before .before .before .before .args .plan .words) (c .before .before .before .before .before .before .before .before .before .pre .0 .1), c .before .before .before .before .before .before .before .before .before .pre .1 .out)
+part-hard-end c = omega (arith, word-ends (c .before .before .before .before .before .before .before .before .args .plan .n) (c .before .before .before .before .before .before .before .before .args .w) (c .before .before .before .before .before .before .before .before .args .plan .words) (c .before .before .before .before .before .before .before .before .pre .0 .1), c .before .before .before .before .before .before .before .before .pre .1 .0 .out)
 
 hard-requires : tie.Need-hard-requires
-hard-requires c κs = (rows-fit _ _ _ (c .before .before .before .before .before .before .before .before .before .before .pre .0 .0), (c .before .before .before .before .before .before .before .before .before .before .pre .0 .2, omega (arith, middle (c .before .before .before .before .before .before .before .before .before .before .args .plan .n) (c .before .before .before .before .before .before .before .before .before .before .args .plan .words) (c .before .before .before .before .before .before .before .before .before .before .args .w) (c .before .before .before .before .before .before .before .before .before .before .args .out .now) (c .before .before .before .before .before .before .before .before .before .before .pre .0 .1) (c .before .before .before .before .before .before .before .before .before .before .pre .1 .out))))
+hard-requires c κs = (rows-fit _ _ _ (c .before .before .before .before .before .before .before .before .before .pre .0 .0), (c .before .before .before .before .before .before .before .before .before .pre .0 .2, omega (arith, middle (c .before .before .before .before .before .before .before .before .before .args .plan .n) (c .before .before .before .before .before .before .before .before .before .args .plan .words) (c .before .before .before .before .before .before .before .before .before .args .w) (c .before .before .before .before .before .before .before .before .before .args .out .now) (c .before .before .before .before .before .before .before .before .before .pre .0 .1) (c .before .before .before .before .before .before .before .before .before .pre .1 .0 .out))))
 
 note-requires : tie.Need-note-requires
-note-requires c κs = (omega (arith, c .before .before .before .before .before .before .before .before .before .before .before .before .before .before .before .before .before .before .pre .1 .state, c .before .before .before .before .before .before .before .before .before .before .before .before .before .before .before .before .before .before .pre .0 .0 .few-words, c .before .before .before .before .before .before .before .before .before .before .before .before .before .before .before .before .before .before .pre .0 .1), omega (arith, c .before .before .before .before .before .before .before .before .before .before .before .before .before .before .before .before .before .before .pre .1 .iterations, c .before .before .before .before .before .before .before .before .before .before .before .before .before .before .before .before .before .before .pre .0 .0 .few-words, c .before .before .before .before .before .before .before .before .before .before .before .before .before .before .before .before .before .before .pre .0 .1), omega (arith, c .before .before .before .before .before .before .before .before .before .before .before .before .before .before .before .before .before .before .pre .1 .unsatisfied, c .before .before .before .before .before .before .before .before .before .before .before .before .before .before .before .before .before .before .pre .0 .0 .few-words, c .before .before .before .before .before .before .before .before .before .before .before .before .before .before .before .before .before .before .pre .0 .1), omega (arith, c .before .before .before .before .before .before .before .before .before .before .before .before .before .before .before .before .before .before .pre .1 .check, c .before .before .before .before .before .before .before .before .before .before .before .before .before .before .before .before .before .before .pre .0 .0 .few-words, c .before .before .before .before .before .before .before .before .before .before .before .before .before .before .before .before .before .before .pre .0 .1), omega (arith, c .before .before .before .before .before .before .before .before .before .before .before .before .before .before .before .before .before .before .pre .1 .bch, c .before .before .before .before .before .before .before .before .before .before .before .before .before .before .before .before .before .before .pre .0 .0 .few-words, c .before .before .before .before .before .before .before .before .before .before .before .before .before .before .before .before .before .before .pre .0 .1))
+note-requires c κs = (omega (arith, c .before .before .before .before .before .before .before .before .before .before .before .before .before .before .before .before .before .pre .1 .0 .state, c .before .before .before .before .before .before .before .before .before .before .before .before .before .before .before .before .before .pre .0 .0 .few-words, c .before .before .before .before .before .before .before .before .before .before .before .before .before .before .before .before .before .pre .0 .1), omega (arith, c .before .before .before .before .before .before .before .before .before .before .before .before .before .before .before .before .before .pre .1 .0 .iterations, c .before .before .before .before .before .before .before .before .before .before .before .before .before .before .before .before .before .pre .0 .0 .few-words, c .before .before .before .before .before .before .before .before .before .before .before .before .before .before .before .before .before .pre .0 .1), omega (arith, c .before .before .before .before .before .before .before .before .before .before .before .before .before .before .before .before .before .pre .1 .0 .unsatisfied, c .before .before .before .before .before .before .before .before .before .before .before .before .before .before .before .before .before .pre .0 .0 .few-words, c .before .before .before .before .before .before .before .before .before .before .before .before .before .before .before .before .before .pre .0 .1), omega (arith, c .before .before .before .before .before .before .before .before .before .before .before .before .before .before .before .before .before .pre .1 .0 .check, c .before .before .before .before .before .before .before .before .before .before .before .before .before .before .before .before .before .pre .0 .0 .few-words, c .before .before .before .before .before .before .before .before .before .before .before .before .before .before .before .before .before .pre .0 .1), omega (arith, c .before .before .before .before .before .before .before .before .before .before .before .before .before .before .before .before .before .pre .1 .0 .bch, c .before .before .before .before .before .before .before .before .before .before .before .before .before .before .before .before .before .pre .0 .0 .few-words, c .before .before .before .before .before .before .before .before .before .before .before .before .before .before .before .before .before .pre .0 .1))
 
 same-length : tie.Need-same-length
 same-length c = search needs
@@ -61,21 +58,20 @@ same-length-6 : tie.Need-same-length-6
 same-length-6 c = search needs
 
 returns : tie.Need-returns
-returns c = let G = c .before .before .before .before .before .before .before .before .before .before .before .before .before .before .before .before .before .before .before .before .before .before .before .before .before .before .before .before .before .pre .0 .0 in
-    let n = c .before .before .before .before .before .before .before .before .before .before .before .before .before .before .before .before .before .before .before .before .before .before .before .before .before .before .before .before .before .args .plan .n in
-    let w = c .before .before .before .before .before .before .before .before .before .before .before .before .before .before .before .before .before .before .before .before .before .before .before .before .before .before .before .before .before .args .w in
-    let u = c .before .before .before .before .before .before .before .before .before .before .before .before .before .before .before .before .before .before .before .before .count-lane .result in
-    let x : View = record { state = 1; iterations = c .before .before .before .before .before .before .before .before .before .before .before .before .before .before .before .before .before .before .before .before .before .before .before .before .before .before .before .before .before .args .i; unsatisfied = u .count; check = u .check; bch = 0; bits = c .before .before .before .before .before .before .before .before .before .before .before .before .before .before .before .before .before .before .hard .last .1 .1 .1 .1 .0 } in
-    let bits-are = lane-bits n (edgesIn (c .before .before .before .before .before .before .before .before .before .before .before .before .before .before .before .before .before .before .before .before .before .before .before .before .before .before .before .before .before .args .plan .p) (c .before .before .before .before .before .before .before .before .before .before .before .before .before .before .before .before .before .before .before .before .before .before .before .before .before .before .before .before .before .args .index .now)) (c .before .before .before .before .before .before .before .before .before .before .before .before .before .before .before .before .before .before .before .before .before .before .before .before .before .before .before .before .before .args .plan .lanes) (c .before .before .before .before .before .before .before .before .before .before .before .before .before .before .before .before .before .before .before .before .before .before .before .before .before .before .before .before .before .args .l) (c .before .before .before .before .before .before .before .before .before .before .before .before .before .before .before .before .before .before .before .before .before .before .before .before .before .before .before .before .before .args .work .now) _ _ (c .before .before .before .before .before .before .before .before .before .before .before .before .before .before .before .before .before .before .hard .ensures) (middle n (c .before .before .before .before .before .before .before .before .before .before .before .before .before .before .before .before .before .before .before .before .before .before .before .before .before .before .before .before .before .args .plan .words) w (c .before .before .before .before .before .before .before .before .before .before .before .before .before .before .before .before .before .before .before .before .before .before .before .before .before .before .before .before .before .args .out .now) (c .before .before .before .before .before .before .before .before .before .before .before .before .before .before .before .before .before .before .before .before .before .before .before .before .before .before .before .before .before .pre .0 .1) (c .before .before .before .before .before .before .before .before .before .before .before .before .before .before .before .before .before .before .before .before .before .before .before .before .before .before .before .before .before .pre .1 .out)) in
+returns c = let G = c .before .before .before .before .before .before .before .before .before .before .before .before .before .before .before .before .before .before .before .before .before .before .before .before .before .before .before .before .pre .0 .0 in
+    let n = c .before .before .before .before .before .before .before .before .before .before .before .before .before .before .before .before .before .before .before .before .before .before .before .before .before .before .before .before .args .plan .n in
+    let w = c .before .before .before .before .before .before .before .before .before .before .before .before .before .before .before .before .before .before .before .before .before .before .before .before .before .before .before .before .args .w in
+    let x : View = record { state = 1; iterations = c .before .before .before .before .before .before .before .before .before .before .before .before .before .before .before .before .before .before .before .before .before .before .before .before .before .before .before .before .args .i; unsatisfied = c .before .before .before .before .before .before .before .before .before .before .before .before .before .before .before .before .before .before .before .before .before .before .before .before .before .before .before .before .args .count; check = c .before .before .before .before .before .before .before .before .before .before .before .before .before .before .before .before .before .before .before .before .before .before .before .before .before .before .before .before .args .named; bch = 0; bits = c .before .before .before .before .before .before .before .before .before .before .before .before .before .before .before .before .before .before .hard .last .1 .1 .1 .1 .0 } in
+    let bits-are = lane-bits n (edgesIn (c .before .before .before .before .before .before .before .before .before .before .before .before .before .before .before .before .before .before .before .before .before .before .before .before .before .before .before .before .args .plan .p) (c .before .before .before .before .before .before .before .before .before .before .before .before .before .before .before .before .before .before .before .before .before .before .before .before .before .before .before .before .args .index .now)) (c .before .before .before .before .before .before .before .before .before .before .before .before .before .before .before .before .before .before .before .before .before .before .before .before .before .before .before .before .args .plan .lanes) (c .before .before .before .before .before .before .before .before .before .before .before .before .before .before .before .before .before .before .before .before .before .before .before .before .before .before .before .before .args .l) (c .before .before .before .before .before .before .before .before .before .before .before .before .before .before .before .before .before .before .before .before .before .before .before .before .before .before .before .before .args .work .now) _ _ (c .before .before .before .before .before .before .before .before .before .before .before .before .before .before .before .before .before .before .hard .ensures) (middle n (c .before .before .before .before .before .before .before .before .before .before .before .before .before .before .before .before .before .before .before .before .before .before .before .before .before .before .before .before .args .plan .words) w (c .before .before .before .before .before .before .before .before .before .before .before .before .before .before .before .before .before .before .before .before .before .before .before .before .before .before .before .before .args .out .now) (c .before .before .before .before .before .before .before .before .before .before .before .before .before .before .before .before .before .before .before .before .before .before .before .before .before .before .before .before .pre .0 .1) (c .before .before .before .before .before .before .before .before .before .before .before .before .before .before .before .before .before .before .before .before .before .before .before .before .before .before .before .before .pre .1 .0 .out)) in
     let long : length (x .bits) ≡ n = ap length bits-are ∙ bits-length n _ in
-    let room = c .before .before .before .before .before .before .before .before .before .before .before .before .before .before .before .before .before .before .before .before .before .before .before .before .before .before .before .before .before .pre .1 in
-    let few : w < 4096 = omega (arith, G .few-words, c .before .before .before .before .before .before .before .before .before .before .before .before .before .before .before .before .before .before .before .before .before .before .before .before .before .before .before .before .before .pre .0 .1) in
-    let fits : w * n + n ≤ length (c .before .before .before .before .before .before .before .before .before .before .before .before .before .before .before .before .before .before .before .before .before .before .before .before .before .before .before .before .before .args .out .now) = omega (arith, word-ends n w (c .before .before .before .before .before .before .before .before .before .before .before .before .before .before .before .before .before .before .before .before .before .before .before .before .before .before .before .before .before .args .plan .words) (c .before .before .before .before .before .before .before .before .before .before .before .before .before .before .before .before .before .before .before .before .before .before .before .before .before .before .before .before .before .pre .0 .1), room .out) in
+    let room = c .before .before .before .before .before .before .before .before .before .before .before .before .before .before .before .before .before .before .before .before .before .before .before .before .before .before .before .before .pre .1 .0 in
+    let few : w < 4096 = omega (arith, G .few-words, c .before .before .before .before .before .before .before .before .before .before .before .before .before .before .before .before .before .before .before .before .before .before .before .before .before .before .before .before .pre .0 .1) in
+    let fits : w * n + n ≤ length (c .before .before .before .before .before .before .before .before .before .before .before .before .before .before .before .before .before .before .before .before .before .before .before .before .before .before .before .before .args .out .now) = omega (arith, word-ends n w (c .before .before .before .before .before .before .before .before .before .before .before .before .before .before .before .before .before .before .before .before .before .before .before .before .before .before .before .before .args .plan .words) (c .before .before .before .before .before .before .before .before .before .before .before .before .before .before .before .before .before .before .before .before .before .before .before .before .before .before .before .before .pre .0 .1), room .out) in
     let k-is : w * n + n - w * n ≡ n = omega arith in
     let e = c .before .before .before .before .before .before .before .before .before .before .note .ensures in (
       written-only _ _ w _ _ x room few fits _ (e .0) (e .1) (e .2) (e .3) (e .4) refl k-is long,
-      subst (Holds _ n _ _ _ _ (c .before .before .before .before .before .before .before .before .before .before .before .before .before .before .before .before .before .before .before .before .before .before .before .before .before .before .before .before .before .args .i)) (sym (written-view _ _ w _ _ x room few fits _ (e .0) (e .1) (e .2) (e .3) (e .4) refl k-is long))
-          (holding-so _ n _ _ _ _ (c .before .before .before .before .before .before .before .before .before .before .before .before .before .before .before .before .before .before .before .before .before .before .before .before .before .before .before .before .before .args .i) x (lane-counted _ _ _ u (c .before .before .before .before .before .before .before .before .before .before .before .before .before .before .before .before .before .before .before .before .count-lane .ensures)) refl refl refl bits-are),
+      subst (Holds _ n _ _ _ _ (c .before .before .before .before .before .before .before .before .before .before .before .before .before .before .before .before .before .before .before .before .before .before .before .before .before .before .before .before .args .i)) (sym (written-view _ _ w _ _ x room few fits _ (e .0) (e .1) (e .2) (e .3) (e .4) refl k-is long))
+          (holding-so _ n _ _ _ _ (c .before .before .before .before .before .before .before .before .before .before .before .before .before .before .before .before .before .before .before .before .before .before .before .before .before .before .before .before .args .i) x (c .before .before .before .before .before .before .before .before .before .before .before .before .before .before .before .before .before .before .before .before .before .before .before .before .before .before .before .before .pre .1 .1) refl refl refl bits-are),
     )
 
 pub hold-spec : {M : Type 1} → statement M
@@ -85,7 +81,6 @@ hold-spec =
     cast-n
     mul-a
     add-b
-    count-lane-requires
     sub-hard
     part-hard-start
     part-hard-end

@@ -1,111 +1,50 @@
--- `decoder_retire::close` meets its contract. The loop's invariant: the words of the lanes below l are written.
+-- `decoder_retire::close` meets its contract: what is counted is asked for if a word is held.
 -- Assumes nothing.
-use mathlib.Core.Path.{_≡_, refl}
-use mathlib.Core.Logic.{⊎-elim}
-use Prim.Native.Nat.{_-_, _<_, _≤_}
 use native.Mathlib.Omega.{arith}
 use borrow.Author.Needs.{needs}
-use Rattle.decoder_words.specs.Book.{book, room-on}
-use Rattle.decoder_lanes.specs.Lane.{laneWord, laneCode}
-use Rattle.decoder_retire.specs.Close.{Closes, closes-start, closes-skip, closes-write, closes-as, closes-to}
+use Rattle.decoder_retire.specs.Counts.{counted-held}
 use Rattle.decoder_retire.proofs.close.Statement.{statement}
 use Rattle.decoder_retire.proofs.close.Tie as tie
 
-abbrev Inv-loop : tie.InvT-loop
-Inv-loop plan index work out₀ state₀ iterations₀ unsatisfied₀ check₀ bch₀ held iters lanes l₀ out state iterations unsatisfied check bch l = (lanes ≡ plan .lanes) × (l ≤ lanes)
-    × Closes (laneCode plan index) plan held iters (laneWord plan index work) (book state₀ iterations₀ unsatisfied₀ check₀ bch₀ out₀) l (book state iterations unsatisfied check bch out)
+some-held-requires : tie.Need-some-held-requires
+some-held-requires c κs = search needs
 
-abbrev μ-loop : tie.MeasureT-loop
-μ-loop plan index work out₀ state₀ iterations₀ unsatisfied₀ check₀ bch₀ held iters lanes l₀ out state iterations unsatisfied check bch l = lanes - l
+counts-requires : tie.Need-counts-requires
+counts-requires c κs = search needs
 
-loop-holds : tie.Need-loop-holds Inv-loop μ-loop
-loop-holds c = (refl, omega arith, closes-start _ _ _ _ _ _)
+write-held-requires : tie.Need-write-held-requires
+write-held-requires c κs =
+    let s = c .before .before .before .before .before .before .before .before .before .before .before .before .before .before .before .before .before in
+    (s .pre .0, (s .pre .1 .0, (s .pre .1 .1, counted-held (s .pre .0 .memory .few-lanes) (c .before .before .before .before .before .before .before .before .counts .ensures) (s .args .held) (c .before .before .before .before .before .before .before .before .before .some-held .ensures))))
 
-mul-h : tie.Need-mul-h Inv-loop μ-loop
-mul-h c = search needs
+same-length : tie.Need-same-length
+same-length c = search needs
 
-array-read-h : tie.Need-array-read-h Inv-loop μ-loop
-array-read-h c = omega (arith, c .loop-test .taken, c .before .loop .inv .0, c .before .before .before .before .before .before .before .before .before .pre .0 .memory .few-lanes)
+same-length-2 : tie.Need-same-length-2
+same-length-2 c = search needs
 
-sub-w : tie.Need-sub-w Inv-loop μ-loop
-sub-w c = omega (arith, c .if1 .taken)
+same-length-3 : tie.Need-same-length-3
+same-length-3 c = search needs
 
-cast-w : tie.Need-cast-w Inv-loop μ-loop
-cast-w c = let inl : c .before .before .loop .l < c .before .before .before .before .before .before .before .before .before .before .args .plan .lanes = omega (arith, c .before .loop-test .taken, c .before .before .loop .inv .0) in
-    omega (arith, c .before .before .before .before .before .before .before .before .before .before .pre .1 .1 .1 .known (c .before .before .loop .l) inl (c .if1 .taken), c .before .before .before .before .before .before .before .before .before .before .pre .0 .few-words)
+same-length-4 : tie.Need-same-length-4
+same-length-4 c = search needs
 
-mul-hold : tie.Need-mul-hold Inv-loop μ-loop
-mul-hold c = search needs
+same-length-5 : tie.Need-same-length-5
+same-length-5 c = search needs
 
-array-read-hold : tie.Need-array-read-hold Inv-loop μ-loop
-array-read-hold c = omega (arith, c .before .loop-test .taken, c .before .before .loop .inv .0, c .before .before .before .before .before .before .before .before .before .before .pre .0 .memory .few-lanes)
+same-length-6 : tie.Need-same-length-6
+same-length-6 c = search needs
 
-hold-requires : tie.Need-hold-requires Inv-loop μ-loop
-hold-requires c κs = let inl : c .before .before .before .before .before .before .before .before .loop .l < c .before .before .before .before .before .before .before .before .before .before .before .before .before .before .before .before .args .plan .lanes = omega (arith, c .before .before .before .before .before .before .before .loop-test .taken, c .before .before .before .before .before .before .before .before .loop .inv .0) in
-    ((c .before .before .before .before .before .before .before .before .before .before .before .before .before .before .before .before .pre .0, c .before .before .before .before .before .before .before .before .before .before .before .before .before .before .before .before .pre .1 .1 .1 .known (c .before .before .before .before .before .before .before .before .loop .l) inl (c .before .before .before .before .before .before .if1 .taken), inl), room-on (c .before .before .before .before .before .before .before .before .before .before .before .before .before .before .before .before .pre .1 .0) (c .before .before .before .before .before .before .before .before .loop .inv .2 .same))
-
-add-l : tie.Need-add-l Inv-loop μ-loop
-add-l c = search needs
-
-loop-less : tie.Need-loop-less Inv-loop μ-loop
-loop-less c = search needs
-
-loop-again : tie.Need-loop-again Inv-loop μ-loop
-loop-again c = let at = c .before .before .loop in
-    let inl : at .l < c .before .before .before .before .before .before .before .before .before .before .args .plan .lanes = omega (arith, c .before .loop-test .taken, at .inv .0) in
-    ⊎-elim
-    (λ w. (
-      at .inv .0,
-      omega arith,
-      closes-as _ _ _ _ _ (λ i. book (w .21 i) (w .22 i) (w .23 i) (w .24 i) (w .25 i) (w .20 i))
-          (closes-write _ _ _ _ _ _ (at .l) _ (at .inv .2) inl _ (w .0 .taken) (c .before .before .before .before .before .before .before .before .before .before .pre .1 .1 .1 .known (at .l) inl (w .0 .taken)) (w .7 .ensures .0) (w .7 .ensures .1)),
-    ))
-    (λ w. (
-      at .inv .0,
-      omega arith,
-      closes-as _ _ _ _ _ (λ i. book (w .2 i) (w .3 i) (w .4 i) (w .5 i) (w .6 i) (w .1 i))
-          (closes-skip _ _ _ _ _ _ (at .l) _ (at .inv .2) inl (w .0 .left)),
-    ))
-    (c .if1 .came)
-
-same-length : tie.Need-same-length Inv-loop μ-loop
-same-length c = c .before .loop .inv .2 .same .out
-
-same-length-2 : tie.Need-same-length-2 Inv-loop μ-loop
-same-length-2 c = c .before .loop .inv .2 .same .state
-
-same-length-3 : tie.Need-same-length-3 Inv-loop μ-loop
-same-length-3 c = c .before .loop .inv .2 .same .iterations
-
-same-length-4 : tie.Need-same-length-4 Inv-loop μ-loop
-same-length-4 c = c .before .loop .inv .2 .same .unsatisfied
-
-same-length-5 : tie.Need-same-length-5 Inv-loop μ-loop
-same-length-5 c = c .before .loop .inv .2 .same .check
-
-same-length-6 : tie.Need-same-length-6 Inv-loop μ-loop
-same-length-6 c = c .before .loop .inv .2 .same .bch
-
-returns : tie.Need-returns Inv-loop μ-loop
-returns c = let z : c .before .loop .l ≡ c .before .before .before .before .before .before .before .before .before .args .plan .lanes = omega arith in closes-to _ _ _ _ _ z (c .before .loop .inv .2)
+returns : tie.Need-returns
+returns c = search needs
 
 pub close-spec : {M : Type 1} → statement M
 close-spec =
     tie.close
     (tie.spec
-    Inv-loop
-    μ-loop
-    loop-holds
-    mul-h
-    array-read-h
-    sub-w
-    cast-w
-    mul-hold
-    array-read-hold
-    hold-requires
-    add-l
-    loop-less
-    loop-again
+    some-held-requires
+    counts-requires
+    write-held-requires
     same-length
     same-length-2
     same-length-3

@@ -1,160 +1,52 @@
--- `decoder_retire::retire` meets its contract. The loop's invariant: lanes below l have had their turn, as the schedule says.
+-- `decoder_retire::retire` meets its contract: what is counted is asked for if a word leaves unmet.
 -- Assumes nothing.
-use mathlib.Core.Path.{_≡_, refl, _∙_}
-use mathlib.Core.Logic.{⊎-elim}
-use Prim.Native.Nat.{_-_, _<_, _≤_}
 use native.Mathlib.Omega.{arith}
 use borrow.Author.Needs.{needs}
-use Rattle.decoder_words.specs.Book.{book, room-on}
-use Rattle.decoder_lanes.specs.Lane.{laneWord, laneCode}
-use Rattle.decoder_retire.specs.Retire.{Leaves, leaves-start, leaves-skip, leaves-stay, leaves-leave, leaves-as, leaves-end}
+use mathlib.Core.Bool.{false}
+use lib.ListN.{getD}
+use Rattle.decoder_retire.specs.Counts.{tallied}
 use Rattle.decoder_retire.proofs.retire.Statement.{statement}
 use Rattle.decoder_retire.proofs.retire.Tie as tie
 
-abbrev Inv-loop : tie.InvT-loop
-Inv-loop plan index work at out₀ state₀ iterations₀ unsatisfied₀ check₀ bch₀ verdict held₀ iters₀ lanes limit l₀ out state iterations unsatisfied check bch held iters l = (lanes ≡ plan .lanes) × (limit ≡ plan .limit) × (l ≤ lanes)
-    × Leaves (laneCode plan index) plan (laneWord plan index work) held₀ iters₀ (book state₀ iterations₀ unsatisfied₀ check₀ bch₀ out₀) l held iters (book state iterations unsatisfied check bch out)
+due-requires : tie.Need-due-requires
+due-requires c κs = search needs
 
-abbrev μ-loop : tie.MeasureT-loop
-μ-loop plan index work at out₀ state₀ iterations₀ unsatisfied₀ check₀ bch₀ verdict held₀ iters₀ lanes limit l₀ out state iterations unsatisfied check bch held iters l = lanes - l
+counts-requires : tie.Need-counts-requires
+counts-requires c κs = search needs
 
-loop-holds : tie.Need-loop-holds Inv-loop μ-loop
-loop-holds c = (refl, refl, omega arith, leaves-start _ _ _ _ _ _ (c .before .before .before .before .before .before .before .before .before .pre .1 .1 .0 .0))
+turns-requires : tie.Need-turns-requires
+turns-requires c κs =
+    let s = c .before .before .before .before .before .before .before .before .before .before .before .before .before .before .before .before .before .before .before in
+    (s .pre .0, (s .pre .1 .0, (s .pre .1 .1 .0, (s .pre .1 .1 .1, tallied (s .pre .0 .memory .few-lanes) (c .before .before .before .before .before .before .before .before .counts .ensures) (s .args .at .held) (s .args .at .iters) (λ l. getD (s .args .verdict) l false) (c .before .before .before .before .before .before .before .before .before .due .ensures) (s .pre .1 .1 .1)))))
 
-mul-h : tie.Need-mul-h Inv-loop μ-loop
-mul-h c = search needs
+same-length : tie.Need-same-length
+same-length c = search needs
 
-array-read-h : tie.Need-array-read-h Inv-loop μ-loop
-array-read-h c = omega (arith, c .loop-test .taken, c .before .loop .inv .0, c .before .before .before .before .before .before .before .before .before .before .before .pre .0 .memory .few-lanes, c .before .loop .inv .3 .sized .held-fit)
+same-length-2 : tie.Need-same-length-2
+same-length-2 c = search needs
 
-mul-i : tie.Need-mul-i Inv-loop μ-loop
-mul-i c = search needs
+same-length-3 : tie.Need-same-length-3
+same-length-3 c = search needs
 
-array-read-i : tie.Need-array-read-i Inv-loop μ-loop
-array-read-i c = omega (arith, c .before .loop-test .taken, c .before .before .loop .inv .0, c .before .before .before .before .before .before .before .before .before .before .before .before .pre .0 .memory .few-lanes, c .before .before .loop .inv .3 .sized .iters-fit)
+same-length-4 : tie.Need-same-length-4
+same-length-4 c = search needs
 
-add-i : tie.Need-add-i Inv-loop μ-loop
-add-i c = let inl : c .before .before .loop .l < c .before .before .before .before .before .before .before .before .before .before .before .before .args .plan .lanes = omega (arith, c .before .loop-test .taken, c .before .before .loop .inv .0) in
-    let u = c .before .before .loop .inv .3 .untouched (c .before .before .loop .l) (omega arith) in
-    omega (arith, u .1, c .before .before .before .before .before .before .before .before .before .before .before .before .pre .1 .1 .0 .1 .short (c .before .before .loop .l) inl (λ e. c .if1 .taken (u .0 ∙ e)), c .before .before .before .before .before .before .before .before .before .before .before .before .pre .0 .limit-fits)
+same-length-5 : tie.Need-same-length-5
+same-length-5 c = search needs
 
-mul-iters : tie.Need-mul-iters Inv-loop μ-loop
-mul-iters c = search needs
+same-length-6 : tie.Need-same-length-6
+same-length-6 c = search needs
 
-array-write-iters : tie.Need-array-write-iters Inv-loop μ-loop
-array-write-iters c = omega (arith, c .before .loop-test .taken, c .before .before .loop .inv .0, c .before .before .before .before .before .before .before .before .before .before .before .before .pre .0 .memory .few-lanes, c .before .before .loop .inv .3 .sized .iters-fit)
-
-array-read-over : tie.Need-array-read-over Inv-loop μ-loop
-array-read-over c = omega (arith, c .before .loop-test .taken, c .before .before .loop .inv .0, c .before .before .before .before .before .before .before .before .before .before .before .before .pre .0 .memory .few-lanes)
-
-over-requires : tie.Need-over-requires Inv-loop μ-loop
-over-requires c κs = search needs
-
-sub-w : tie.Need-sub-w Inv-loop μ-loop
-sub-w c = omega (arith, c .before .before .if1 .taken)
-
-cast-w : tie.Need-cast-w Inv-loop μ-loop
-cast-w c = let inl : c .before .before .before .before .loop .l < c .before .before .before .before .before .before .before .before .before .before .before .before .before .before .args .plan .lanes = omega (arith, c .before .before .before .loop-test .taken, c .before .before .before .before .loop .inv .0) in
-    let u = c .before .before .before .before .loop .inv .3 .untouched (c .before .before .before .before .loop .l) (omega arith) in
-    omega (arith, u .0, c .before .before .before .before .before .before .before .before .before .before .before .before .before .before .pre .1 .1 .0 .1 .known (c .before .before .before .before .loop .l) inl (λ e. c .before .before .if1 .taken (u .0 ∙ e)), c .before .before .before .before .before .before .before .before .before .before .before .before .before .before .pre .0 .few-words)
-
-array-read-leave : tie.Need-array-read-leave Inv-loop μ-loop
-array-read-leave c = omega (arith, c .before .before .before .loop-test .taken, c .before .before .before .before .loop .inv .0, c .before .before .before .before .before .before .before .before .before .before .before .before .before .before .pre .0 .memory .few-lanes)
-
-leave-requires : tie.Need-leave-requires Inv-loop μ-loop
-leave-requires c κs = let inl : c .before .before .before .before .before .before .before .before .before .before .loop .l < c .before .before .before .before .before .before .before .before .before .before .before .before .before .before .before .before .before .before .before .before .args .plan .lanes = omega (arith, c .before .before .before .before .before .before .before .before .before .loop-test .taken, c .before .before .before .before .before .before .before .before .before .before .loop .inv .0) in
-    let u = c .before .before .before .before .before .before .before .before .before .before .loop .inv .3 .untouched (c .before .before .before .before .before .before .before .before .before .before .loop .l) (omega arith) in
-    ((c .before .before .before .before .before .before .before .before .before .before .before .before .before .before .before .before .before .before .before .before .pre .0, omega (arith, u .0, c .before .before .before .before .before .before .before .before .before .before .before .before .before .before .before .before .before .before .before .before .pre .1 .1 .0 .1 .known (c .before .before .before .before .before .before .before .before .before .before .loop .l) inl (λ e. c .before .before .before .before .before .before .before .before .if1 .taken (u .0 ∙ e))), inl), (room-on (c .before .before .before .before .before .before .before .before .before .before .before .before .before .before .before .before .before .before .before .before .pre .1 .0) (c .before .before .before .before .before .before .before .before .before .before .loop .inv .3 .same), c .before .before .before .before .before .before .before .before .before .before .before .before .before .before .before .before .before .before .before .before .pre .1 .1 .1 (c .before .before .before .before .before .before .before .before .before .before .loop .l) inl (λ e. c .before .before .before .before .before .before .before .before .if1 .taken (u .0 ∙ e))))
-
-mul-held : tie.Need-mul-held Inv-loop μ-loop
-mul-held c = omega (arith, c .before .before .before .before .before .before .before .before .before .before .before .before .before .before .before .before .before .before .before .before .before .before .loop-test .taken, c .before .before .before .before .before .before .before .before .before .before .before .before .before .before .before .before .before .before .before .before .before .before .before .loop .inv .0, c .before .before .before .before .before .before .before .before .before .before .before .before .before .before .before .before .before .before .before .before .before .before .before .before .before .before .before .before .before .before .before .before .before .pre .0 .memory .few-lanes)
-
-array-write-held : tie.Need-array-write-held Inv-loop μ-loop
-array-write-held c = omega (arith, c .before .before .before .before .before .before .before .before .before .before .before .before .before .before .before .before .before .before .before .before .before .before .loop-test .taken, c .before .before .before .before .before .before .before .before .before .before .before .before .before .before .before .before .before .before .before .before .before .before .before .loop .inv .0, c .before .before .before .before .before .before .before .before .before .before .before .before .before .before .before .before .before .before .before .before .before .before .before .before .before .before .before .before .before .before .before .before .before .pre .0 .memory .few-lanes, c .before .before .before .before .before .before .before .before .before .before .before .before .before .before .before .before .before .before .before .before .before .before .before .loop .inv .3 .sized .held-fit)
-
-add-l : tie.Need-add-l Inv-loop μ-loop
-add-l c = search needs
-
-loop-less : tie.Need-loop-less Inv-loop μ-loop
-loop-less c = search needs
-
-loop-again : tie.Need-loop-again Inv-loop μ-loop
-loop-again c = let at = c .before .before .loop in
-    let inl : at .l < c .before .before .before .before .before .before .before .before .before .before .before .before .args .plan .lanes = omega (arith, c .before .loop-test .taken, at .inv .0) in
-    let fit = c .before .before .before .before .before .before .before .before .before .before .before .before .pre .0 .memory .few-lanes in
-    let u = at .inv .3 .untouched (at .l) (omega arith) in
-    ⊎-elim
-    (λ w. (
-      at .inv .0,
-      at .inv .1,
-      omega arith,
-      leaves-as _ _ _ (w .28) (w .29) (λ i. book (w .23 i) (w .24 i) (w .25 i) (w .26 i) (w .27 i) (w .22 i))
-          (leaves-leave _ _ _ _ _ _ (at .l) (at .held) (at .iters) _ (at .inv .3) inl fit (w .0 .taken) _ (c .before .before .before .before .before .before .before .before .before .before .before .before .pre .1 .1 .1 (at .l) inl (λ e. w .0 .taken (u .0 ∙ e))) _ (w .1 .ensures) _ (w .2 .taken)
-          (omega (arith, u .0, c .before .before .before .before .before .before .before .before .before .before .before .before .pre .1 .1 .0 .1 .known (at .l) inl (λ e. w .0 .taken (u .0 ∙ e)))) (w .9 .ensures .0) (w .9 .ensures .1)),
-    ))
-    (⊎-elim
-    (λ w. (
-      at .inv .0,
-      at .inv .1,
-      omega arith,
-      leaves-as _ _ _ (w .9) (w .10) (λ i. book (w .4 i) (w .5 i) (w .6 i) (w .7 i) (w .8 i) (w .3 i))
-          (leaves-stay _ _ _ _ _ _ (at .l) (at .held) (at .iters) _ (at .inv .3) inl fit (w .0 .taken) _ (c .before .before .before .before .before .before .before .before .before .before .before .before .pre .1 .1 .1 (at .l) inl (λ e. w .0 .taken (u .0 ∙ e))) _ (w .1 .ensures) (w .2 .left)),
-    ))
-    (λ w. (
-      at .inv .0,
-      at .inv .1,
-      omega arith,
-      leaves-as _ _ _ (w .7) (w .8) (λ i. book (w .2 i) (w .3 i) (w .4 i) (w .5 i) (w .6 i) (w .1 i))
-          (leaves-skip _ _ _ _ _ _ (at .l) (at .held) (at .iters) _ (at .inv .3) inl fit (w .0 .left)),
-    )))
-    (c .if1 .came)
-
-same-length : tie.Need-same-length Inv-loop μ-loop
-same-length c = c .before .loop .inv .3 .same .out
-
-same-length-2 : tie.Need-same-length-2 Inv-loop μ-loop
-same-length-2 c = c .before .loop .inv .3 .same .state
-
-same-length-3 : tie.Need-same-length-3 Inv-loop μ-loop
-same-length-3 c = c .before .loop .inv .3 .same .iterations
-
-same-length-4 : tie.Need-same-length-4 Inv-loop μ-loop
-same-length-4 c = c .before .loop .inv .3 .same .unsatisfied
-
-same-length-5 : tie.Need-same-length-5 Inv-loop μ-loop
-same-length-5 c = c .before .loop .inv .3 .same .check
-
-same-length-6 : tie.Need-same-length-6 Inv-loop μ-loop
-same-length-6 c = c .before .loop .inv .3 .same .bch
-
-returns : tie.Need-returns Inv-loop μ-loop
-returns c = let z : c .before .before .before .before .before .before .before .before .before .before .before .args .plan .lanes ≡ c .before .loop .l = omega arith in (leaves-end _ _ _ _ _ _ _ _ _ _ (c .before .loop .inv .3) z, refl)
+returns : tie.Need-returns
+returns c = search needs
 
 pub retire-spec : {M : Type 1} → statement M
 retire-spec =
     tie.close
     (tie.spec
-    Inv-loop
-    μ-loop
-    loop-holds
-    mul-h
-    array-read-h
-    mul-i
-    array-read-i
-    add-i
-    mul-iters
-    array-write-iters
-    array-read-over
-    over-requires
-    sub-w
-    cast-w
-    array-read-leave
-    leave-requires
-    mul-held
-    array-write-held
-    add-l
-    loop-less
-    loop-again
+    due-requires
+    counts-requires
+    turns-requires
     same-length
     same-length-2
     same-length-3

@@ -1,25 +1,24 @@
 use borrow.Author.Needs.{needs}
 use native.Mathlib.Omega.{arith}
-use mathlib.Core.Path.{_≡_, refl, ap, sym, subst, _∙_}
+use mathlib.Core.Path.{_≡_, sym, subst}
 use mathlib.Core.List.{List}
 use Prim.Native.Nat.{ℕ, _+_, _-_, _≤_, _<_}
-use lib.ListN.{length}
-use Rattle.lane_math.specs.Iteration.{unsatisfied}
-use Rattle.lane_memory.specs.Room.{var, Room}
-use Rattle.simd.specs.Words.{word}
-use Rattle.fixed_code.specs.Lists.{room, edgesIn, codeIn}
-use Rattle.fixed_syndrome.specs.Unmet.{Counted, counted-start, counted-again, counted-end, counted-le, bit-in, bit-small}
+use lib.ListN.{getD, getD-replicate}
+use Rattle.lane_memory.specs.Room.{Room}
+use Rattle.simd.specs.Words.{SignParity}
+use Rattle.fixed_code.specs.Lists.{room}
+use Rattle.fixed_syndrome.specs.Count.{Counting, counting-start, counting-again, counting-end, counting-room}
 use Rattle.fixed_syndrome.proofs.count_rows.Statement.{statement}
 use Rattle.fixed_syndrome.proofs.count_rows.Tie as tie
 
 abbrev Inv-loop : tie.InvT-loop
-Inv-loop index rows work n p lanes lane u₀ c₀ u c = (c ≤ p) × Counted (codeIn p index) c (word n (edgesIn p index) lanes work lane .L) u
+Inv-loop index rows work n p lanes at u₀ c₀ u c = (c ≤ p) × Counting n p lanes index work at c (u .counts) (u .checks)
 
 abbrev μ-loop : tie.MeasureT-loop
-μ-loop index rows work n p lanes lane u₀ c₀ u c = p - c
+μ-loop index rows work n p lanes at u₀ c₀ u c = p - c
 
 loop-holds : tie.Need-loop-holds Inv-loop μ-loop
-loop-holds c = let a = c .before .before .args in (search needs, counted-start (codeIn (a .p) (a .index .now)) (word (a .n) (edgesIn (a .p) (a .index .now)) (a .lanes) (a .work .now) (a .lane) .L))
+loop-holds c = (search needs, counting-start _ _ _ (λ k q. getD-replicate 16 k 0 0 q) (λ k q. getD-replicate 16 k 0 0 q))
 
 start-requires : tie.Need-start-requires Inv-loop μ-loop
 start-requires c κs = search needs
@@ -27,8 +26,8 @@ start-requires c κs = search needs
 degree-requires : tie.Need-degree-requires Inv-loop μ-loop
 degree-requires c κs = search needs
 
-odd-requires : tie.Need-odd-requires Inv-loop μ-loop
-odd-requires c κs =
+sign-parity-requires : tie.Need-sign-parity-requires Inv-loop μ-loop
+sign-parity-requires c κs =
     let s = c .before .before .before .before .before .before in
     let h = c .before .before .before in
     let r = c .before .start in (
@@ -44,10 +43,13 @@ added-requires : tie.Need-added-requires Inv-loop μ-loop
 added-requires c κs =
     let s = c .before .before .before .before .before .before .before in
     let h = c .before .before .before .before in
-    let a = s .args in (
-      omega (arith, counted-le (h .loop .inv .1), h .loop .inv .0, s .pre .1 .1),
-      omega (arith, c .odd .ensures, bit-small (var (a .rows .now)) (c .before .before .start .result) (c .before .degree .result) (word (a .n) (length (a .rows .now)) (a .lanes) (a .work .now) (a .lane) .L)),
-    )
+    let l = c .before .before .before .loop-test .taken in
+    let r = c .before .before .start in
+    let d = c .before .degree in
+    let b = c .sign-parity in
+    let f : r .result + d .result ≡ getD (s .args .index .now) (h .loop .c + 1) 0 = omega (arith, r .ensures, d .ensures) in
+    let x = subst (λ (l : List ℕ). SignParity l (r .result) (d .result) (s .args .lanes) (s .args .at) (s .args .work .now) (b .result)) (s .pre .0 .1) (b .ensures) in
+    λ k q. omega (arith, counting-room (s .pre .0 .0) l (r .ensures) f (h .loop .inv .1) x k q, s .pre .1 .1, l)
 
 add-c : tie.Need-add-c Inv-loop μ-loop
 add-c c = search needs
@@ -59,20 +61,16 @@ loop-again : tie.Need-loop-again Inv-loop μ-loop
 loop-again c =
     let s = c .before .before .before .before .before .before .before .before in
     let h = c .before .before .before .before .before in
-    let q = c .before .before .before .before .loop-test .taken in
+    let l = c .before .before .before .before .loop-test .taken in
     let r = c .before .before .before .start in
     let d = c .before .before .degree in
-    let b = c .before .odd in
-    let a = s .args in (
-      search needs,
-      counted-again (h .loop .inv .1)
-          (bit-in (a .p) (a .index .now) (h .loop .c) (r .result) (d .result) (word (a .n) (edgesIn (a .p) (a .index .now)) (a .lanes) (a .work .now) (a .lane) .L) q (r .ensures) (omega (arith, r .ensures, d .ensures))
-          (subst (λ (l : List ℕ). b .result ≡ unsatisfied (var l) (r .result) (d .result) (word (a .n) (length l) (a .lanes) (a .work .now) (a .lane) .L)) (s .pre .0 .1) (b .ensures)))
-          (c .added .ensures),
-    )
+    let b = c .before .sign-parity in
+    let f : r .result + d .result ≡ getD (s .args .index .now) (h .loop .c + 1) 0 = omega (arith, r .ensures, d .ensures) in
+    let x = subst (λ (l : List ℕ). SignParity l (r .result) (d .result) (s .args .lanes) (s .args .at) (s .args .work .now) (b .result)) (s .pre .0 .1) (b .ensures) in
+    (omega (arith, l), counting-again (s .pre .0 .0) l (r .ensures) f (h .loop .inv .1) x (c .added .ensures))
 
 returns : tie.Need-returns Inv-loop μ-loop
-returns c = counted-end (omega (arith, c .before .loop .inv .0, c .loop-test .left)) (c .before .loop .inv .1)
+returns c = counting-end (omega (arith, c .before .loop .inv .0, c .loop-test .left)) (c .before .loop .inv .1)
 
 pub count-rows-spec : {M : Type 1} → statement M
 count-rows-spec =
@@ -83,7 +81,7 @@ count-rows-spec =
     loop-holds
     start-requires
     degree-requires
-    odd-requires
+    sign-parity-requires
     cast-added
     added-requires
     add-c

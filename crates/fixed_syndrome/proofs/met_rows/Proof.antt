@@ -1,24 +1,31 @@
 use borrow.Author.Needs.{needs}
 use native.Mathlib.Omega.{arith}
-use borrow.Author.Tests.{not-true}
-use mathlib.Core.Path.{_≡_, refl, sym, subst}
+use mathlib.Core.Bool.{Bool, true, false, not, _&&_}
+use mathlib.Core.Path.{_≡_, sym, _∙_, subst}
 use mathlib.Core.List.{List}
-use Prim.Native.Nat.{ℕ, _+_, _-_, _≤_, _<_}
+use Prim.Native.Nat.{ℕ, _+_, _-_, _%_, _≤_, _<_}
+use lib.Dec.{T, eqb}
+use lib.ListN.{getD}
 use Rattle.lane_memory.specs.Room.{Room}
 use Rattle.simd.specs.Words.{SignParity}
 use Rattle.fixed_code.specs.Lists.{room}
-use Rattle.fixed_syndrome.specs.Met.{Upto, upto-start, upto-again, upto-end, upto-none}
+use Rattle.fixed_syndrome.specs.Chunk.{least}
+use Rattle.fixed_syndrome.specs.Met.{Seen, seen-start, seen-again, seen-none, seen-end}
 use Rattle.fixed_syndrome.proofs.met_rows.Statement.{statement}
 use Rattle.fixed_syndrome.proofs.met_rows.Tie as tie
 
+and-right : (a b : Bool) → (a && b) ≡ true → b ≡ true
+and-right true b e = e
+and-right false b e = absurd (subst T (sym e) tt)
+
 abbrev Inv-loop : tie.InvT-loop
-Inv-loop index rows work n p lanes left₀ c₀ left c = (c ≤ p) × Upto n p lanes index work left₀ c left
+Inv-loop index rows work n p lanes at v₀ c₀ v c = (c ≤ p) × Seen n p lanes index work at v₀ c v
 
 abbrev μ-loop : tie.MeasureT-loop
-μ-loop index rows work n p lanes left₀ c₀ left c = p - c
+μ-loop index rows work n p lanes at v₀ c₀ v c = p - c
 
 loop-holds : tie.Need-loop-holds Inv-loop μ-loop
-loop-holds c = (search needs, upto-start _ _ _ _ _ _)
+loop-holds c = (search needs, seen-start _ _)
 
 start-requires : tie.Need-start-requires Inv-loop μ-loop
 start-requires c κs = search needs
@@ -30,48 +37,51 @@ sign-parity-requires : tie.Need-sign-parity-requires Inv-loop μ-loop
 sign-parity-requires c κs =
     let s = c .before .before .before .before .before .before in
     let h = c .before .before .before in
-    let r = c .before .start in
-    subst (λ (l : List ℕ). Room l (r .result) (c .degree .result) (s .args .n) (s .args .lanes) (s .args .work .now)) (sym (s .pre .1))
-    (room (h .loop .c) (r .result) (c .degree .result) (s .pre .0) (c .before .before .loop-test .taken) (r .ensures) (omega (arith, r .ensures, c .degree .ensures)))
+    let r = c .before .start in (
+      subst (λ (l : List ℕ). Room l (r .result) (c .degree .result) (s .args .n) (s .args .lanes) (s .args .work .now)) (sym (s .pre .0 .1))
+          (room (h .loop .c) (r .result) (c .degree .result) (s .pre .0 .0) (c .before .before .loop-test .taken) (r .ensures) (omega (arith, r .ensures, c .degree .ensures))),
+      s .pre .1,
+    )
 
-narrow-requires : tie.Need-narrow-requires Inv-loop μ-loop
-narrow-requires c κs = search needs
-
-returns : tie.Need-returns Inv-loop μ-loop
-returns c =
-    let s = c .before .before .before .before .before .before .before .before .before .before .before in
-    let h = c .before .before .before .before .before .before .before .before in
-    let k = c .before .before .before .before .before .before .before in
-    let f = c .before .before .before .before .before .before in
-    let g = c .before .before .before .before .before in
-    let b = c .before .before .before .before in
-    let m = c .before .before .before in
-    upto-none (omega (arith, k .loop-test .taken)) (s .pre .0 .few-lanes) (m .narrow .ensures .none-left (not-true (m .narrow .result .any) (c .if1 .taken)))
-    (upto-again (k .loop-test .taken) (s .pre .0 .few-lanes) (f .start .ensures) (omega (arith, f .start .ensures, g .degree .ensures)) (h .loop .inv .1)
-    (subst (λ (l : List ℕ). SignParity l (f .start .result) (g .degree .result) (s .args .n) (s .args .lanes) (s .args .work .now) (b .sign-parity .result)) (s .pre .1) (b .sign-parity .ensures)) (m .narrow .ensures))
+larger-requires : tie.Need-larger-requires Inv-loop μ-loop
+larger-requires c κs = search needs
 
 add-c : tie.Need-add-c Inv-loop μ-loop
 add-c c = search needs
+
+none-left-requires : tie.Need-none-left-requires Inv-loop μ-loop
+none-left-requires c κs = search needs
+
+returns : tie.Need-returns Inv-loop μ-loop
+returns c =
+    let s = c .before .before .before .before .before .before .before .before .before .before in
+    let h = c .before .before .before .before .before .before .before in
+    let l = c .before .before .before .before .before .before .loop-test .taken in
+    let r = c .before .before .before .before .before .start in
+    let d = c .before .before .before .before .degree in
+    let b = c .before .before .before .sign-parity in
+    let f : r .result + d .result ≡ getD (s .args .index .now) (h .loop .c + 1) 0 = omega (arith, r .ensures, d .ensures) in
+    let x = subst (λ (l : List ℕ). SignParity l (r .result) (d .result) (s .args .lanes) (s .args .at) (s .args .work .now) (b .result)) (s .pre .0 .1) (b .ensures) in
+    seen-none (omega (arith, l)) (and-right (eqb ((h .loop .c + 1) % 16) 0) (not (eqb (least (c .before .before .larger .result) 16) 0)) (sym (c .before .none-left .ensures) ∙ c .if1 .taken))
+    (seen-again (s .pre .0 .0) l (r .ensures) f (h .loop .inv .1) x (c .before .before .larger .ensures))
 
 loop-less : tie.Need-loop-less Inv-loop μ-loop
 loop-less c = search needs
 
 loop-again : tie.Need-loop-again Inv-loop μ-loop
 loop-again c =
-    let s = c .before .before .before .before .before .before .before .before .before .before .before in
-    let h = c .before .before .before .before .before .before .before .before in
-    let k = c .before .before .before .before .before .before .before in
-    let f = c .before .before .before .before .before .before in
-    let g = c .before .before .before .before .before in
-    let b = c .before .before .before .before in
-    let m = c .before .before .before in (
-      omega (arith, k .loop-test .taken),
-      upto-again (k .loop-test .taken) (s .pre .0 .few-lanes) (f .start .ensures) (omega (arith, f .start .ensures, g .degree .ensures)) (h .loop .inv .1)
-          (subst (λ (l : List ℕ). SignParity l (f .start .result) (g .degree .result) (s .args .n) (s .args .lanes) (s .args .work .now) (b .sign-parity .result)) (s .pre .1) (b .sign-parity .ensures)) (m .narrow .ensures),
-    )
+    let s = c .before .before .before .before .before .before .before .before .before .before in
+    let h = c .before .before .before .before .before .before .before in
+    let l = c .before .before .before .before .before .before .loop-test .taken in
+    let r = c .before .before .before .before .before .start in
+    let d = c .before .before .before .before .degree in
+    let b = c .before .before .before .sign-parity in
+    let f : r .result + d .result ≡ getD (s .args .index .now) (h .loop .c + 1) 0 = omega (arith, r .ensures, d .ensures) in
+    let x = subst (λ (l : List ℕ). SignParity l (r .result) (d .result) (s .args .lanes) (s .args .at) (s .args .work .now) (b .result)) (s .pre .0 .1) (b .ensures) in
+    (omega (arith, l), seen-again (s .pre .0 .0) l (r .ensures) f (h .loop .inv .1) x (c .before .before .larger .ensures))
 
 returns-2 : tie.Need-returns-2 Inv-loop μ-loop
-returns-2 c = upto-end (omega (arith, c .before .loop .inv .0, c .loop-test .left)) (c .before .loop .inv .1)
+returns-2 c = seen-end (omega (arith, c .before .loop .inv .0, c .loop-test .left)) (c .before .loop .inv .1)
 
 pub met-rows-spec : {M : Type 1} → statement M
 met-rows-spec =
@@ -83,9 +93,10 @@ met-rows-spec =
     start-requires
     degree-requires
     sign-parity-requires
-    narrow-requires
-    returns
+    larger-requires
     add-c
+    none-left-requires
+    returns
     loop-less
     loop-again
     returns-2)

@@ -2,8 +2,7 @@ use borrow.Author.Needs.{needs}
 use native.Mathlib.Omega.{arith}
 use mathlib.Core.Path.{_≡_, refl, ap, _∙_}
 use Prim.Native.Nat.{ℕ, _-_, _≤_, _<_}
-use lib.ListN.{length, length-set, getD-replicate}
-use lib.Seq.{getD-set-other}
+use lib.ListN.{length, length-set}
 use borrow.Author.Needs.{sfits-of}
 use Rattle.laws.specs.Signed.{plain}
 use Rattle.lane_math.specs.Iteration.{hard}
@@ -13,13 +12,13 @@ use Rattle.lane16.proofs.bits.Statement.{statement}
 use Rattle.lane16.proofs.bits.Tie as tie
 
 abbrev Inv-loop : tie.InvT-loop
-Inv-loop lanes a v₀ i₀ v i = (i ≤ lanes) × ((length v ≡ 64) × (((k : ℕ) → k < i → n v k ≡ hard (z a k)) × ((k : ℕ) → i ≤ k → k < 64 → n v k ≡ 0)))
+Inv-loop a v₀ i₀ v i = (i ≤ 16) × ((length v ≡ 16) × ((k : ℕ) → k < i → n v k ≡ hard (z a k)))
 
 abbrev μ-loop : tie.MeasureT-loop
-μ-loop lanes a v₀ i₀ v i = lanes - i
+μ-loop a v₀ i₀ v i = 16 - i
 
 loop-holds : tie.Need-loop-holds Inv-loop μ-loop
-loop-holds c = (search needs, (refl, (λ k q. absurd (omega (arith, q)), λ k q p. getD-replicate 64 k 0 0 p)))
+loop-holds c = (search needs, (refl, λ k q. absurd (omega (arith, q))))
 
 array-copy-out-bit : tie.Need-array-copy-out-bit Inv-loop μ-loop
 array-copy-out-bit c = search needs
@@ -44,18 +43,13 @@ loop-again c =
       search needs,
       (
         simp length-set (omega arith),
-        (
-          grown 0 (λ (k x : ℕ). x ≡ hard (z a k)) (h .loop .v) i _ (omega arith) (h .loop .inv .1 .1 .0)
-              (c .bit .ensures ∙ ap hard (plain (z a i) (sfits-of (c .before .bit-arg .given)))),
-          λ k q p. getD-set-other (h .loop .v) i k _ 0 (λ r. omega arith) ∙ h .loop .inv .1 .1 .1 k (omega arith) p,
-        ),
+        grown 0 (λ (k x : ℕ). x ≡ hard (z a k)) (h .loop .v) i _ (omega arith) (h .loop .inv .1 .1)
+            (c .bit .ensures ∙ ap hard (plain (z a i) (sfits-of (c .before .bit-arg .given)))),
       ),
     )
 
 returns : tie.Need-returns Inv-loop μ-loop
-returns c =
-    let v = c .before .loop .inv .1 .1 in
-    record { is = λ k q. v .0 k (omega (arith, q)); none = λ k q p. v .1 k (omega arith) p }
+returns c = record { is = λ k q. c .before .loop .inv .1 .1 k (omega (arith, q)) }
 
 pub bits-spec : {M : Type 1} → statement M
 bits-spec =

@@ -49,8 +49,8 @@ scan-requires c κs = let s = c .before .before .before .before .before in (s .p
 prepare-requires : tie.Need-prepare-requires
 prepare-requires c κs = search needs
 
-reply-requires : tie.Need-reply-requires
-reply-requires c κs =
+reply-lanes-requires : tie.Need-reply-lanes-requires
+reply-lanes-requires c κs =
     let s = c .before .before .before .before .before .before .before .before .before .before .before .before .before .before in
     let w = c .before .before .before .before .before .before .before .before .before .before .before .width .ensures in
     let p = c .before .before .before .before .before .before .prepare .ensures in (
@@ -72,7 +72,7 @@ returns-2 c =
     let s = c .before .before .before .before .before .before .before .before .before .before .before .before .before .before .before .before in
     let w = c .before .before .before .before .before .before .before .before .before .before .before .before .before .width .ensures in
     let o = plain (s .args .offset) (s .fits .offset) in
-    ((w .1 .some, omega (arith, w .0, s .pre .1 .0)), chunk-is (c .before .before .before .before .before .before .before .before .before .before .scan .ensures) (readied-to o (c .before .before .before .before .before .before .before .before .prepare .ensures)) (w .1 .few) (c .before .reply .ensures))
+    ((w .1 .some, omega (arith, w .0, s .pre .1 .0)), chunk-is (c .before .before .before .before .before .before .before .before .before .before .scan .ensures) (readied-to o (c .before .before .before .before .before .before .before .before .prepare .ensures)) (w .1 .few) (c .before .reply-lanes .ensures))
 
 pub chunk-spec : {M : Type 1} → statement M
 chunk-spec =
@@ -88,7 +88,7 @@ chunk-spec =
     width-requires
     scan-requires
     prepare-requires
-    reply-requires
+    reply-lanes-requires
     same-length-4
     same-length-5
     returns-2)
