@@ -4,10 +4,10 @@ use mathlib.Core.Bool.{Bool, true, false, cond}
 use mathlib.Core.List.{List, [], _∷_, _++_, append-nil}
 use Prim.Native.Nat.{ℕ, zero, suc, _+_, _*_, _-_, _/_, _%_, _≤_, _<_}
 use native.Mathlib.Omega.{arith}
-use native.Mathlib.Nat.{mod-eq-of-lt, mul-le-mul-right}
+use native.Mathlib.Nat.{mod-eq-of-lt, mul-le-mul-right, add-mul-mod-self-right}
 use native.Mathlib.Numerals.{add-one}
 use native.Mathlib.Decide.{ℕ-discrete, decLt}
-use borrow.Author.Tests.{lt-ltb, le-ltb, eq-eqb}
+use borrow.Author.Tests.{ltb-false, eq-eqb, eqb-true}
 use lib.Dec.{eqb, ltb}
 use lib.ListN.{length, take, drop, getD, length-append, List·getD-append}
 use lib.Seq.{getD-take, getD-drop, getD-append-add}
@@ -16,17 +16,20 @@ use Rattle.lane_math.specs.Iteration.{Code, degree}
 use Rattle.ldpc_shape.specs.Shape.{kOf, pOf, qOf, eOf, rowsOf, total, countMod}
 use Rattle.ldpc_shape.specs.Accepted.{Accepted, p-is, p-pos, q-pos, p-le, q-le, n-is}
 use Rattle.ldpc_edges.specs.Code.{only, meets, ofRows, stairs, check, edgeLists}
+use Rattle.ldpc_edges.specs.Degree.{met-by}
 use Rattle.ldpc_edges.specs.Layout.{Laid, laid}
-use Rattle.fixed_code.specs.Lists.{rowsIn, codeIn, start-in, degree-in}
-use Rattle.fixed_conflicts.specs.Table.{Lacks, Unmet, Covers, Once, Rowed, Shares, rowAt, sharedOf}
-use Rattle.fixed_conflicts.specs.Edges.{Without, rowOf, bit-without, parity-without, parity-once, stairs-below}
+use Rattle.fixed_code.specs.Lists.{Lists, rowsIn, edgesIn, codeIn, start-in, degree-in}
+use Rattle.fixed_code.specs.Code.{lists-in}
+use Rattle.fixed_conflicts.specs.Table.{Once, Split, Shares, Flagged, spanAt, sharedOf}
+use Rattle.fixed_conflicts.specs.Edges.{rowOf, parity-without, parity-once, stairs-below, stairs-from, check-length}
 use Rattle.fixed_conflicts.specs.Count.{occurs, occurs-one, occurs-two, sumUp, sum-one, sum-two, inLayer, layer-occurs, rows-own}
+use Rattle.fixed_conflicts.specs.Spans.{spanOf, span-next, span-within, span-all, groups-below, groups-from}
 
--- where each row's addresses begin; which rows have two addresses equal modulo q, and which layers such two; a layer of q = 1 has parity bits that do
-pub record Worked (n : ℕ) (lens addrs starts : List ℕ) (flags busy : List Bool) : Type 0 where
-  pub begins : (g : ℕ) → g ≤ length lens → getD starts g 0 ≡ total (take g lens)
-  pub rows : (g l : ℕ) → g < length lens → l < qOf n lens → 2 ≤ countMod (qOf n lens) l (rowOf lens addrs g) → (getD flags g false ≡ true) × (getD busy l false ≡ true)
-  pub alone : qOf n lens ≡ 1 → getD busy 0 false ≡ true
+-- where each row's edges begin in the checks of each layer; behind the last row the parity bits, two or one
+pub record Spanned (n : ℕ) (lens addrs table : List ℕ) : Type 0 where
+  pub long : length table ≡ 14520
+  pub rows : (g l : ℕ) → g ≤ length lens → l < qOf n lens → spanAt table l g ≡ spanOf (qOf n lens) l lens addrs g
+  pub parity : (l : ℕ) → l < qOf n lens → spanAt table l (length lens + 1) ≡ spanOf (qOf n lens) l lens addrs (length lens) + 2
 
 -- ---- where rows begin
 pub total-next : (lens : List ℕ) (g : ℕ) → g < length lens → total (take (suc g) lens) ≡ total (take g lens) + getD lens g 0
@@ -75,67 +78,31 @@ module _ (n : ℕ) (lens addrs : List ℕ) (A : Accepted n lens addrs) (index : 
       ∙ sym (getD-take (getD index (c + 1) 0 - getD index c 0) (drop (getD index c 0) (drop (suc (pOf n lens)) index)) k 0 (omega arith))
       ∙ ap (λ (l : List ℕ). getD l k 0) (laid-in .part c h)
 
-  lacks-of : (u c : ℕ) → c < pOf n lens → Without u (check n lens addrs c) → Lacks (codeIn (pOf n lens) index) u c
-  lacks-of u c h w k q e = let j : k < length (check n lens addrs c) = omega (arith, degree-is c h) in w k j (sym (edge-is c k h j) ∙ e)
-
   hit-of : (u c k : ℕ) → c < pOf n lens → k < degree (codeIn (pOf n lens) index) c → codeIn (pOf n lens) index .rows (codeIn (pOf n lens) index .row-start c + k) ≡ u
       → (k < length (check n lens addrs c)) × (getD (check n lens addrs c) k 0 ≡ u)
   hit-of u c k h q e = let j : k < length (check n lens addrs c) = omega (arith, degree-is c h) in (j, sym (edge-is c k h j) ∙ e)
 
-  -- ---- the rows of the table
-  module _ {starts : List ℕ} {flags busy : List Bool} (w : Worked n lens addrs starts flags busy) where
-    row-is : (g : ℕ) → g < length lens → rowAt starts addrs g ≡ rowOf lens addrs g
-    row-is g h =
-        let a = w .begins g (omega arith) in
-        let b = w .begins (g + 1) (omega arith) in
-        let e : total (take (g + 1) lens) ≡ total (take (suc g) lens) = ap (λ (z : ℕ). total (take z lens)) (add-one g) in
-        let d : getD starts (g + 1) 0 - getD starts g 0 ≡ getD lens g 0 = omega (arith, total-next lens g h) in
-        ap₂ (λ (x y : ℕ). take x (drop y addrs)) d a
-
-    pub rowed : Rowed (kOf lens) (pOf n lens) (qOf n lens) (codeIn (pOf n lens) index) addrs starts
-    unfolding kOf
-    rowed =
-        record {
-          rises = λ g h. let e = ap (λ (z : ℕ). total (take z lens)) (add-one g) in omega (arith, w .begins g (omega arith), w .begins (g + 1) (omega arith), total-next lens g (omega arith));
-          ends = λ g h. omega (arith, w .begins (g + 1) (omega arith), total-within lens (g + 1), A .adds);
-          bits =
-              λ g j h k. record {
-                lacks =
-                    λ c b m. lacks-of (374 * g + j) c b
-                    (bit-without n lens addrs c (374 * g + j) k
-                    (λ e t a f y. let p : e ≡ g = omega arith in let r : j * qOf n lens ≡ t * qOf n lens = ap (λ (z : ℕ). z * qOf n lens) (omega arith) in
-                    subst (λ (z : ℕ). Unmet (pOf n lens) (rowOf lens addrs e) z c) r
-                    (subst (λ (z : ℕ). Unmet (pOf n lens) (rowOf lens addrs z) (j * qOf n lens) c) (sym p)
-                    (subst (λ (z : List ℕ). Unmet (pOf n lens) z (j * qOf n lens) c) (row-is g (omega arith)) m))));
-              };
-          parity =
-              λ y h. record {
-                lacks =
-                    λ c b m. lacks-of (kOf lens + y) c b
-                    (parity-without n lens addrs c y (p-pos n lens addrs A)
-                    (λ e. m 0 (omega arith) (let z : y + 0 ≡ y = omega arith in ap (λ (x : ℕ). x % pOf n lens) z ∙ mod-eq-of-lt h ∙ e))
-                    (λ e. m 1 (omega arith) (let z : y + 1 + 0 ≡ c = omega arith in ap (λ (x : ℕ). x % pOf n lens) z ∙ mod-eq-of-lt b)));
-              };
-          few-bits = omega (arith, n-is n lens addrs A, A .small);
-          few-layers = q-le n lens addrs A;
-        }
-
-    -- ---- an information bit of a row that is not flagged, or in a layer that is not busy
-    module _ (l : ℕ) (h : l < qOf n lens) where
+  module _ {table : List ℕ} (w : Spanned n lens addrs table) where
+    -- ---- an information bit of a row that is not flagged
+    module _ (l : ℕ) (h : l < qOf n lens) {flags : List Bool} {any : Bool} (fl : Flagged table (length lens) (qOf n lens) l (length lens) flags any) where
       check-in : (x : ℕ) → x < 374 → l + x * qOf n lens < pOf n lens
       check-in x k =
           let z : (x + 1) * qOf n lens ≤ 374 * qOf n lens = mul-le-mul-right (qOf n lens) (omega arith) in
           omega (arith, p-is n lens addrs A)
 
-      few-of : (v : ℕ) → v < kOf lens → sharedOf flags (getD busy l false) (kOf lens) (qOf n lens) v ≡ false → countMod (qOf n lens) l (rowOf lens addrs (v / 374)) ≤ 1
+      few-of : (v : ℕ) → v < kOf lens → sharedOf flags v ≡ false → countMod (qOf n lens) l (rowOf lens addrs (v / 374)) ≤ 1
       unfolding kOf
-      few-of v k e = go (decLt 1 (countMod (qOf n lens) l (rowOf lens addrs (v / 374))))
-        where
-          go : Dec (1 < countMod (qOf n lens) l (rowOf lens addrs (v / 374))) → countMod (qOf n lens) l (rowOf lens addrs (v / 374)) ≤ 1
-          go (no m) = omega arith
-          go (yes m) =
-              let b = w .rows (v / 374) l (omega arith) h m in
-              absurd (true-false (sym (ap₂ (λ (s t : Bool). cond s (cond t (getD flags (v / 374) false) (eqb (qOf n lens) 1)) false) (b .1) (lt-ltb v (374 * length lens) k) ∙ b .0) ∙ e))
+      few-of v k e =
+          let g = v / 374 in
+          let i : g < length lens = omega arith in
+          let z : spanAt table l (g + 1) ≡ spanAt table l (suc g) = ap (spanAt table l) (add-one g) in
+          omega (
+            arith,
+            ltb-false (spanAt table l g + 1) (spanAt table l (g + 1)) (sym (fl .of-row g i) ∙ e),
+            w .rows g l (omega arith) h,
+            w .rows (suc g) l (omega arith) h,
+            span-next (qOf n lens) l lens addrs g i,
+          )
 
       -- of a check's list it stands among the information bits
       only-hit : (v c k : ℕ) → v < kOf lens → k < length (check n lens addrs c) → getD (check n lens addrs c) k 0 ≡ v → (k < length (only c (meets n lens addrs))) × (getD (only c (meets n lens addrs)) k 0 ≡ v)
@@ -160,7 +127,7 @@ module _ (n : ℕ) (lens addrs : List ℕ) (A : Accepted n lens addrs) (index : 
             rows-own (qOf n lens) l h v 0 lens addrs (λ g t a b e. let z : v / 374 ≡ g = omega arith in subst (λ (y : ℕ). countMod (qOf n lens) l (rowOf lens addrs y) ≤ 1) z few) (omega arith),
           ))
 
-      bit-once : (v : ℕ) → v < kOf lens → sharedOf flags (getD busy l false) (kOf lens) (qOf n lens) v ≡ false → Once (codeIn (pOf n lens) index) (λ x. l + x * qOf n lens) 374 v
+      bit-once : (v : ℕ) → v < kOf lens → sharedOf flags v ≡ false → Once (codeIn (pOf n lens) index) (λ x. l + x * qOf n lens) 374 v
       bit-once v b e =
           record {
             one = λ x k y j x′ y′ q r f g. let s = hit-of v (l + x * qOf n lens) k (check-in x x′) q f in let t = hit-of v (l + y * qOf n lens) j (check-in y y′) r g in
@@ -205,14 +172,15 @@ module _ (n : ℕ) (lens addrs : List ℕ) (A : Accepted n lens addrs) (index : 
               order (no d) (no f) = let e : x ≡ y = omega arith in (e, within e (decLt k j) (decLt j k))
 
       -- ---- a parity bit, unless q = 1
-      layers-of : (v : ℕ) → kOf lens ≤ v → sharedOf flags (getD busy l false) (kOf lens) (qOf n lens) v ≡ false → 2 ≤ qOf n lens
-      layers-of v b e = go (ℕ-discrete (qOf n lens) 1)
+      layers-of : (v : ℕ) → kOf lens ≤ v → v < n → sharedOf flags v ≡ false → 2 ≤ qOf n lens
+      unfolding kOf
+      layers-of v b i e = go (ℕ-discrete (qOf n lens) 1)
         where
           go : Dec (qOf n lens ≡ 1) → 2 ≤ qOf n lens
           go (no m) = omega (arith, q-pos n lens addrs A)
           go (yes m) =
-              let z : l ≡ 0 = omega arith in
-              absurd (true-false (sym (ap₂ (λ (s t : Bool). cond s (cond t (getD flags (v / 374) false) (eqb (qOf n lens) 1)) false) (ap (λ (y : ℕ). getD busy y false) z ∙ w .alone m) (le-ltb v (kOf lens) b) ∙ eq-eqb (qOf n lens) 1 m) ∙ e))
+              let z : v / 374 ≡ length lens = omega (arith, n-is n lens addrs A, p-is n lens addrs A, m) in
+              absurd (true-false (sym (ap (λ (y : ℕ). getD flags y false) z ∙ fl .of-parity ∙ eq-eqb (qOf n lens) 1 m) ∙ e))
 
       parity-at : (y c k : ℕ) → c < pOf n lens → (k < length (check n lens addrs c)) × (getD (check n lens addrs c) k 0 ≡ kOf lens + y) → (y ≡ c → ⊥) → y + 1 ≡ c
       parity-at y c k b s d = go (ℕ-discrete (y + 1) c)
@@ -221,8 +189,8 @@ module _ (n : ℕ) (lens addrs : List ℕ) (A : Accepted n lens addrs) (index : 
           go (yes e) = e
           go (no e) = absurd (parity-without n lens addrs c y (p-pos n lens addrs A) d e k (s .0) (s .1))
 
-      parity-once-in : (v : ℕ) → kOf lens ≤ v → sharedOf flags (getD busy l false) (kOf lens) (qOf n lens) v ≡ false → Once (codeIn (pOf n lens) index) (λ x. l + x * qOf n lens) 374 v
-      parity-once-in v b e =
+      parity-once-in : (v : ℕ) → kOf lens ≤ v → v < n → sharedOf flags v ≡ false → Once (codeIn (pOf n lens) index) (λ x. l + x * qOf n lens) 374 v
+      parity-once-in v b i e =
           record {
             one = λ x k z j x′ z′ q r f g.
                 let s = subst (λ (u : ℕ). (k < length (check n lens addrs (l + x * qOf n lens))) × (getD (check n lens addrs (l + x * qOf n lens)) k 0 ≡ u)) (sym v-is) (hit-of v (l + x * qOf n lens) k (check-in x x′) q f) in
@@ -237,7 +205,7 @@ module _ (n : ℕ) (lens addrs : List ℕ) (A : Accepted n lens addrs) (index : 
           v-is = omega arith
 
           two : 2 ≤ qOf n lens
-          two = layers-of v b e
+          two = layers-of v b i e
 
           done : (x k z j : ℕ) → x < 374 → z < 374 → (k < length (check n lens addrs (l + x * qOf n lens))) × (getD (check n lens addrs (l + x * qOf n lens)) k 0 ≡ kOf lens + y)
               → (j < length (check n lens addrs (l + z * qOf n lens))) × (getD (check n lens addrs (l + z * qOf n lens)) j 0 ≡ kOf lens + y) → l + x * qOf n lens ≡ l + z * qOf n lens → (x ≡ z) × (k ≡ j)
@@ -255,14 +223,137 @@ module _ (n : ℕ) (lens addrs : List ℕ) (A : Accepted n lens addrs) (index : 
           both x k z j x′ z′ s t (no c) (yes d) = absurd (beside (qOf n lens) l z x two (ap (λ (u : ℕ). u + 1) (sym d) ∙ parity-at y (l + x * qOf n lens) k (check-in x x′) s c))
           both x k z j x′ z′ s t (no c) (no d) = done x k z j x′ z′ s t (sym (parity-at y (l + x * qOf n lens) k (check-in x x′) s c) ∙ parity-at y (l + z * qOf n lens) j (check-in z z′) t d)
 
+      -- ---- the edges of a row in a check's list
+      module _ (x k : ℕ) (x′ : x < 374) where
+        abbrev c : ℕ
+        c = l + x * qOf n lens
+
+        c-mod : c % qOf n lens ≡ l
+        c-mod = add-mul-mod-self-right l x (qOf n lens) ∙ mod-eq-of-lt h
+
+        c-in : c < 374 * qOf n lens
+        c-in = subst (λ (z : ℕ). c < z) (p-is n lens addrs A) (check-in x x′)
+
+        abbrev bits : List ℕ
+        bits = only c (meets n lens addrs)
+
+        bits-is : bits ≡ only c (ofRows (374 * qOf n lens) (qOf n lens) 0 (rowsOf lens addrs))
+        unfolding meets
+        bits-is = ap (λ (P : ℕ). only c (ofRows P (qOf n lens) 0 (rowsOf lens addrs))) (p-is n lens addrs A)
+
+        span-is : (g : ℕ) → g ≤ length lens → spanAt table l g ≡ spanOf (qOf n lens) (c % qOf n lens) lens addrs g
+        span-is g i = w .rows g l i h ∙ ap (λ (z : ℕ). spanOf (qOf n lens) z lens addrs g) (sym c-mod)
+
+        count : length bits ≡ spanAt table l (length lens)
+        count = met-by n lens addrs A c (check-in x x′) ∙ sym (span-is (length lens) (omega arith) ∙ span-all (qOf n lens) (c % qOf n lens) lens addrs (A .adds))
+
+        span-below : (g : ℕ) → g ≤ length lens → spanAt table l g ≤ length bits
+        span-below g i = omega (arith, span-is g i, span-within (qOf n lens) (c % qOf n lens) lens addrs g, met-by n lens addrs A c (check-in x x′))
+
+        row-below : (g : ℕ) → g ≤ length lens → k < spanAt table l g → getD (check n lens addrs c) k 0 < 374 * g
+        unfolding check
+        row-below g i r =
+            let j : k < length bits = omega (arith, span-below g i) in
+            omega (
+              arith,
+              List·getD-append bits (stairs (kOf lens) c) 0 k j,
+              ap (λ (z : List ℕ). getD z k 0) bits-is,
+              groups-below (qOf n lens) c (q-pos n lens addrs A) c-in 0 lens addrs g k (omega (arith, span-is g i)) (omega (arith, ap length bits-is)),
+            )
+
+        row-from : (g : ℕ) → g ≤ length lens → k < length (check n lens addrs c) → spanAt table l g ≤ k → 374 * g ≤ getD (check n lens addrs c) k 0
+        unfolding check kOf
+        row-from g i q r = go (decLt k (length bits))
+          where
+            go : Dec (k < length bits) → 374 * g ≤ getD (bits ++ stairs (374 * length lens) c) k 0
+            go (yes j) =
+                omega (
+                  arith,
+                  List·getD-append bits (stairs (374 * length lens) c) 0 k j,
+                  ap (λ (z : List ℕ). getD z k 0) bits-is,
+                  groups-from (qOf n lens) c (q-pos n lens addrs A) c-in 0 lens addrs g k i (omega (arith, span-is g i)) (omega (arith, ap length bits-is)),
+                )
+            go (no j) =
+                let b = length bits in
+                let z : b + (k - b) ≡ k = omega arith in
+                omega (
+                  arith,
+                  getD-append-add bits (stairs (374 * length lens) c) (k - b) 0,
+                  ap (λ (y : ℕ). getD (bits ++ stairs (374 * length lens) c) y 0) z,
+                  stairs-from (374 * length lens) c (k - b) (omega (arith, length-append bits (stairs (374 * length lens) c))),
+                )
+
+        -- of a flagged row
+        fits-of : (g : ℕ) → getD flags g false ≡ true → (spanAt table l g ≤ length (check n lens addrs c)) × (spanAt table l g ≤ spanAt table l (g + 1))
+        unfolding check
+        fits-of g e = go (decLt g (length lens)) (ℕ-discrete g (length lens))
+          where
+            go : Dec (g < length lens) → Dec (g ≡ length lens) → (spanAt table l g ≤ length (bits ++ stairs (kOf lens) c)) × (spanAt table l g ≤ spanAt table l (g + 1))
+            go (yes i) d =
+                let y = ap (spanOf (qOf n lens) l lens addrs) (add-one g) in (
+                  omega (arith, span-below g (omega arith), length-append bits (stairs (kOf lens) c)),
+                  omega (arith, w .rows g l (omega arith) h, w .rows (g + 1) l (omega arith) h, span-next (qOf n lens) l lens addrs g i),
+                )
+            go (no i) (yes d) =
+                let y = ap (λ (j : ℕ). spanAt table l (j + 1)) d in
+                let z = ap (spanAt table l) d in (
+                  omega (arith, span-below g (omega arith), length-append bits (stairs (kOf lens) c)),
+                  omega (arith, w .parity l h, w .rows (length lens) l (omega arith) h),
+                )
+            go (no i) (no d) = absurd (true-false (sym e ∙ fl .others g (omega arith) d))
+
+        split-of : (g v : ℕ) → getD flags g false ≡ true → k < length (check n lens addrs c) → getD (check n lens addrs c) k 0 ≡ v → v < n → Split (spanAt table l g) (spanAt table l (g + 1)) (374 * g) k v
+        unfolding kOf
+        split-of g v e q f b = go (decLt g (length lens)) (ℕ-discrete g (length lens))
+          where
+            go : Dec (g < length lens) → Dec (g ≡ length lens) → Split (spanAt table l g) (spanAt table l (g + 1)) (374 * g) k v
+            go (yes i) d =
+                record {
+                  before = λ r. omega (arith, row-below g (omega arith) r);
+                  from = λ r. omega (arith, row-from g (omega arith) q r);
+                  upto = λ r. omega (arith, row-below (g + 1) (omega arith) r);
+                  behind = λ r. omega (arith, row-from (g + 1) (omega arith) q r);
+                }
+            go (no i) (yes d) =
+                let one : qOf n lens ≡ 1 = eqb-true (qOf n lens) 1 (sym (fl .of-parity) ∙ ap (λ (y : ℕ). getD flags y false) (sym d) ∙ e) in
+                let z = ap (λ (y : ℕ). spanAt table l (y + 1)) d in
+                record {
+                  before = λ r. omega (arith, row-below g (omega arith) r);
+                  from = λ r. omega (arith, row-from g (omega arith) q r);
+                  upto = λ r. omega (arith, n-is n lens addrs A, p-is n lens addrs A);
+                  behind = λ r. absurd (omega (arith, w .parity l h, w .rows (length lens) l (omega arith) h, count, check-length n lens addrs c, q, span-is (length lens) (omega arith)));
+                }
+            go (no i) (no d) = absurd (true-false (sym e ∙ fl .others g (omega arith) d))
+
       -- ---- so a layer's runs may count on it
-      pub shares : Shares (kOf lens) (pOf n lens) (qOf n lens) (codeIn (pOf n lens) index) l 374 addrs starts flags (getD busy l false)
+      pub shares : Shares n (qOf n lens) (codeIn (pOf n lens) index) l 374 l table flags
+      unfolding kOf
       shares =
           record {
-            rowed = rowed;
-            once = λ v e. go v e (decLt v (kOf lens));
+            once = λ v e. go v e (decLt v (kOf lens)) (decLt v n);
+            low = λ g e. below g e (decLt g (length lens)) (ℕ-discrete g (length lens));
+            fits = λ g e x a. let f = fits-of x 0 a g e in (omega (arith, f .0, degree-is (l + x * qOf n lens) (check-in x a)), f .1);
+            split = λ g e x k a b.
+                let v = codeIn (pOf n lens) index .rows (codeIn (pOf n lens) index .row-start (l + x * qOf n lens) + k) in
+                let s = hit-of v (l + x * qOf n lens) k (check-in x a) b refl in
+                split-of x k a g v e (s .0) (s .1) (lists .variables _ (in-lists (l + x * qOf n lens) k (check-in x a) b));
           }
         where
-          go : (v : ℕ) → sharedOf flags (getD busy l false) (kOf lens) (qOf n lens) v ≡ false → Dec (v < kOf lens) → Once (codeIn (pOf n lens) index) (λ x. l + x * qOf n lens) 374 v
-          go v e (yes b) = bit-once v b e
-          go v e (no b) = parity-once-in v (omega arith) e
+          lists : Lists n (pOf n lens) index
+          lists = lists-in n lens addrs A index is
+
+          in-lists : (c k : ℕ) → c < pOf n lens → k < degree (codeIn (pOf n lens) index) c → codeIn (pOf n lens) index .row-start c + k < edgesIn (pOf n lens) index
+          in-lists c k a b =
+              omega (arith, start-in (pOf n lens) index c (omega arith), degree-in (pOf n lens) index c (getD index c 0) (getD index (c + 1) 0 - getD index c 0) a refl (omega (arith, lists .ascend c a)), lists .ascend c a, lists .within (c + 1) (omega arith))
+
+          go : (v : ℕ) → sharedOf flags v ≡ false → Dec (v < kOf lens) → Dec (v < n) → Once (codeIn (pOf n lens) index) (λ x. l + x * qOf n lens) 374 v
+          go v e (yes b) d = bit-once v b e
+          go v e (no b) (yes d) = parity-once-in v (omega arith) d e
+          go v e (no b) (no d) =
+              record { one = λ x k y j x′ y′ q r f g. absurd (omega (arith, lists .variables (codeIn (pOf n lens) index .row-start (l + x * qOf n lens) + k) (in-lists (l + x * qOf n lens) k (check-in x x′) q), f, d)) }
+
+          below : (g : ℕ) → getD flags g false ≡ true → Dec (g < length lens) → Dec (g ≡ length lens) → 374 * g + 374 ≤ n
+          below g e (yes i) d = omega (arith, n-is n lens addrs A)
+          below g e (no i) (yes d) =
+              omega (arith, n-is n lens addrs A, p-is n lens addrs A, eqb-true (qOf n lens) 1 (sym (fl .of-parity) ∙ ap (λ (y : ℕ). getD flags y false) (sym d) ∙ e))
+          below g e (no i) (no d) = absurd (true-false (sym e ∙ fl .others g (omega arith) d))

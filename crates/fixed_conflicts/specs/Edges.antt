@@ -1,4 +1,4 @@
--- A check's list has a bit only if one of the addresses of the bit's row meets the check; a parity bit is in two checks.
+-- A check's list and its parity bits: each is in two checks, once.
 use mathlib.Core.Path.{_≡_, refl, sym, ap, ap₂, _∙_, subst}
 use mathlib.Core.Bool.{Bool, true, false, cond}
 use mathlib.Core.List.{List, [], _∷_, _++_}
@@ -11,9 +11,8 @@ use lib.Dec.{eqb}
 use lib.ListN.{length, take, drop, getD, length-append, List·getD-append}
 use lib.Seq.{getD-append-add, drop-drop}
 use Rattle.ldpc_shape.specs.Shape.{kOf, pOf, qOf, rowsOf, total}
-use Rattle.ldpc_edges.specs.Code.{Edge, edge, met, ofBits, ofRows, meets, only, stairs, check}
+use Rattle.ldpc_edges.specs.Code.{Edge, edge, meets, only, stairs, check}
 use Rattle.ldpc_edges.specs.Inside.{Inside, meets-inside}
-use Rattle.fixed_conflicts.specs.Table.{Unmet}
 
 -- the list has no u
 abbrev pub Without : ℕ → List ℕ → Type 0
@@ -47,21 +46,6 @@ only-without c u (edge p m ∷ es) h k q e = go (eqb p c) refl k q e (only-witho
     go true s (suc k) q e ih = ih k (omega arith) e
     go false s k q e ih = ih k q e
 
--- ---- the edges of the information bits
-met-free : (P q c u m j : ℕ) (row : List ℕ) → (m ≡ u → Unmet P row (j * q) c) → Free c u (met P q m j row)
-unfolding met
-met-free P q c u m j [] h = tt
-met-free P q c u m j (a ∷ row) h = (λ e f. h f 0 (omega arith) e, met-free P q c u m j row (λ f i l. h f (suc i) (omega arith)))
-
-bits-free : (P q c u d m j : ℕ) (row : List ℕ) → ((t : ℕ) → t < d → m + t ≡ u → Unmet P row ((j + t) * q) c) → Free c u (ofBits P q d m j row)
-unfolding ofBits
-bits-free P q c u zero m j row h = tt
-bits-free P q c u (suc d) m j row h =
-    free-append c u (met P q m j row) (ofBits P q d (suc m) (suc j) row)
-    (met-free P q c u m j row (λ e. let z : j + 0 ≡ j = omega arith in subst (λ (y : ℕ). Unmet P row (y * q) c) z (h 0 (omega arith) (omega arith))))
-    (bits-free P q c u d (suc m) (suc j) row
-    (λ t l e. let z : j + suc t ≡ suc j + t = omega arith in subst (λ (y : ℕ). Unmet P row (y * q) c) z (h (suc t) (omega arith) (omega arith))))
-
 -- row g: its addresses begin where those of the rows before it end
 abbrev pub rowOf : List ℕ → List ℕ → ℕ → List ℕ
 rowOf lens addrs g = take (getD lens g 0) (drop (total (take g lens)) addrs)
@@ -69,15 +53,6 @@ rowOf lens addrs g = take (getD lens g 0) (drop (total (take g lens)) addrs)
 pub row-next : (l : ℕ) (lens addrs : List ℕ) (g : ℕ) → rowOf (l ∷ lens) addrs (suc g) ≡ rowOf lens (drop l addrs) g
 unfolding total
 row-next l lens addrs g = ap (take (getD lens g 0)) (sym (drop-drop (total (take g lens)) l addrs))
-
-rows-free : (P q c u m : ℕ) (lens addrs : List ℕ) → ((g t : ℕ) → g < length lens → t < 374 → m + (374 * g + t) ≡ u → Unmet P (rowOf lens addrs g) (t * q) c) → Free c u (ofRows P q m (rowsOf lens addrs))
-unfolding ofRows rowsOf total
-rows-free P q c u m [] addrs h = tt
-rows-free P q c u m (l ∷ lens) addrs h =
-    free-append c u (ofBits P q 374 m 0 (take l addrs)) (ofRows P q (m + 374) (rowsOf lens (drop l addrs)))
-    (bits-free P q c u 374 m 0 (take l addrs) (λ t b e. let z : t ≡ 0 + t = omega arith in subst (λ (y : ℕ). Unmet P (take l addrs) (y * q) c) z (h 0 t (omega arith) b (omega arith))))
-    (rows-free P q c u (m + 374) lens (drop l addrs)
-    (λ g t a b e. subst (λ (r : List ℕ). Unmet P r (t * q) c) (row-next l lens addrs g) (h (suc g) t (omega arith) b (omega arith))))
 
 -- ---- parity bits
 pub stairs-below : (k c u : ℕ) → u < k → Without u (stairs k c)
@@ -87,6 +62,19 @@ stairs-below k zero u h (suc i) q e = omega arith
 stairs-below k (suc c) u h zero q e = omega arith
 stairs-below k (suc c) u h (suc zero) q e = omega arith
 stairs-below k (suc c) u h (suc (suc i)) q e = omega arith
+
+pub stairs-from : (k c i : ℕ) → i < length (stairs k c) → k ≤ getD (stairs k c) i 0
+unfolding stairs
+stairs-from k zero zero q = omega arith
+stairs-from k zero (suc i) q = absurd (omega (arith, q))
+stairs-from k (suc c) zero q = omega arith
+stairs-from k (suc c) (suc zero) q = omega arith
+stairs-from k (suc c) (suc (suc i)) q = absurd (omega (arith, q))
+
+stairs-few : (k c : ℕ) → length (stairs k c) ≤ 2
+unfolding stairs
+stairs-few k zero = omega arith
+stairs-few k (suc c) = omega arith
 
 stairs-off : (k c y : ℕ) → (y ≡ c → ⊥) → (y + 1 ≡ c → ⊥) → Without (k + y) (stairs k c)
 unfolding stairs
@@ -114,12 +102,9 @@ inside-free P k c u (edge p m ∷ es) h I = (λ e f. omega (arith, I .1), inside
 
 -- ---- a check's list
 module _ (n : ℕ) (lens addrs : List ℕ) where
-  pub bit-without : (c u : ℕ) → u < kOf lens → ((g t : ℕ) → g < length lens → t < 374 → 374 * g + t ≡ u → Unmet (pOf n lens) (rowOf lens addrs g) (t * qOf n lens) c) → Without u (check n lens addrs c)
-  unfolding check meets
-  bit-without c u h k =
-      without-append u (only c (meets n lens addrs)) (stairs (kOf lens) c)
-      (only-without c u (meets n lens addrs) (rows-free (pOf n lens) (qOf n lens) c u 0 lens addrs (λ g t a b e. k g t a b (omega arith))))
-      (stairs-below (kOf lens) c u h)
+  pub check-length : (c : ℕ) → length (check n lens addrs c) ≤ length (only c (meets n lens addrs)) + 2
+  unfolding check
+  check-length c = omega (arith, length-append (only c (meets n lens addrs)) (stairs (kOf lens) c), stairs-few (kOf lens) c)
 
   pub parity-without : (c y : ℕ) → 0 < pOf n lens → (y ≡ c → ⊥) → (y + 1 ≡ c → ⊥) → Without (kOf lens + y) (check n lens addrs c)
   unfolding check

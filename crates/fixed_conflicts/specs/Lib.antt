@@ -2,5 +2,6 @@
 pub mod Table
 pub mod Edges
 pub mod Count
+pub mod Spans
 pub mod Conflicts
 pub mod Marks

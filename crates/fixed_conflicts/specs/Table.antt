@@ -1,125 +1,100 @@
--- Which checks can have an edge of a variable, and which variables can have several edges in a run.
+-- Which variables can have several edges in a run, and where the edges of their rows stand in its checks.
 use mathlib.Core.Path.{_≡_, refl, sym, ap, _∙_, subst}
-use mathlib.Core.Bool.{Bool, true, false, cond}
-use mathlib.Core.List.{List, [], _∷_}
+use mathlib.Core.Bool.{Bool, true, false, cond, _||_}
+use mathlib.Core.List.{List}
 use Prim.Native.Nat.{ℕ, zero, suc, _+_, _*_, _-_, _/_, _%_, _≤_, _<_}
 use native.Mathlib.Omega.{arith}
-use native.Mathlib.Nat.{add-mul-mod-self-right, add-mul-div-right, zero-mod, zero-div, mul-le-mul-right}
-use borrow.Author.Count.{below-more}
+use native.Mathlib.Decide.{ℕ-discrete}
 use lib.Dec.{eqb, ltb}
-use lib.ListN.{getD, length, take, drop}
+use lib.ListN.{getD, set, length, replicate, length-set}
+use lib.Seq.{getD-set-same, getD-set-other}
 use Rattle.lane_math.specs.Iteration.{Code, degree}
-
--- check c has no edge of variable u
-abbrev pub Lacks : Code → ℕ → ℕ → Type 0
-Lacks code u c = (k : ℕ) → k < degree code c → code .rows (code .row-start c + k) ≡ u → ⊥
-
--- none of the row's addresses, each `shift` further on, meets check c
-abbrev pub Unmet : ℕ → List ℕ → ℕ → ℕ → Type 0
-Unmet p row shift c = (i : ℕ) → i < length row → (getD row i 0 + shift) % p ≡ c → ⊥
-
--- every check with an edge of u is met by one of the row's addresses
-pub record Covers (code : Code) (p u : ℕ) (row : List ℕ) (shift : ℕ) : Type 0 where
-  pub lacks : (c : ℕ) → c < p → Unmet p row shift c → Lacks code u c
 
 -- variable u has one edge at most among the run's m checks
 pub record Once (code : Code) (c : ℕ → ℕ) (m u : ℕ) : Type 0 where
   pub one : (x k y l : ℕ) → x < m → y < m → k < degree code (c x) → l < degree code (c y)
       → code .rows (code .row-start (c x) + k) ≡ u → code .rows (code .row-start (c y) + l) ≡ u → (x ≡ y) × (k ≡ l)
 
--- ---- the next check of a run that the row's addresses meet: y, of those from x on; the first i addresses looked at
-pub record Next (p : ℕ) (row : List ℕ) (shift first q x m i y : ℕ) : Type 0 where
-  pub from : x ≤ y
-  pub upto : y ≤ m
-  pub none : (w : ℕ) → x ≤ w → w < y → (j : ℕ) → j < i → (getD row j 0 + shift) % p ≡ first + w * q → ⊥
+-- where row g's edges begin in the checks of layer l
+abbrev pub spanAt : List ℕ → ℕ → ℕ → ℕ
+spanAt table l g = getD table (g * 120 + l) 0
 
-pub next-start : (p : ℕ) (row : List ℕ) (shift first q x m : ℕ) → x ≤ m → Next p row shift first q x m 0 m
-next-start p row shift first q x m h = record { from = h; upto = omega arith; none = λ w a b j k. absurd (omega (arith, k)) }
+-- a variable of a row that is flagged
+abbrev pub sharedOf : List Bool → ℕ → Bool
+sharedOf flags v = getD flags (v / 374) false
 
--- one address more: y is lowered to the address's check if that lies in between
-pub next-again : {p : ℕ} {row : List ℕ} {shift first q x m i y y′ : ℕ} → Next p row shift first q x m i y → x ≤ y′ → y′ ≤ y
-    → ((w : ℕ) → x ≤ w → w < y′ → (getD row i 0 + shift) % p ≡ first + w * q → ⊥) → Next p row shift first q x m (i + 1) y′
-next-again {p} {row} {shift} {first} {q} {x} {m} {i} {y} {y′} v h k no′ =
+-- edge k of a check is of variable v: of the row of 374 variables from base on if k is from a up to b, else of one before or behind them
+pub record Split (a b base k v : ℕ) : Type 0 where
+  pub before : k < a → v < base
+  pub from : a ≤ k → base ≤ v
+  pub upto : k < b → v < base + 374
+  pub behind : b ≤ k → base + 374 ≤ v
+
+-- What a run of layer l may count on: a variable whose row is not flagged has one edge in it; the edges of a flagged row stand together in each check.
+pub record Shares (n q : ℕ) (code : Code) (first m l : ℕ) (table : List ℕ) (flags : List Bool) : Type 0 where
+  pub once : (v : ℕ) → sharedOf flags v ≡ false → Once code (λ x. first + x * q) m v
+  pub low : (g : ℕ) → getD flags g false ≡ true → 374 * g + 374 ≤ n
+  pub fits : (g : ℕ) → getD flags g false ≡ true → (x : ℕ) → x < m → (spanAt table l g ≤ degree code (first + x * q)) × (spanAt table l g ≤ spanAt table l (g + 1))
+  pub split : (g : ℕ) → getD flags g false ≡ true → (x k : ℕ) → x < m → k < degree code (first + x * q)
+      → Split (spanAt table l g) (spanAt table l (g + 1)) (374 * g) k (code .rows (code .row-start (first + x * q) + k))
+
+-- ---- the flags of a layer, as they are set: the first k rows
+pub record Flagged (table : List ℕ) (rows q l k : ℕ) (flags : List Bool) (any : Bool) : Type 0 where
+  pub long : length flags ≡ 120
+  pub of-row : (g : ℕ) → g < k → getD flags g false ≡ ltb (spanAt table l g + 1) (spanAt table l (g + 1))
+  pub of-parity : getD flags rows false ≡ eqb q 1
+  pub others : (g : ℕ) → k ≤ g → (g ≡ rows → ⊥) → getD flags g false ≡ false
+  pub none : any ≡ false → (g : ℕ) → getD flags g false ≡ false
+
+pub zeros : (m g : ℕ) → getD (replicate m false) g false ≡ false
+zeros zero g = refl
+zeros (suc m) zero = refl
+zeros (suc m) (suc g) = zeros m g
+
+or-false : (a b : Bool) → (a || b) ≡ false → (a ≡ false) × (b ≡ false)
+or-false true b e = (e, go b e)
+  where
+    go : (b : Bool) → true ≡ false → b ≡ false
+    go true e = e
+    go false e = refl
+or-false false b e = (refl, e)
+
+pub flagged-start : (table : List ℕ) (rows q l : ℕ) (flags : List Bool) (any : Bool) → length flags ≡ 120 → rows < 120 → ((g : ℕ) → getD flags g false ≡ false) → any ≡ eqb q 1
+    → Flagged table rows q l 0 (set flags rows any) any
+flagged-start table rows q l flags any long few zeros e =
     record {
-      from = h;
-      upto = omega (arith, v .upto);
-      none = λ w a b. below-more (λ (j : ℕ). (getD row j 0 + shift) % p ≡ first + w * q → ⊥) i (λ j c. v .none w a (omega arith) j c) (no′ w a b);
+      long = simp length-set long;
+      of-row = λ g h. absurd (omega (arith, h));
+      of-parity = getD-set-same flags rows any false (omega arith) ∙ e;
+      others = λ g h k. getD-set-other flags rows g any false k ∙ zeros g;
+      none = λ f g. go f g (ℕ-discrete g rows);
     }
+  where
+    go : any ≡ false → (g : ℕ) → Dec (g ≡ rows) → getD (set flags rows any) g false ≡ false
+    go f g (yes r) = ap (λ (j : ℕ). getD (set flags rows any) j false) r ∙ getD-set-same flags rows any false (omega arith) ∙ f
+    go f g (no r) = getD-set-other flags rows g any false r ∙ zeros g
 
--- what is left of x .. y below the check c
-pub record Nearest (c first q x y r : ℕ) : Type 0 where
-  pub from : x ≤ r
-  pub upto : r ≤ y
-  pub none : (w : ℕ) → x ≤ w → w < r → c ≡ first + w * q → ⊥
+pub flagged-again : {table : List ℕ} {rows q l k : ℕ} {flags : List Bool} {any any′ many : Bool} → Flagged table rows q l k flags any → k < rows → rows < 120
+    → many ≡ ltb (spanAt table l k + 1) (spanAt table l (k + 1)) → any′ ≡ (any || many) → Flagged table rows q l (k + 1) (set flags k many) any′
+flagged-again {table} {rows} {q} {l} {k} {flags} {any} {any′} {many} v h few e f =
+    record {
+      long = simp length-set (v .long);
+      of-row = λ g r. row g r (ℕ-discrete g k);
+      of-parity = getD-set-other flags k rows many false (λ r. omega arith) ∙ v .of-parity;
+      others = λ g r s. getD-set-other flags k g many false (λ t. omega arith) ∙ v .others g (omega arith) s;
+      none = λ r g. let o = or-false any many (sym f ∙ r) in all (o .0) (o .1) g (ℕ-discrete g k);
+    }
+  where
+    same : getD (set flags k many) k false ≡ many
+    same = getD-set-same flags k many false (omega (arith, v .long))
 
-module _ (c first q : ℕ) (pos : 0 < q) where
-  number : (w : ℕ) → c ≡ first + w * q → ((c - first) % q ≡ 0) × ((c - first) / q ≡ w)
-  number w e =
-      let d : c - first ≡ 0 + w * q = omega arith in (
-        ap (λ (z : ℕ). z % q) d ∙ add-mul-mod-self-right 0 w q ∙ zero-mod q,
-        ap (λ (z : ℕ). z / q) d ∙ add-mul-div-right 0 w pos ∙ (let z = zero-div q in omega arith),
-      )
+    row : (g : ℕ) → g < k + 1 → Dec (g ≡ k) → getD (set flags k many) g false ≡ ltb (spanAt table l g + 1) (spanAt table l (g + 1))
+    row g r (yes s) = subst (λ (j : ℕ). getD (set flags k many) j false ≡ ltb (spanAt table l j + 1) (spanAt table l (j + 1))) (sym s) (same ∙ e)
+    row g r (no s) = getD-set-other flags k g many false s ∙ v .of-row g (omega arith)
 
-  module _ (x y : ℕ) (h : x ≤ y) where
-    pub nearest-not : ((c - first) % q ≡ 0 → ⊥) → Nearest c first q x y y
-    nearest-not k = record { from = h; upto = omega arith; none = λ w a b e. k (number w e .0) }
+    all : any ≡ false → many ≡ false → (g : ℕ) → Dec (g ≡ k) → getD (set flags k many) g false ≡ false
+    all a b g (yes s) = ap (λ (j : ℕ). getD (set flags k many) j false) s ∙ same ∙ b
+    all a b g (no s) = getD-set-other flags k g many false s ∙ v .none a g
 
-    pub nearest-before : c < first → Nearest c first q x y y
-    nearest-before k = record { from = h; upto = omega arith; none = λ w a b e. omega arith }
-
-    pub nearest-below : (c - first) / q < x → Nearest c first q x y y
-    nearest-below k = record { from = h; upto = omega arith; none = λ w a b e. omega (arith, number w e .1) }
-
-    pub nearest-here : x ≤ (c - first) / q → (c - first) / q < y → Nearest c first q x y ((c - first) / q)
-    nearest-here k l = record { from = k; upto = omega arith; none = λ w a b e. omega (arith, number w e .1) }
-
-    pub nearest-behind : y ≤ (c - first) / q → Nearest c first q x y y
-    nearest-behind k = record { from = h; upto = omega arith; none = λ w a b e. omega (arith, number w e .1) }
-
-pub next-nearest : {p : ℕ} {row : List ℕ} {shift first q x m i y y′ c : ℕ} → Next p row shift first q x m i y → c ≡ (getD row i 0 + shift) % p → Nearest c first q x y y′ → Next p row shift first q x m (i + 1) y′
-next-nearest {p} {row} {shift} {first} {q} {x} {m} {i} {y} {y′} {c} v e k =
-    next-again v (k .from) (k .upto) (λ w a b f. k .none w a b (e ∙ f))
-
-pub next-end : {p : ℕ} {row : List ℕ} {shift first q x m i y : ℕ} → i ≡ length row → Next p row shift first q x m i y → Next p row shift first q x m (length row) y
-next-end {p} {row} {shift} {first} {q} {x} {m} {i} {y} e v = subst (λ (j : ℕ). Next p row shift first q x m j y) e v
-
--- ---- what is worked out of the addresses: where each row's addresses begin, and whether a variable can have several edges in a run
-abbrev pub rowAt : List ℕ → List ℕ → ℕ → List ℕ
-rowAt starts addrs g = take (getD starts (g + 1) 0 - getD starts g 0) (drop (getD starts g 0) addrs)
-
--- a row with two addresses equal modulo q, in a layer in which a row has such; and a parity bit if q = 1
-abbrev pub sharedOf : List Bool → Bool → ℕ → ℕ → ℕ → Bool
-sharedOf flags busy k q v = cond busy (cond (ltb v k) (getD flags (v / 374) false) (eqb q 1)) false
-
-pub record Rowed (k p q : ℕ) (code : Code) (addrs starts : List ℕ) : Type 0 where
-  pub rises : (g : ℕ) → 374 * g < k → getD starts g 0 ≤ getD starts (g + 1) 0
-  pub ends : (g : ℕ) → 374 * g < k → getD starts (g + 1) 0 ≤ length addrs
-  pub bits : (g j : ℕ) → j < 374 → 374 * g + j < k → Covers code p (374 * g + j) (rowAt starts addrs g) (j * q)
-  pub parity : (y : ℕ) → y < p → Covers code p (k + y) (y ∷ (y + 1) ∷ []) 0
-  pub few-bits : k ≤ 44880
-  pub few-layers : q ≤ 120
-
-pub record Shares (k p q : ℕ) (code : Code) (first m : ℕ) (addrs starts : List ℕ) (flags : List Bool) (busy : Bool) : Type 0 where
-  pub rowed : Rowed k p q code addrs starts
-  pub once : (v : ℕ) → sharedOf flags busy k q v ≡ false → Once code (λ x. first + x * q) m v
-
--- of one variable
-module _ {k p q : ℕ} {code : Code} {addrs starts : List ℕ} (r : Rowed k p q code addrs starts) (v : ℕ) where
-  pub shift-small : (v - 374 * (v / 374)) * q ≤ 44880
-  shift-small = let z : (v - 374 * (v / 374)) * q ≤ 374 * q = mul-le-mul-right q (omega arith) in omega (arith, r .few-layers)
-
-  pub bit-covers : v < k → Covers code p v (rowAt starts addrs (v / 374)) ((v - 374 * (v / 374)) * q)
-  bit-covers h =
-      let e : 374 * (v / 374) + (v - 374 * (v / 374)) ≡ v = omega arith in
-      subst (λ (u : ℕ). Covers code p u (rowAt starts addrs (v / 374)) ((v - 374 * (v / 374)) * q)) e (r .bits (v / 374) (v - 374 * (v / 374)) (omega arith) (omega arith))
-
-  pub row-rises : v < k → getD starts (v / 374) 0 ≤ getD starts (v / 374 + 1) 0
-  row-rises h = r .rises (v / 374) (omega arith)
-
-  pub row-ends : v < k → getD starts (v / 374 + 1) 0 ≤ length addrs
-  row-ends h = r .ends (v / 374) (omega arith)
-
-  pub parity-covers : k ≤ v → v < k + p → Covers code p v ((v - k) ∷ (v - k + 1) ∷ []) 0
-  parity-covers h l =
-      let e : k + (v - k) ≡ v = omega arith in
-      subst (λ (u : ℕ). Covers code p u ((v - k) ∷ (v - k + 1) ∷ []) 0) e (r .parity (v - k) (omega arith))
+pub flagged-end : {table : List ℕ} {rows q l k : ℕ} {flags : List Bool} {any : Bool} → k ≡ rows → Flagged table rows q l k flags any → Flagged table rows q l rows flags any
+flagged-end {table} {rows} {q} {l} {k} {flags} {any} e v = subst (λ (j : ℕ). Flagged table rows q l j flags any) e v

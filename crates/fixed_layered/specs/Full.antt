@@ -1,10 +1,11 @@
 -- The layered iteration of ONE word with its scratch rows: the t and the old messages of a run's edges stand one check after the other
 -- from row 0 of their part on, over what earlier runs left there.
 use mathlib.Core.Path.{_≡_, refl, sym, ap, _∙_}
+use mathlib.Core.Bool.{Bool, cond}
 use Prim.Native.Nat.{ℕ, zero, suc, _+_, _*_, _-_, _/_, min}
 use lib.IntN.{ℤ}
 use Rattle.lane_math.specs.Check.{Word, wrote, tOf}
-use Rattle.lane_math.specs.Iteration.{Code, degree, runR, run, runs, layers, inRun, runCount}
+use Rattle.lane_math.specs.Iteration.{Code, degree, Run, gatherRun, settle, runOf, runR, run, runs, layers, inRun, runCount}
 use Rattle.simd.specs.Words.{within, wordOf}
 use Rattle.lane_memory.specs.Column.{column}
 use mathlib.Core.List.{List}
@@ -31,17 +32,22 @@ tSent o code c w i = tOf (code .rows) (code .row-start (c i)) (w .L) (runR o cod
 abbrev pub oldSent : ℤ → Code → (ℕ → ℕ) → Word → ℕ → ℕ → ℤ
 oldSent o code c w i k = runR o code c (w .L) (w .r) i (code .row-start (c i) + k)
 
--- the messages of a run's first m checks
-abbrev pub sentFull : ℤ → Code → (ℕ → ℕ) → ℕ → Full → Full
-sentFull o code c m f =
+-- a run's m checks, but for the values of shared variables
+abbrev pub partFull : ℤ → Code → (ℕ → ℕ) → (ℕ → Bool) → ℕ → Full → Full
+partFull o code c sh m f =
     record {
-      word = record { L = f .word .L; r = runR o code c (f .word .L) (f .word .r) m };
+      word =
+          record {
+            L = λ u. cond (sh u) (f .word .L u) (settle (gatherRun (runOf o code c m (f .word)) code c u m) (f .word .L u));
+            r = runR o code c (f .word .L) (f .word .r) m;
+          };
       t = laidOut code c (tSent o code c (f .word)) (f .t) m;
       old = laidOut code c (oldSent o code c (f .word)) (f .old) m;
     }
 
 abbrev pub runFull : ℤ → Code → (ℕ → ℕ) → ℕ → Full → Full
-runFull o code c m f = record { word = run o code c m (f .word); t = sentFull o code c m f .t; old = sentFull o code c m f .old }
+runFull o code c m f =
+    record { word = run o code c m (f .word); t = laidOut code c (tSent o code c (f .word)) (f .t) m; old = laidOut code c (oldSent o code c (f .word)) (f .old) m }
 
 unfoldable pub runsFull : ℤ → Code → ℕ → ℕ → ℕ → ℕ → Full → Full
 runsFull o code q s l zero f = f

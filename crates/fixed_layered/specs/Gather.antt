@@ -12,14 +12,8 @@ use lib.ListN.{getD, length}
 use lib.IntN.{ℤ, pos, natAbs, _+ℤ_, _-ℤ_}
 use Rattle.lane_math.specs.Value.{satZ}
 use Rattle.lane_math.specs.Iteration.{Code, degree, Run, Sum, nothing, gather, gatherEdge, gatherCheck, gatherRun}
-use Rattle.lane16.specs.Lanes.{z}
-use Rattle.lane_memory.specs.Column.{column}
-use Rattle.lane_memory.specs.Room.{var}
-use Rattle.fixed_delta.specs.Gather.{Small, EdgeGathered}
-use Rattle.fixed_conflicts.specs.Table.{Lacks, Covers, Once, Next}
 use Rattle.fixed_layered.specs.Full.{placeOf}
-use Rattle.fixed_layered.specs.Order.{stepped}
-use Rattle.fixed_layered.specs.Send.{Ready}
+use Rattle.fixed_layered.specs.Ready.{Ready}
 
 -- variable u from d edges that begin at edge s, their t and old messages at pl
 unfoldable pub gatherAt : ℕ → ℕ → (ℕ → ℕ) → ℕ → ℕ → ℕ → (ℕ → ℤ) → ℕ → Sum → Sum
@@ -85,167 +79,64 @@ run-none n E code c f u (suc x) h =
     at-none n E (code .rows) u (code .row-start (c x)) (placeOf code c x) f (degree code (c x)) (gatherRunAt n E code c u f x) (λ k q. h x k (omega arith) q)
     ∙ run-none n E code c f u x (λ y k q. h y k (omega arith))
 
--- ---- a variable of one edge gathers that one
-at-one : (n E : ℕ) (v : ℕ → ℕ) (u s pl : ℕ) (f : ℕ → ℤ) (d k : ℕ) (a : Sum) → k < d → v (s + k) ≡ u → ((l : ℕ) → l < d → v (s + l) ≡ u → k ≡ l)
-    → gatherAt n E v u s pl f d a ≡ gather (f (n + E + (pl + k))) (f (n + (s + k))) (f (n + 2 * E + (pl + k))) a
-unfolding gatherAt
-at-one n E v u s pl f zero k a h e one = absurd (omega (arith, h))
-at-one n E v u s pl f (suc d) k a h e one = go (ℕ-discrete k d) (λ (q : k < d). at-one n E v u s pl f d k a q e (λ l r. one l (omega arith)))
-  where
-    chosen : Bool → Sum
-    chosen b = cond b (gather (f (n + E + (pl + d))) (f (n + (s + d))) (f (n + 2 * E + (pl + d))) (gatherAt n E v u s pl f d a)) (gatherAt n E v u s pl f d a)
-
-    go : Dec (k ≡ d) → (k < d → gatherAt n E v u s pl f d a ≡ gather (f (n + E + (pl + k))) (f (n + (s + k))) (f (n + 2 * E + (pl + k))) a)
-        → chosen (eqb (v (s + d)) u) ≡ gather (f (n + E + (pl + k))) (f (n + (s + k))) (f (n + 2 * E + (pl + k))) a
-    go (yes q) ih =
-        ap chosen (eq-eqb (v (s + d)) u (ap (λ (j : ℕ). v (s + j)) (sym q) ∙ e))
-        ∙ ap (gather (f (n + E + (pl + d))) (f (n + (s + d))) (f (n + 2 * E + (pl + d)))) (at-none n E v u s pl f d a (λ l r g. omega (arith, one l (omega arith) g)))
-        ∙ ap (λ (j : ℕ). gather (f (n + E + (pl + j))) (f (n + (s + j))) (f (n + 2 * E + (pl + j))) a) (sym q)
-    go (no q) ih = ap chosen (ne-eqb (v (s + d)) u (λ g. q (one d (omega arith) g))) ∙ ih (omega arith)
-
-pub run-one : (n E : ℕ) (code : Code) (c : ℕ → ℕ) (f : ℕ → ℤ) (u m x k : ℕ) → Once code c m u → x < m → k < degree code (c x) → code .rows (code .row-start (c x) + k) ≡ u
-    → gatherRunAt n E code c u f m ≡ gather (f (n + E + (placeOf code c x + k))) (f (n + (code .row-start (c x) + k))) (f (n + 2 * E + (placeOf code c x + k))) nothing
-unfolding gatherRunAt
-run-one n E code c f u zero x k o h q e = absurd (omega (arith, h))
-run-one n E code c f u (suc m) x k o h q e =
-    go (ℕ-discrete x m)
-    (λ (g : x < m). run-one n E code c f u m x k (record { one = λ x k y l a b. o .one x k y l (omega arith) (omega arith) }) g q e)
-  where
-    last : Sum → Sum
-    last = gatherAt n E (code .rows) u (code .row-start (c m)) (placeOf code c m) f (degree code (c m))
-
-    go : Dec (x ≡ m)
-        → (x < m → gatherRunAt n E code c u f m ≡ gather (f (n + E + (placeOf code c x + k))) (f (n + (code .row-start (c x) + k))) (f (n + 2 * E + (placeOf code c x + k))) nothing)
-        → last (gatherRunAt n E code c u f m) ≡ gather (f (n + E + (placeOf code c x + k))) (f (n + (code .row-start (c x) + k))) (f (n + 2 * E + (placeOf code c x + k))) nothing
-    go (yes g) ih =
-        ap last (run-none n E code c f u m (λ y l a b r. omega (arith, o .one x k y l h (omega arith) q b e r .0)))
-        ∙ at-one n E (code .rows) u (code .row-start (c m)) (placeOf code c m) f (degree code (c m)) k nothing (subst (λ (j : ℕ). k < degree code (c j)) g q) (ap (λ (j : ℕ). code .rows (code .row-start (c j) + k)) (sym g) ∙ e)
-        (λ l b r. o .one x k m l h (omega arith) q b e r .1)
-        ∙ ap (λ (j : ℕ). gather (f (n + E + (placeOf code c j + k))) (f (n + (code .row-start (c j) + k))) (f (n + 2 * E + (placeOf code c j + k))) nothing) (sym g)
-    go (no g) ih =
-        at-none n E (code .rows) u (code .row-start (c m)) (placeOf code c m) f (degree code (c m)) (gatherRunAt n E code c u f m) (λ l b r. g (o .one x k m l h (omega arith) q b e r .0))
-        ∙ ih (omega arith)
-
--- ---- the sums of the lanes, as the definition's
-abbrev pub sumOf : Bool → List ℤ → ℕ → Sum
-sumOf seen sums i = record { seen = seen; total = z sums i }
-
--- after d edges of a check
-pub record Gathered (n E : ℕ) (v : ℕ → ℕ) (u s pl lanes : ℕ) (a : List ℤ) (seen : Bool) (sums : List ℤ) (d : ℕ) (seen′ : Bool) (sums′ : List ℤ) : Type 0 where
-  pub long : length sums′ ≡ length sums
-  pub is : (i : ℕ) → i < lanes → sumOf seen′ sums′ i ≡ gatherAt n E v u s pl (column lanes a i) d (sumOf seen sums i)
-  pub small : Small lanes (pl + d) sums′
-
-pub gathered-start : (n E : ℕ) (v : ℕ → ℕ) (u s pl lanes : ℕ) (a : List ℤ) (seen : Bool) (sums : List ℤ) → Small lanes pl sums → Gathered n E v u s pl lanes a seen sums 0 seen sums
-unfolding gatherAt
-gathered-start n E v u s pl lanes a seen sums h =
-    record { long = refl; is = λ i q. refl; small = record { small = λ i q. omega (arith, h .small i q) } }
-
-module _ {n E : ℕ} {v : ℕ → ℕ} {u s pl lanes : ℕ} {a : List ℤ} {seen : Bool} {sums : List ℤ} {d : ℕ} {seen′ : Bool} {sums′ : List ℤ} (g : Gathered n E v u s pl lanes a seen sums d seen′ sums′) where
-  pub gathered-hit : {sums″ : List ℤ} → v (s + d) ≡ u → EdgeGathered lanes (n + E + (pl + d)) (n + (s + d)) (n + 2 * E + (pl + d)) seen′ a sums′ lanes sums″ → Small lanes (pl + d + 1) sums″
-      → Gathered n E v u s pl lanes a seen sums (d + 1) true sums″
+-- ---- a part of the edges, the others being none of u
+module _ (n E : ℕ) (v : ℕ → ℕ) (u s pl : ℕ) (f : ℕ → ℤ) (a : Sum) where
+  pub at-rest : (d e : ℕ) → ((k : ℕ) → d ≤ k → k < d + e → v (s + k) ≡ u → ⊥) → gatherAt n E v u s pl f (d + e) a ≡ gatherAt n E v u s pl f d a
   unfolding gatherAt
-  gathered-hit {sums″} e k h =
-      subst (λ (j : ℕ). Gathered n E v u s pl lanes a seen sums j true sums″) (sym (add-one d))
-      (record {
-        long = k .long ∙ g .long;
-        is =
-            λ i q. (λ j. record { seen = true; total = k .done i q j })
-            ∙ ap (gather (column lanes a i (n + E + (pl + d))) (column lanes a i (n + (s + d))) (column lanes a i (n + 2 * E + (pl + d)))) (g .is i q)
-            ∙ sym (ap (λ (b : Bool). cond b (gather (column lanes a i (n + E + (pl + d))) (column lanes a i (n + (s + d))) (column lanes a i (n + 2 * E + (pl + d))) (gatherAt n E v u s pl (column lanes a i) d (sumOf seen sums i))) (gatherAt n E v u s pl (column lanes a i) d (sumOf seen sums i))) (eq-eqb (v (s + d)) u e));
-        small = record { small = λ i q. omega (arith, h .small i q) };
-      })
+  at-rest d zero h = let z : d + 0 ≡ d = omega arith in ap (λ (k : ℕ). gatherAt n E v u s pl f k a) z
+  at-rest d (suc e) h =
+      let z : d + suc e ≡ suc (d + e) = omega arith in
+      ap (λ (k : ℕ). gatherAt n E v u s pl f k a) z
+      ∙ ap (λ (b : Bool). cond b (gather (f (n + E + (pl + (d + e)))) (f (n + (s + (d + e)))) (f (n + 2 * E + (pl + (d + e)))) (gatherAt n E v u s pl f (d + e) a)) (gatherAt n E v u s pl f (d + e) a)) (ne-eqb (v (s + (d + e))) u (h (d + e) (omega arith) (omega arith)))
+      ∙ at-rest d e (λ k q r. h k q (omega arith))
 
-  pub gathered-miss : (v (s + d) ≡ u → ⊥) → Gathered n E v u s pl lanes a seen sums (d + 1) seen′ sums′
+  pub at-split : (d e : ℕ) → gatherAt n E v u s pl f (d + e) a ≡ gatherAt n E v u (s + d) (pl + d) f e (gatherAt n E v u s pl f d a)
   unfolding gatherAt
-  gathered-miss e =
-      subst (λ (j : ℕ). Gathered n E v u s pl lanes a seen sums j seen′ sums′) (sym (add-one d))
-      (record {
-        long = g .long;
-        is =
-            λ i q. g .is i q
-            ∙ sym (ap (λ (b : Bool). cond b (gather (column lanes a i (n + E + (pl + d))) (column lanes a i (n + (s + d))) (column lanes a i (n + 2 * E + (pl + d))) (gatherAt n E v u s pl (column lanes a i) d (sumOf seen sums i))) (gatherAt n E v u s pl (column lanes a i) d (sumOf seen sums i))) (ne-eqb (v (s + d)) u e));
-        small = record { small = λ i q. omega (arith, g .small .small i q) };
-      })
+  at-split d zero = let z : d + 0 ≡ d = omega arith in ap (λ (k : ℕ). gatherAt n E v u s pl f k a) z
+  at-split d (suc e) =
+      let z : d + suc e ≡ suc (d + e) = omega arith in
+      let x : s + (d + e) ≡ s + d + e = omega arith in
+      let y : pl + (d + e) ≡ pl + d + e = omega arith in
+      ap (λ (k : ℕ). gatherAt n E v u s pl f k a) z
+      ∙ (λ i. cond (eqb (v (x i)) u) (gather (f (n + E + y i)) (f (n + x i)) (f (n + 2 * E + y i)) (at-split d e i)) (at-split d e i))
 
-  pub gathered-end : {d′ : ℕ} → d ≡ d′ → Gathered n E v u s pl lanes a seen sums d′ seen′ sums′
-  gathered-end e = subst (λ (j : ℕ). Gathered n E v u s pl lanes a seen sums j seen′ sums′) e g
+  -- the edges from `from` up to `end`, of d
+  pub at-part : (from end d : ℕ) → from ≤ end → end ≤ d → ((k : ℕ) → k < from → v (s + k) ≡ u → ⊥) → ((k : ℕ) → end ≤ k → k < d → v (s + k) ≡ u → ⊥)
+      → gatherAt n E v u s pl f d a ≡ gatherAt n E v u (s + from) (pl + from) f (end - from) a
+  at-part from end d h k none rest =
+      let x : end + (d - end) ≡ d = omega arith in
+      let y : from + (end - from) ≡ end = omega arith in
+      ap (λ (j : ℕ). gatherAt n E v u s pl f j a) (sym x)
+      ∙ at-rest end (d - end) (λ k q r. rest k q (omega arith))
+      ∙ ap (λ (j : ℕ). gatherAt n E v u s pl f j a) (sym y)
+      ∙ at-split from (end - from)
+      ∙ ap (gatherAt n E v u (s + from) (pl + from) f (end - from)) (at-none n E v u s pl f from a none)
 
--- ---- after the first x checks of the run
-pub record RunGathered (n E : ℕ) (code : Code) (c : ℕ → ℕ) (u lanes : ℕ) (a : List ℤ) (x : ℕ) (seen : Bool) (sums : List ℤ) : Type 0 where
-  pub is : (i : ℕ) → i < lanes → sumOf seen sums i ≡ gatherRunAt n E code c u (column lanes a i) x
-  pub small : Small lanes (placeOf code c x) sums
+-- ---- the same but for the total of one that has gathered nothing
+pub record Alike (a b : Sum) : Type 0 where
+  pub seen : a .seen ≡ b .seen
+  pub total : a .seen ≡ true → a .total ≡ b .total
 
-pub run-start : (n E : ℕ) (code : Code) (c : ℕ → ℕ) (u lanes : ℕ) (a sums : List ℤ) → ((i : ℕ) → i < lanes → z sums i ≡ pos 0) → RunGathered n E code c u lanes a 0 false sums
-unfolding gatherRunAt placeOf
-run-start n E code c u lanes a sums h =
-    record {
-      is = λ i q. λ j. record { seen = false; total = h i q j };
-      small = record { small = λ i q. subst (λ (y : ℤ). natAbs y ≤ 256 * (0 + 1)) (sym (h i q)) (omega arith) };
-    }
+pub alike-same : (a : Sum) → Alike a a
+alike-same a = record { seen = refl; total = λ e. refl }
 
-pub run-again : {n E : ℕ} {code : Code} {c : ℕ → ℕ} {u lanes : ℕ} {a : List ℤ} {x : ℕ} {seen seen′ : Bool} {sums sums′ : List ℤ} {s d pl : ℕ} → RunGathered n E code c u lanes a x seen sums
-    → s ≡ code .row-start (c x) → d ≡ degree code (c x) → pl ≡ placeOf code c x
-    → Gathered n E (code .rows) u s pl lanes a seen sums d seen′ sums′ → RunGathered n E code c u lanes a (x + 1) seen′ sums′
-unfolding gatherRunAt placeOf
-run-again {n} {E} {code} {c} {u} {lanes} {a} {x} {seen} {seen′} {sums} {sums′} {s} {d} {pl} r e f h g =
-    subst (λ (j : ℕ). RunGathered n E code c u lanes a j seen′ sums′) (sym (add-one x))
-    (record {
-      is = λ i q. g .is i q ∙ (λ j. gatherAt n E (code .rows) u (e j) (h j) (column lanes a i) (f j) (r .is i q j));
-      small = record { small = λ i q. omega (arith, g .small .small i q, f, h) };
-    })
+pub alike-more : {a b c : Sum} → Alike a b → Alike b c → Alike a c
+alike-more x y = record { seen = x .seen ∙ y .seen; total = λ e. x .total e ∙ y .total (sym (x .seen) ∙ e) }
 
--- ---- one edge, at `at`, of variable u or not
-pub record OneEdge (n E : ℕ) (v : ℕ → ℕ) (u e at lanes : ℕ) (a : List ℤ) (seen : Bool) (sums : List ℤ) (seen′ : Bool) (sums′ : List ℤ) : Type 0 where
-  pub hit : v e ≡ u → (seen′ ≡ true) × (EdgeGathered lanes (n + E + at) (n + e) (n + 2 * E + at) seen a sums lanes sums′ × Small lanes (at + 1) sums′)
-  pub miss : (v e ≡ u → ⊥) → (seen′ ≡ seen) × (sums′ ≡ sums)
-
-pub gathered-again : {n E : ℕ} {v : ℕ → ℕ} {u s pl lanes : ℕ} {a : List ℤ} {seen : Bool} {sums : List ℤ} {d : ℕ} {seen′ seen″ : Bool} {sums′ sums″ : List ℤ}
-    → Gathered n E v u s pl lanes a seen sums d seen′ sums′ → OneEdge n E v u (s + d) (pl + d) lanes a seen′ sums′ seen″ sums″
-    → Gathered n E v u s pl lanes a seen sums (d + 1) seen″ sums″
-gathered-again {n} {E} {v} {u} {s} {pl} {lanes} {a} {seen} {sums} {d} {seen′} {seen″} {sums′} {sums″} g o = go (ℕ-discrete (v (s + d)) u)
+pub alike-gather : (t new old : ℤ) {a b : Sum} → Alike a b → Alike (gather t new old a) (gather t new old b)
+alike-gather t new old {a} {b} x = record { seen = refl; total = λ e. go (a .seen) (a .total) (x .seen) (x .total) }
   where
-    go : Dec (v (s + d) ≡ u) → Gathered n E v u s pl lanes a seen sums (d + 1) seen″ sums″
-    go (yes e) =
-        let h = o .hit e in
-        subst (λ (b : Bool). Gathered n E v u s pl lanes a seen sums (d + 1) b sums″) (sym (h .0)) (gathered-hit g e (h .1 .0) (h .1 .1))
-    go (no e) =
-        let h = o .miss e in
-        subst (λ (b : Bool). Gathered n E v u s pl lanes a seen sums (d + 1) b sums″) (sym (h .0))
-        (subst (λ (l : List ℤ). Gathered n E v u s pl lanes a seen sums (d + 1) seen′ l) (sym (h .1)) (gathered-miss g e))
+    go : (s : Bool) (y : ℤ) → s ≡ b .seen → (s ≡ true → y ≡ b .total) → cond s (y +ℤ (new -ℤ old)) (t +ℤ new) ≡ cond (b .seen) (b .total +ℤ (new -ℤ old)) (t +ℤ new)
+    go true y e f = ap (λ (w : ℤ). w +ℤ (new -ℤ old)) (f refl) ∙ ap (λ (s : Bool). cond s (b .total +ℤ (new -ℤ old)) (t +ℤ new)) e
+    go false y e f = ap (λ (s : Bool). cond s (b .total +ℤ (new -ℤ old)) (t +ℤ new)) e
 
--- ---- checks without an edge of u are passed over
-places-up : (code : Code) (c : ℕ → ℕ) (x d : ℕ) → placeOf code c x ≤ placeOf code c (x + d)
-unfolding placeOf
-places-up code c x zero = let e : x ≡ x + 0 = omega arith in omega (arith, ap (placeOf code c) e)
-places-up code c x (suc d) =
-    let e : suc (x + d) ≡ x + suc d = omega arith in
-    omega (arith, places-up code c x d, ap (placeOf code c) e)
-
-skips : {n E : ℕ} {code : Code} {c : ℕ → ℕ} {u lanes : ℕ} {a : List ℤ} {x : ℕ} {seen : Bool} {sums : List ℤ} (d : ℕ) → RunGathered n E code c u lanes a x seen sums
-    → ((w : ℕ) → x ≤ w → w < x + d → Lacks code u (c w)) → RunGathered n E code c u lanes a (x + d) seen sums
-unfolding gatherRunAt
-skips {n} {E} {code} {c} {u} {lanes} {a} {x} {seen} {sums} zero g h = let e : x ≡ x + 0 = omega arith in subst (λ (j : ℕ). RunGathered n E code c u lanes a j seen sums) e g
-skips {n} {E} {code} {c} {u} {lanes} {a} {x} {seen} {sums} (suc d) g h =
-    let e : suc (x + d) ≡ x + suc d = omega arith in
-    let k = skips d g (λ w q r. h w q (omega arith)) in
-    subst (λ (j : ℕ). RunGathered n E code c u lanes a j seen sums) e
-    (record {
-      is =
-          λ i q. k .is i q
-          ∙ sym (at-none n E (code .rows) u (code .row-start (c (x + d))) (placeOf code c (x + d)) (column lanes a i) (degree code (c (x + d))) (gatherRunAt n E code c u (column lanes a i) (x + d)) (h (x + d) (omega arith) (omega arith)));
-      small = record { small = λ i q. let y : x + d + 1 ≡ suc (x + d) = omega arith in omega (arith, k .small .small i q, places-up code c (x + d) 1, ap (placeOf code c) y) };
-    })
-
-pub run-skip : {n E p : ℕ} {code : Code} {first q u lanes : ℕ} {a : List ℤ} {x m y : ℕ} {seen : Bool} {sums : List ℤ} {row : List ℕ} {shift : ℕ} → RunGathered n E code (stepped first q) u lanes a x seen sums
-    → Covers code p u row shift → ((w : ℕ) → w < m → stepped first q w < p) → Next p row shift first q x m (length row) y → RunGathered n E code (stepped first q) u lanes a y seen sums
-run-skip {n} {E} {p} {code} {first} {q} {u} {lanes} {a} {x} {m} {y} {seen} {sums} {row} {shift} g cover inside next =
-    let e : x + (y - x) ≡ y = omega (arith, next .from) in
-    subst (λ (j : ℕ). RunGathered n E code (stepped first q) u lanes a j seen sums) e
-    (skips (y - x) g
-    (λ w k h. cover .lacks (stepped first q w) (inside w (omega (arith, next .upto, next .from))) (λ i r. next .none w k (omega (arith, next .from)) i r)))
-
-pub run-total : {n E : ℕ} {code : Code} {c : ℕ → ℕ} {u lanes : ℕ} {a : List ℤ} {x : ℕ} {seen : Bool} {sums : List ℤ} (m : ℕ) → x ≡ m → RunGathered n E code c u lanes a x seen sums
-    → (i : ℕ) → i < lanes → z sums i ≡ gatherRunAt n E code c u (column lanes a i) m .total
-run-total {n} {E} {code} {c} {u} {lanes} {a} {x} m e g i q =
-    ap (λ (s : Sum). s .total) (g .is i q) ∙ ap (λ (j : ℕ). gatherRunAt n E code c u (column lanes a i) j .total) e
+pub alike-at : (n E : ℕ) (v : ℕ → ℕ) (u s pl : ℕ) (f : ℕ → ℤ) (d : ℕ) {a b : Sum} → Alike a b → Alike (gatherAt n E v u s pl f d a) (gatherAt n E v u s pl f d b)
+unfolding gatherAt
+alike-at n E v u s pl f zero x = x
+alike-at n E v u s pl f (suc d) {a} {b} x = go (eqb (v (s + d)) u) (alike-at n E v u s pl f d x)
+  where
+    go : (t : Bool) → Alike (gatherAt n E v u s pl f d a) (gatherAt n E v u s pl f d b)
+        → Alike (cond t (gather (f (n + E + (pl + d))) (f (n + (s + d))) (f (n + 2 * E + (pl + d))) (gatherAt n E v u s pl f d a)) (gatherAt n E v u s pl f d a))
+        (cond t (gather (f (n + E + (pl + d))) (f (n + (s + d))) (f (n + 2 * E + (pl + d))) (gatherAt n E v u s pl f d b)) (gatherAt n E v u s pl f d b))
+    go true y = alike-gather (f (n + E + (pl + d))) (f (n + (s + d))) (f (n + 2 * E + (pl + d))) y
+    go false y = y

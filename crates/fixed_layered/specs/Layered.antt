@@ -1,6 +1,5 @@
 -- The layered iteration of an accepted code.
 use mathlib.Core.Path.{_≡_, refl, sym, ap, _∙_, subst}
-use mathlib.Core.Bool.{Bool}
 use mathlib.Core.List.{List}
 use Prim.Native.Nat.{ℕ, zero, suc, _+_, _*_, _-_, _/_, _≤_, _<_}
 use native.Mathlib.Omega.{arith}
@@ -10,12 +9,12 @@ use Rattle.lane_math.specs.Check.{Word}
 use Rattle.lane_math.specs.Iteration.{Code, layered}
 use Rattle.lane_memory.specs.Column.{column}
 use Rattle.simd.specs.Words.{word}
-use Rattle.ldpc_shape.specs.Shape.{kOf, pOf, qOf, eOf, refusalOf}
-use Rattle.ldpc_shape.specs.Accepted.{Accepted, accepted, p-is, p-le, q-le, q-pos, n-is, addrs-le}
+use Rattle.ldpc_shape.specs.Shape.{pOf, qOf, eOf, refusalOf}
+use Rattle.ldpc_shape.specs.Accepted.{Accepted, accepted, p-is, p-le, q-le, rows-le, addrs-le}
 use Rattle.ldpc_edges.specs.Code.{edgeLists}
 use Rattle.fixed_code.specs.Lists.{edgesIn, codeIn, Memory}
 use Rattle.fixed_code.specs.Code.{codeOf, code-in, edges-are, lists-in}
-use Rattle.fixed_conflicts.specs.Conflicts.{Worked, shares}
+use Rattle.fixed_conflicts.specs.Conflicts.{Spanned, shares}
 use Rattle.fixed_layered.specs.Full.{Full, layersFull, layers-word, full}
 use Rattle.fixed_layered.specs.Runs.{LayersMade, InLayer, AllLayers}
 
@@ -31,9 +30,9 @@ module _ (n : ℕ) (lens addrs : List ℕ) (A : Accepted n lens addrs) (index : 
   unfolding eOf
   few-edges = omega (arith, addrs-le n lens addrs A, p-le n lens addrs A)
 
-  pub all-layers : {lanes s : ℕ} {a : List ℤ} {starts : List ℕ} {flags busy : List Bool} → 0 < lanes → lanes ≤ 64 → (n + 3 * eOf n lens addrs) * lanes ≤ length a → 0 < s → s ≤ 4294967295
-      → Worked n lens addrs starts flags busy → AllLayers (kOf lens) n (pOf n lens) lanes (qOf n lens) s index a addrs starts flags busy
-  all-layers {lanes} {s} {a} {starts} {flags} {busy} some few long step small w =
+  pub all-layers : {lanes s : ℕ} {a : List ℤ} {table : List ℕ} → 0 < lanes → lanes ≤ 64 → (n + 3 * eOf n lens addrs) * lanes ≤ length a → 0 < s → s ≤ 4294967295 → Spanned n lens addrs table
+      → AllLayers n (pOf n lens) lanes (qOf n lens) s (length lens) index a table
+  all-layers {lanes} {s} {a} {table} some few long step small w =
       record {
         layer =
             λ l h. record {
@@ -48,12 +47,14 @@ module _ (n : ℕ) (lens addrs : List ℕ) (A : Accepted n lens addrs) (index : 
               layer = h;
               few-edges = omega (arith, edges-are n lens addrs A index is, few-edges);
               few-checks = p-le n lens addrs A;
+              few-bits = A .small;
               step = step;
               small-step = small;
             };
-        shares = λ l h. shares n lens addrs A index is w l h;
+        shares = λ l h flags any f. shares n lens addrs A index is w l h f;
         few-layers = q-le n lens addrs A;
-        bits = n-is n lens addrs A;
+        few-rows = rows-le n lens addrs A;
+        long = w .long;
       }
 
   pub layered-law : {lanes s : ℕ} {o : ℤ} {a a′ : List ℤ} → LayersMade n (pOf n lens) lanes o index (qOf n lens) s a (qOf n lens) a′ → Layered n lens addrs lanes o s a a′

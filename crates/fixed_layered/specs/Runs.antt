@@ -1,51 +1,29 @@
 -- THE COLUMN LAW of the layered iteration, stated once for any lane count: runs, layers, all.
 use mathlib.Core.Path.{_≡_, refl, sym, ap, _∙_, subst}
-use mathlib.Core.Bool.{Bool, true, false, cond}
+use mathlib.Core.Bool.{Bool, true, false}
 use mathlib.Core.List.{List}
 use Prim.Native.Nat.{ℕ, zero, suc, _+_, _*_, _-_, _/_, _≤_, _<_, min}
 use native.Mathlib.Omega.{arith}
 use native.Mathlib.Nat.{add-mul-div-right, div-eq-of-lt, mul-le-mul-right}
 use native.Mathlib.Numerals.{add-one}
-use borrow.Author.Tests.{le-ltb}
-use lib.Dec.{ltb}
 use lib.ListN.{getD, length}
-use lib.IntN.{ℤ, pos}
+use lib.IntN.{ℤ}
 use Rattle.lane_math.specs.Check.{Word}
 use Rattle.lane_math.specs.Iteration.{Code, degree, inRun, runCount, layered, layers}
 use Rattle.lane_memory.specs.Column.{column}
-use Rattle.simd.specs.Words.{within, wordOf, word}
-use Rattle.fixed_code.specs.Lists.{edgesIn, codeIn, Memory, memory-to}
-use Rattle.fixed_conflicts.specs.Table.{Once, Shares}
-use Rattle.fixed_layered.specs.Full.{Full, runFull, runsFull, layersFull, layers-word, fullOf, full}
-use Rattle.fixed_layered.specs.Order.{Order, order, stepped}
-use Rattle.fixed_layered.specs.Send.{Sent}
-use Rattle.fixed_layered.specs.Back.{backRun, back-behind, run-made}
-use Rattle.fixed_layered.specs.Run.{InRun, RunBack}
+use Rattle.simd.specs.Words.{word}
+use Rattle.lane_memory.specs.Room.{var, Room}
+use Rattle.fixed_code.specs.Lists.{rowsIn, edgesIn, codeIn, Memory, memory-to, room, start-in, degree-in}
+use Rattle.fixed_conflicts.specs.Table.{Split, Shares, Flagged, spanAt}
+use Rattle.fixed_layered.specs.Full.{Full, runFull, runsFull, layersFull, layers-word, full}
+use Rattle.fixed_layered.specs.Order.{stepped}
+use Rattle.fixed_layered.specs.Run.{InRun}
+use Rattle.fixed_layered.specs.Rows.{InRow, Grouped, part-in}
 
 -- ---- one run
 pub record RunMade (n p lanes : ℕ) (o : ℤ) (index : List ℕ) (first q m : ℕ) (a a′ : List ℤ) : Type 0 where
   pub fulls : (i : ℕ) → i < lanes → full n (edgesIn p index) lanes a′ i ≡ runFull o (codeIn p index) (stepped first q) m (full n (edgesIn p index) lanes a i)
   pub rest : (i : ℕ) → i < lanes → (u : ℕ) → n + 3 * edgesIn p index ≤ u → column lanes a′ i u ≡ column lanes a i u
-
-behind-zero : (n E : ℕ) (f : ℕ → ℤ) (u : ℕ) → n ≤ u → wordOf n E f .L u ≡ pos 0
-unfolding wordOf within
-behind-zero n E f u h = ap (λ (b : Bool). cond b (f u) (pos 0)) (le-ltb u n h)
-
-pub run-law : {n p lanes : ℕ} {o : ℤ} {index : List ℕ} {first q m : ℕ} {a b a′ : List ℤ} → InRun n p lanes first q m index a → Sent n p lanes o index first q a m b → RunBack n p lanes first q m index b m a′
-    → RunMade n p lanes o index first q m a a′
-run-law {n} {p} {lanes} {o} {index} {first} {q} {m} {a} {b} {a′} r s k =
-    record {
-      fulls =
-          λ i h. ap (fullOf n (edgesIn p index)) (k .columns i h)
-          ∙ run-made o (column lanes b i) (full n (edgesIn p index) lanes a i) ord (s .fulls i h) (behind-zero n (edgesIn p index) (column lanes a i));
-      rest =
-          λ i h u l. ap (λ (f : ℕ → ℤ). f u) (k .columns i h)
-          ∙ back-behind n (edgesIn p index) (codeIn p index) (stepped first q) m m (column lanes b i) (ord .below) u (omega arith)
-          ∙ s .rest i h u l;
-    }
-  where
-    ord : Order (codeIn p index) (stepped first q) m (edgesIn p index) n
-    ord = order (r .memory .lists) first q m (r .step) (r .inside)
 
 pub run-offset : {n p lanes : ℕ} {o o′ : ℤ} {index : List ℕ} {first q m : ℕ} {a a′ : List ℤ} → o ≡ o′ → RunMade n p lanes o index first q m a a′ → RunMade n p lanes o′ index first q m a a′
 run-offset {n} {p} {lanes} {o} {o′} {index} {first} {q} {m} {a} {a′} e v = subst (λ (z : ℤ). RunMade n p lanes z index first q m a a′) e v
@@ -121,12 +99,13 @@ pub record InLayer (n p lanes q s l : ℕ) (index : List ℕ) (a : List ℤ) : T
   pub layer : l < q
   pub few-edges : edgesIn p index ≤ 6000000
   pub few-checks : p ≤ 44880
+  pub few-bits : n ≤ 44880
   pub step : 0 < s
   pub small-step : s ≤ 4294967295
 
 pub in-layer-to : {n p lanes q s l : ℕ} {index : List ℕ} {a b : List ℤ} → length b ≡ length a → InLayer n p lanes q s l index a → InLayer n p lanes q s l index b
 in-layer-to e r =
-    record { memory = memory-to e (r .memory); whole = r .whole; layer = r .layer; few-edges = r .few-edges; few-checks = r .few-checks; step = r .step; small-step = r .small-step }
+    record { memory = memory-to e (r .memory); whole = r .whole; layer = r .layer; few-edges = r .few-edges; few-checks = r .few-checks; few-bits = r .few-bits; step = r .step; small-step = r .small-step }
 
 pub in-run : {n p lanes q s l : ℕ} {index : List ℕ} {a : List ℤ} (at m : ℕ) → at + m ≤ 374 → InLayer n p lanes q s l index a → InRun n p lanes (l + at * q) q m index a
 in-run {n} {p} {lanes} {q} {s} {l} at m h r =
@@ -138,13 +117,12 @@ in-run {n} {p} {lanes} {q} {s} {l} at m h r =
       step = omega (arith, r .layer);
       few-edges = r .few-edges;
       few-checks = r .few-checks;
+      few-bits = r .few-bits;
     }
 
-pub shares-part : {k p q : ℕ} {code : Code} {l : ℕ} {addrs starts : List ℕ} {flags : List Bool} {busy : Bool} (at m : ℕ) → at + m ≤ 374 → Shares k p q code l 374 addrs starts flags busy
-    → Shares k p q code (l + at * q) m addrs starts flags busy
-shares-part {k} {p} {q} {code} {l} {addrs} {starts} {flags} {busy} at m h v =
+pub shares-part : {n q : ℕ} {code : Code} {l : ℕ} {table : List ℕ} {flags : List Bool} (at m : ℕ) → at + m ≤ 374 → Shares n q code l 374 l table flags → Shares n q code (l + at * q) m l table flags
+shares-part {n} {q} {code} {l} {table} {flags} at m h v =
     record {
-      rowed = v .rowed;
       once =
           λ u e. record {
             one =
@@ -152,13 +130,71 @@ shares-part {k} {p} {q} {code} {l} {addrs} {starts} {flags} {busy} at m h v =
                 (subst (λ (z : ℕ). code .rows (code .row-start z + i) ≡ u) (there x) f) (subst (λ (z : ℕ). code .rows (code .row-start z + j) ≡ u) (there y) g) in
                 (omega (arith, o .0), o .1);
           };
+      low = v .low;
+      fits = λ g e x a. subst (λ (z : ℕ). (spanAt table l g ≤ degree code z) × (spanAt table l g ≤ spanAt table l (g + 1))) (sym (there x)) (v .fits g e (at + x) (omega arith));
+      split = λ g e x k a b.
+          subst (λ (z : ℕ). Split (spanAt table l g) (spanAt table l (g + 1)) (374 * g) k (code .rows (code .row-start z + k))) (sym (there x)) (v .split g e (at + x) k (omega arith) (subst (λ (z : ℕ). k < degree code z) (there x) b));
     }
   where
     there : (x : ℕ) → l + at * q + x * q ≡ l + (at + x) * q
     there x = omega arith
 
-pub record AllLayers (k n p lanes q s : ℕ) (index : List ℕ) (a : List ℤ) (addrs starts : List ℕ) (flags busy : List Bool) : Type 0 where
+-- the edges of a flagged row
+pub grouped : {n q : ℕ} {code : Code} {first m l : ℕ} {table : List ℕ} {flags : List Bool} {from upto : ℕ} (g : ℕ) → getD flags g false ≡ true → 0 < m → Shares n q code first m l table flags → from ≡ spanAt table l g
+    → upto ≡ spanAt table l (g + 1) → Grouped code (stepped first q) m (374 * g) from upto
+grouped {n} {q} {code} {first} {m} {l} {table} {flags} {from} {upto} g e some v f h =
+    subst (λ (x : ℕ). Grouped code (stepped first q) m (374 * g) x upto) (sym f)
+    (subst (λ (x : ℕ). Grouped code (stepped first q) m (374 * g) (spanAt table l g) x) (sym h)
+    (record { split = λ x k a b. v .split g e x k a b; begins = λ x a. v .fits g e x a .0; rises = v .fits g e 0 some .1 }))
+
+-- the row's edges in check x: from `from` up to `end` of its d
+pub record RowPart (n p lanes first q base from upto x s d end : ℕ) (index rows : List ℕ) (a : List ℤ) : Type 0 where
+  pub up : end ≤ upto
+  pub most : end ≤ degree (codeIn p index) (stepped first q x)
+  pub least : from ≤ end
+  pub all : end < upto → end ≡ degree (codeIn p index) (stepped first q x)
+  pub below : end ≤ d
+  pub start-is : s ≡ codeIn p index .row-start (stepped first q x)
+  pub part-room : Room rows (s + from) (end - from) n lanes a
+  pub in-row : InRow (var rows) base (s + from) (end - from)
+
+pub row-part : {n p lanes first q m base from upto x s d end : ℕ} {index rows : List ℕ} {a : List ℤ} → InRun n p lanes first q m index a → rows ≡ rowsIn p index → Grouped (codeIn p index) (stepped first q) m base from upto → x < m
+    → s ≡ getD index (stepped first q x) 0 → s + d ≡ getD index (stepped first q x + 1) 0 → end ≡ min upto d → RowPart n p lanes first q base from upto x s d end index rows a
+row-part {n} {p} {lanes} {first} {q} {m} {base} {from} {upto} {x} {s} {d} {end} {index} {rows} {a} r same g h e f ends =
+    record {
+      up = omega arith;
+      most = omega (arith, D);
+      least = omega (arith, D, g .rises, g .begins x h);
+      all = λ k. omega (arith, D);
+      below = omega arith;
+      start-is = S;
+      part-room =
+          subst (λ (l : List ℕ). Room l (s + from) (end - from) n lanes a) (sym same)
+          (let w = room (stepped first q x) s d (r .memory) (r .inside x h) e f in
+          record {
+            edges = omega (arith, w .edges, D, g .rises, g .begins x h);
+            degree = omega (arith, w .degree);
+            variables = w .variables;
+            long = w .long;
+            many = w .many;
+            some-lanes = w .some-lanes;
+            few-lanes = w .few-lanes;
+          });
+      in-row =
+          subst (λ (l : List ℕ). InRow (var l) base (s + from) (end - from)) (sym same)
+          (subst (λ (y : ℕ). InRow (codeIn p index .rows) base (y + from) (end - from)) (sym S)
+          (part-in g n (edgesIn p index) h end (omega arith) (omega (arith, D)) (omega (arith, D, g .rises, g .begins x h)) (λ k. omega (arith, D))));
+    }
+  where
+    S : s ≡ codeIn p index .row-start (stepped first q x)
+    S = e ∙ sym (start-in p index (stepped first q x) (omega (arith, r .inside x h)))
+
+    D : degree (codeIn p index) (stepped first q x) ≡ d
+    D = degree-in p index (stepped first q x) s d (r .inside x h) e f
+
+pub record AllLayers (n p lanes q s rows : ℕ) (index : List ℕ) (a : List ℤ) (table : List ℕ) : Type 0 where
   pub layer : (l : ℕ) → l < q → InLayer n p lanes q s l index a
-  pub shares : (l : ℕ) → l < q → Shares k p q (codeIn p index) l 374 addrs starts flags (getD busy l false)
+  pub shares : (l : ℕ) → l < q → (flags : List Bool) (any : Bool) → Flagged table rows q l rows flags any → Shares n q (codeIn p index) l 374 l table flags
   pub few-layers : q ≤ 120
-  pub bits : k + p ≡ n
+  pub few-rows : rows ≤ 119
+  pub long : length table ≡ 14520

@@ -1,91 +1,96 @@
 // One iteration of the layered schedule on interleaved memory, for every lane count.
 // `index` holds the code's lists (fixed_code), `rows` its second part; `work` n + 3E rows with stride `lanes` (simd).
-// A run's checks are first + x * q, x below m; the t and old messages of its edges stand one check after the other: `places`.
+// A run's checks are first + x * q, x below m; the t and old messages of its edges stand one check after the other.
+// In a layer in which variables can have several edges (fixed_conflicts), a run first leaves their values. Then row after row of 374 variables
+// is gathered into `sums`, 374 times `lanes` of them, and settled.
 ghost use mathlib.Core.Path.{_≡_};
-ghost use mathlib.Core.Bool.{Bool, true};
-ghost use Prim.Native.Nat.{ℕ, _<_, _≤_, _+_, _*_, min};
-ghost use lib.ListN.{length};
-ghost use lib.IntN.{pos};
+ghost use mathlib.Core.Bool.{Bool, true, false};
+ghost use Prim.Native.Nat.{ℕ, _<_, _≤_, _+_, _*_, _-_, min};
+ghost use lib.ListN.{getD, length};
 ghost use Rattle.lane_math.specs.Iteration.{runCount};
-ghost use Rattle.lane16.specs.Lanes.{z};
 ghost use Rattle.ldpc_shape.specs.Shape.{eOf, refusalOf};
 ghost use Rattle.ldpc_edges.specs.Code.{edgeLists};
-ghost use Rattle.lane_memory.specs.Column.{column, Mapped};
+ghost use Rattle.lane_memory.specs.Column.{column};
 ghost use Rattle.lane_memory.specs.Room.{var, Room};
-ghost use Rattle.fixed_code.specs.Lists.{rowsIn, edgesIn, codeIn, Memory};
-ghost use Rattle.fixed_delta.specs.Gather.{Small};
-ghost use Rattle.fixed_conflicts.specs.Table.{Covers, Once, Rowed, Shares};
+ghost use Rattle.fixed_code.specs.Lists.{rowsIn, edgesIn, codeIn};
+ghost use Rattle.fixed_conflicts.specs.Table.{Once, Shares, sharedOf};
+ghost use Rattle.fixed_layered.specs.Full.{placeOf};
 ghost use Rattle.fixed_layered.specs.Order.{stepped};
-ghost use Rattle.fixed_layered.specs.Send.{Sent};
-ghost use Rattle.fixed_layered.specs.Gather.{OneEdge, Gathered, gatherRunAt};
-ghost use Rattle.fixed_layered.specs.Back.{backEdge};
-ghost use Rattle.fixed_layered.specs.Run.{InRun, Placed, AnEdge, CheckBack, RunBack};
+ghost use Rattle.fixed_layered.specs.Gather.{gatherAt};
+ghost use Rattle.fixed_layered.specs.Run.{InRun};
+ghost use Rattle.fixed_layered.specs.Rows.{InRow, Grouped, Smalls, EdgeDone, Gathers, sumAt, runSum, CheckSettled, RowSettled, FlagWritten, Written};
 ghost use Rattle.fixed_layered.specs.Runs.{RunMade, RunsMade, LayersMade, InLayer, AllLayers};
+ghost use Rattle.fixed_layered.specs.Checks.{PartMade};
 ghost use Rattle.fixed_layered.specs.Layered.{Layered};
 
-// Edge e, whose t and old message are at `at`, gathered by every lane if it is of variable v.
+fn least(a: usize, b: usize) -> usize
+    ensures { λ r. ⌜ r ≡ min a b ⌝ }
+{
+    if a < b { a } else { b }
+}
+
+// Edge e, whose t and old message are at `at`, gathered by every lane for its variable, one of the row that begins at variable `base`.
 fn gather_edge(
     sums: &mut [i32],
+    seen: &mut [bool],
     rows: &[u32],
     work: &[i8],
-    v: usize,
+    base: usize,
     e: usize,
     at: usize,
     n: usize,
     lanes: usize,
-    seen: bool,
-) -> bool
+)
     requires { ⌜ Room (now rows) e 1 n lanes (now work) × ((at < length (now rows)) × (length (now rows) ≤ 6000000)) ⌝ }
-    requires { ⌜ (lanes ≤ length (now sums)) × Small lanes at (now sums) ⌝ }
-    ensures { λ r. ⌜ OneEdge n (length (now (rows .entry))) (var (now (rows .entry))) v e at lanes (now (work .entry)) seen (now (sums .entry)) r (now (sums .exit)) ⌝ }
+    requires { ⌜ (374 * lanes ≤ length (now sums)) × ((length (now seen) ≡ 374) × ((base ≤ var (now rows) e) × (var (now rows) e < base + 374))) ⌝ }
+    requires { ⌜ Smalls lanes at (now seen) (now sums) ⌝ }
+    ensures { λ _. ⌜ EdgeDone n (length (now (rows .entry))) lanes at e (var (now (rows .entry)) e - base) (now (work .entry)) (now (seen .entry)) (now (sums .entry)) (now (seen .exit)) (now (sums .exit)) ⌝ }
 {
     let edges = rows.len();
-    if lane_memory::variable(rows, e) != v {
-        return seen;
-    }
+    let j = lane_memory::variable(rows, e) - base;
     let tu = n + edges + at;
     let ru = n + e;
     let ou = n + 2 * edges + at;
-    fixed_delta::gather(sums, work, tu, ru, ou, lanes, seen, at);
-    true
+    let was = seen[j];
+    fixed_delta::gather(sums, j * lanes, work, tu, ru, ou, lanes, was, at);
+    seen[j] = true;
 }
 
-// The d edges of a check, from edge s.
+// The d edges from edge s, all of the row.
 fn gather_check(
     sums: &mut [i32],
+    seen: &mut [bool],
     rows: &[u32],
     work: &[i8],
-    v: usize,
+    base: usize,
     s: usize,
     d: usize,
     place: usize,
     n: usize,
     lanes: usize,
-    seen: bool,
-) -> bool
+)
     requires { ⌜ Room (now rows) s d n lanes (now work) × ((place + d ≤ length (now rows)) × (length (now rows) ≤ 6000000)) ⌝ }
-    requires { ⌜ (lanes ≤ length (now sums)) × Small lanes place (now sums) ⌝ }
-    ensures { λ r. ⌜ Gathered n (length (now (rows .entry))) (var (now (rows .entry))) v s place lanes (now (work .entry)) seen (now (sums .entry)) d r (now (sums .exit)) ⌝ }
+    requires { ⌜ (374 * lanes ≤ length (now sums)) × ((length (now seen) ≡ 374) × InRow (var (now rows)) base s d) ⌝ }
+    requires { ⌜ Smalls lanes place (now seen) (now sums) ⌝ }
+    ensures { λ _. ⌜ Gathers lanes (place + d) (λ i j. gatherAt n (length (now (rows .entry))) (var (now (rows .entry))) (base + j) s place (column lanes (now (work .entry)) i) d (sumAt lanes (now (seen .entry)) (now (sums .entry)) i j)) (now (seen .exit)) (now (sums .exit)) ⌝ }
 {
-    let mut found = seen;
     let mut k: usize = 0;
     while k < d {
-        found = gather_edge(sums, rows, work, v, s + k, place + k, n, lanes, found);
+        gather_edge(sums, seen, rows, work, base, s + k, place + k, n, lanes);
         k += 1;
     }
-    found
 }
 
-// Every lane's sum of variable v over the run, from the checks that the row's addresses meet.
-fn gather_run(
+// Every lane's sums of the row's variables over the run. In each check the row's edges are those from `from` up to `upto`.
+fn gather_row(
     sums: &mut [i32],
+    seen: &mut [bool],
     index: &[u32],
     rows: &[u32],
     work: &[i8],
-    places: &[u32],
-    row: &[u16],
-    shift: u32,
-    v: usize,
+    base: usize,
+    from: usize,
+    upto: usize,
     n: usize,
     p: usize,
     lanes: usize,
@@ -93,287 +98,202 @@ fn gather_run(
     q: usize,
     m: usize,
 )
-    requires { ⌜ InRun n p lanes first q m (now index) (now work) × ((now rows ≡ rowsIn p (now index)) × Placed p first q m (now index) (now places)) ⌝ }
-    requires { ⌜ Covers (codeIn p (now index)) p v (now row) shift × (shift ≤ 44880) ⌝ }
-    requires { ⌜ (lanes ≤ length (now sums)) × ((i : ℕ) → i < lanes → z (now sums) i ≡ pos 0) ⌝ }
-    ensures { λ _. ⌜ ((i : ℕ) → i < lanes → z (now (sums .exit)) i ≡ gatherRunAt n (edgesIn p (now (index .entry))) (codeIn p (now (index .entry))) (stepped first q) v (column lanes (now (work .entry)) i) m .total) ⌝ }
+    requires { ⌜ InRun n p lanes first q m (now index) (now work) × (now rows ≡ rowsIn p (now index)) ⌝ }
+    requires { ⌜ Grouped (codeIn p (now index)) (stepped first q) m base from upto ⌝ }
+    requires { ⌜ (374 * lanes ≤ length (now sums)) × ((length (now seen) ≡ 374) × ((j : ℕ) → getD (now seen) j false ≡ false)) ⌝ }
+    ensures { λ _. ⌜ Gathers lanes (placeOf (codeIn p (now (index .entry))) (stepped first q) m) (runSum n (edgesIn p (now (index .entry))) (codeIn p (now (index .entry))) (stepped first q) base lanes (now (work .entry)) m) (now (seen .exit)) (now (sums .exit)) ⌝ }
 {
-    let checks = p as u32;
-    let mut seen = false;
+    let mut place: usize = 0;
     let mut x: usize = 0;
     while x < m {
-        let y = fixed_conflicts::next_check(row, shift, checks, first, q, x, m);
-        if y == m {
-            return;
-        }
-        let c = first + y * q;
+        let c = first + x * q;
         let s = fixed_code::start(index, c);
         let d = fixed_code::degree(index, n, p, c);
-        let place = places[y] as usize;
-        seen = gather_check(sums, rows, work, v, s, d, place, n, lanes, seen);
-        x = y + 1;
-    }
-}
-
-// A variable with several edges in the run.
-fn delta(
-    index: &[u32],
-    rows: &[u32],
-    work: &mut [i8],
-    places: &[u32],
-    row: &[u16],
-    shift: u32,
-    v: usize,
-    n: usize,
-    p: usize,
-    lanes: usize,
-    first: usize,
-    q: usize,
-    m: usize,
-)
-    requires { ⌜ InRun n p lanes first q m (now index) (now work) × ((now rows ≡ rowsIn p (now index)) × Placed p first q m (now index) (now places)) ⌝ }
-    requires { ⌜ Covers (codeIn p (now index)) p v (now row) shift × ((shift ≤ 44880) × (v < n)) ⌝ }
-    ensures { λ _. ⌜ Mapped (backEdge n (edgesIn p (now (index .entry))) (codeIn p (now (index .entry))) (stepped first q) m v) lanes (now (work .entry)) (now (work .exit)) ⌝ }
-{
-    let mut sums: [i32; 64] = [0; 64];
-    gather_run(
-        &mut sums,
-        index,
-        rows,
-        work,
-        places,
-        row,
-        shift,
-        v,
-        n,
-        p,
-        lanes,
-        first,
-        q,
-        m,
-    );
-    fixed_delta::settle(work, v, lanes, &sums);
-}
-
-// The same, with the row of the variable: its own addresses, or for a parity bit its two checks.
-fn delta_of(
-    index: &[u32],
-    rows: &[u32],
-    work: &mut [i8],
-    places: &[u32],
-    addrs: &[u16],
-    starts: &[u32; 121],
-    v: usize,
-    k: usize,
-    n: usize,
-    p: usize,
-    lanes: usize,
-    first: usize,
-    q: usize,
-    m: usize,
-)
-    requires { ⌜ InRun n p lanes first q m (now index) (now work) × ((now rows ≡ rowsIn p (now index)) × Placed p first q m (now index) (now places)) ⌝ }
-    requires { ⌜ Rowed k p q (codeIn p (now index)) (now addrs) (now starts) × ((v < n) × (k + p ≡ n)) ⌝ }
-    ensures { λ _. ⌜ Mapped (backEdge n (edgesIn p (now (index .entry))) (codeIn p (now (index .entry))) (stepped first q) m v) lanes (now (work .entry)) (now (work .exit)) ⌝ }
-{
-    if v < k {
-        let g = v / 374;
-        let shift = ((v - 374 * g) * q) as u32;
-        let from = starts[g] as usize;
-        let to = starts[g + 1] as usize;
-        let row = &addrs[from..to];
-        delta(
-            index,
+        let end = least(upto, d);
+        gather_check(
+            sums,
+            seen,
             rows,
             work,
-            places,
-            row,
-            shift,
-            v,
+            base,
+            s + from,
+            end - from,
+            place + from,
             n,
-            p,
             lanes,
-            first,
-            q,
-            m,
         );
-        return;
-    }
-    let y = v - k;
-    let row: [u16; 2] = [y as u16, (y + 1) as u16];
-    delta(
-        index,
-        rows,
-        work,
-        places,
-        &row,
-        0,
-        v,
-        n,
-        p,
-        lanes,
-        first,
-        q,
-        m,
-    );
-}
-
-// Edge e of the run, whose t is at `at`: its variable's value.
-fn write_edge(
-    index: &[u32],
-    rows: &[u32],
-    work: &mut [i8],
-    places: &[u32],
-    addrs: &[u16],
-    starts: &[u32; 121],
-    flags: &[bool; 120],
-    busy: bool,
-    e: usize,
-    at: usize,
-    k: usize,
-    n: usize,
-    p: usize,
-    lanes: usize,
-    first: usize,
-    q: usize,
-    m: usize,
-)
-    requires { ⌜ InRun n p lanes first q m (now index) (now work) × ((now rows ≡ rowsIn p (now index)) × Placed p first q m (now index) (now places)) ⌝ }
-    requires { ⌜ Shares k p q (codeIn p (now index)) first m (now addrs) (now starts) (now flags) busy × ((k + p ≡ n) × AnEdge (codeIn p (now index)) (stepped first q) m e at) ⌝ }
-    ensures { λ _. ⌜ Mapped (backEdge n (edgesIn p (now (index .entry))) (codeIn p (now (index .entry))) (stepped first q) m (var (rowsIn p (now (index .entry))) e)) lanes (now (work .entry)) (now (work .exit)) ⌝ }
-{
-    let v = lane_memory::variable(rows, e);
-    if fixed_conflicts::shared(flags, busy, k, q, v) {
-        delta_of(
-            index,
-            rows,
-            work,
-            places,
-            addrs,
-            starts,
-            v,
-            k,
-            n,
-            p,
-            lanes,
-            first,
-            q,
-            m,
-        );
-        return;
-    }
-    let tu = n + rows.len() + at;
-    let ru = n + e;
-    fixed_delta::apply(work, v, tu, ru, lanes);
-}
-
-// Check x of the run.
-fn write_check(
-    index: &[u32],
-    rows: &[u32],
-    work: &mut [i8],
-    places: &[u32],
-    addrs: &[u16],
-    starts: &[u32; 121],
-    flags: &[bool; 120],
-    busy: bool,
-    x: usize,
-    k: usize,
-    n: usize,
-    p: usize,
-    lanes: usize,
-    first: usize,
-    q: usize,
-    m: usize,
-)
-    requires { ⌜ InRun n p lanes first q m (now index) (now work) × ((now rows ≡ rowsIn p (now index)) × Placed p first q m (now index) (now places)) ⌝ }
-    requires { ⌜ Shares k p q (codeIn p (now index)) first m (now addrs) (now starts) (now flags) busy × ((k + p ≡ n) × (x < m)) ⌝ }
-    ensures { λ _. ⌜ CheckBack n p lanes first q m x (now (index .entry)) (now (work .entry)) (now (work .exit)) ⌝ }
-{
-    let c = first + x * q;
-    let s = fixed_code::start(index, c);
-    let d = fixed_code::degree(index, n, p, c);
-    let place = places[x] as usize;
-    let mut i: usize = 0;
-    while i < d {
-        let e = s + i;
-        let at = place + i;
-        write_edge(
-            index,
-            rows,
-            work,
-            places,
-            addrs,
-            starts,
-            flags,
-            busy,
-            e,
-            at,
-            k,
-            n,
-            p,
-            lanes,
-            first,
-            q,
-            m,
-        );
-        i += 1;
-    }
-}
-
-// The values of the run.
-fn write_run(
-    index: &[u32],
-    rows: &[u32],
-    work: &mut [i8],
-    places: &[u32],
-    addrs: &[u16],
-    starts: &[u32; 121],
-    flags: &[bool; 120],
-    busy: bool,
-    k: usize,
-    n: usize,
-    p: usize,
-    lanes: usize,
-    first: usize,
-    q: usize,
-    m: usize,
-)
-    requires { ⌜ InRun n p lanes first q m (now index) (now work) × ((now rows ≡ rowsIn p (now index)) × Placed p first q m (now index) (now places)) ⌝ }
-    requires { ⌜ Shares k p q (codeIn p (now index)) first m (now addrs) (now starts) (now flags) busy × (k + p ≡ n) ⌝ }
-    ensures { λ _. ⌜ RunBack n p lanes first q m (now (index .entry)) (now (work .entry)) m (now (work .exit)) ⌝ }
-{
-    let mut x: usize = 0;
-    while x < m {
-        write_check(
-            index,
-            rows,
-            work,
-            places,
-            addrs,
-            starts,
-            flags,
-            busy,
-            x,
-            k,
-            n,
-            p,
-            lanes,
-            first,
-            q,
-            m,
-        );
+        place += d;
         x += 1;
     }
 }
 
-// The messages of the run, and where each check's t and old messages begin. t is work of 128 times 16.
-fn send_run(
+// The values of the variables of the d edges from edge s, all of the row, from their sums.
+fn settle_check(
+    work: &mut [i8],
+    sums: &[i32],
+    rows: &[u32],
+    base: usize,
+    s: usize,
+    d: usize,
+    n: usize,
+    lanes: usize,
+)
+    requires { ⌜ Room (now rows) s d n lanes (now work) × ((374 * lanes ≤ length (now sums)) × InRow (var (now rows)) base s d) ⌝ }
+    ensures { λ _. ⌜ CheckSettled (var (now (rows .entry))) base s lanes (now (sums .entry)) (now (work .entry)) d (now (work .exit)) ⌝ }
+{
+    let mut k: usize = 0;
+    while k < d {
+        let v = lane_memory::variable(rows, s + k);
+        let at = (v - base) * lanes;
+        fixed_delta::settle(work, v, lanes, sums, at);
+        k += 1;
+    }
+}
+
+// The values of the row's variables that have edges in the run.
+fn settle_row(
+    work: &mut [i8],
+    sums: &[i32],
+    index: &[u32],
+    rows: &[u32],
+    base: usize,
+    from: usize,
+    upto: usize,
+    n: usize,
+    p: usize,
+    lanes: usize,
+    first: usize,
+    q: usize,
+    m: usize,
+)
+    requires { ⌜ InRun n p lanes first q m (now index) (now work) × (now rows ≡ rowsIn p (now index)) ⌝ }
+    requires { ⌜ Grouped (codeIn p (now index)) (stepped first q) m base from upto × (374 * lanes ≤ length (now sums)) ⌝ }
+    ensures { λ _. ⌜ RowSettled n (edgesIn p (now (index .entry))) (codeIn p (now (index .entry))) (stepped first q) base lanes (now (sums .entry)) (now (work .entry)) m (now (work .exit)) ⌝ }
+{
+    let mut x: usize = 0;
+    while x < m {
+        let c = first + x * q;
+        let s = fixed_code::start(index, c);
+        let d = fixed_code::degree(index, n, p, c);
+        let end = least(upto, d);
+        settle_check(work, sums, rows, base, s + from, end - from, n, lanes);
+        x += 1;
+    }
+}
+
+// The values of row g, if its variables can have several edges in a run of layer l.
+fn write_row(
+    work: &mut [i8],
+    sums: &mut [i32],
+    index: &[u32],
+    rows: &[u32],
+    table: &[u8],
+    flags: &[bool; 120],
+    g: usize,
+    l: usize,
+    n: usize,
+    p: usize,
+    lanes: usize,
+    first: usize,
+    q: usize,
+    m: usize,
+)
+    requires { ⌜ InRun n p lanes first q m (now index) (now work) × (now rows ≡ rowsIn p (now index)) ⌝ }
+    requires { ⌜ Shares n q (codeIn p (now index)) first m l (now table) (now flags) × ((length (now table) ≡ 14520) × ((l < 120) × ((g < 120) × (0 < m)))) ⌝ }
+    requires { ⌜ 23936 ≤ length (now sums) ⌝ }
+    ensures { λ _. ⌜ FlagWritten n (edgesIn p (now (index .entry))) (codeIn p (now (index .entry))) (stepped first q) m lanes (now (flags .entry)) g (now (work .entry)) (now (work .exit)) ⌝ }
+{
+    if !flags[g] {
+        return;
+    }
+    let from = fixed_conflicts::span(table, g, l);
+    let upto = fixed_conflicts::span(table, g + 1, l);
+    let base = 374 * g;
+    let mut seen: [bool; 374] = [false; 374];
+    gather_row(
+        sums,
+        &mut seen,
+        index,
+        rows,
+        work,
+        base,
+        from,
+        upto,
+        n,
+        p,
+        lanes,
+        first,
+        q,
+        m,
+    );
+    settle_row(
+        work,
+        sums,
+        index,
+        rows,
+        base,
+        from,
+        upto,
+        n,
+        p,
+        lanes,
+        first,
+        q,
+        m,
+    );
+}
+
+// The values that a run has left.
+fn write_rows(
+    work: &mut [i8],
+    sums: &mut [i32],
+    index: &[u32],
+    rows: &[u32],
+    table: &[u8],
+    flags: &[bool; 120],
+    l: usize,
+    n: usize,
+    p: usize,
+    lanes: usize,
+    first: usize,
+    q: usize,
+    m: usize,
+)
+    requires { ⌜ InRun n p lanes first q m (now index) (now work) × (now rows ≡ rowsIn p (now index)) ⌝ }
+    requires { ⌜ Shares n q (codeIn p (now index)) first m l (now table) (now flags) × ((length (now table) ≡ 14520) × ((l < 120) × (0 < m))) ⌝ }
+    requires { ⌜ 23936 ≤ length (now sums) ⌝ }
+    ensures { λ _. ⌜ Written n (edgesIn p (now (index .entry))) (codeIn p (now (index .entry))) (stepped first q) m lanes (now (flags .entry)) (now (work .entry)) 120 (now (work .exit)) ⌝ }
+{
+    let mut g: usize = 0;
+    while g < 120 {
+        write_row(
+            work,
+            sums,
+            index,
+            rows,
+            table,
+            flags,
+            g,
+            l,
+            n,
+            p,
+            lanes,
+            first,
+            q,
+            m,
+        );
+        g += 1;
+    }
+}
+
+// A run but for the values of the flagged rows' variables. t and u are work of 128 times 16.
+fn shared_run(
     index: &[u32],
     rows: &[u32],
     work: &mut [i8],
-    places: &mut [u32],
     t: &mut [i8],
+    u: &mut [i8],
+    flags: &[bool; 120],
     n: usize,
     p: usize,
     lanes: usize,
@@ -383,8 +303,9 @@ fn send_run(
     m: usize,
 )
     requires { ⌜ InRun n p lanes first q m (now index) (now work) × (now rows ≡ rowsIn p (now index)) ⌝ }
-    requires { ⌜ (2048 ≤ length (now t)) × (m ≤ length (now places)) ⌝ }
-    ensures { λ _. ⌜ Sent n p lanes offset (now (index .entry)) first q (now (work .entry)) m (now (work .exit)) × Placed p first q m (now (index .entry)) (now (places .exit)) ⌝ }
+    requires { ⌜ ((v : ℕ) → sharedOf (now flags) v ≡ false → Once (codeIn p (now index)) (stepped first q) m v) ⌝ }
+    requires { ⌜ (2048 ≤ length (now t)) × (2048 ≤ length (now u)) ⌝ }
+    ensures { λ _. ⌜ PartMade (sharedOf (now (flags .entry))) n p lanes offset (now (index .entry)) first q m (now (work .entry)) (now (work .exit)) ⌝ }
 {
     let mut place: usize = 0;
     let mut x: usize = 0;
@@ -392,8 +313,7 @@ fn send_run(
         let c = first + x * q;
         let s = fixed_code::start(index, c);
         let d = fixed_code::degree(index, n, p, c);
-        places[x] = place as u32;
-        simd_layered::check_messages(rows, s, d, work, t, n, lanes, place, offset);
+        simd_layered::check_shared(rows, s, d, work, t, u, n, lanes, place, flags, offset);
         place += d;
         x += 1;
     }
@@ -431,20 +351,19 @@ fn alone_run(
     }
 }
 
-// One run: in a layer that is not busy check after check; else its messages from its starting values, then its values.
+// One run: in a layer without such rows check after check; else their values at the end.
 fn run(
     index: &[u32],
     rows: &[u32],
     work: &mut [i8],
-    places: &mut [u32],
     t: &mut [i8],
     u: &mut [i8],
-    addrs: &[u16],
-    starts: &[u32; 121],
+    sums: &mut [i32],
+    table: &[u8],
     flags: &[bool; 120],
-    busy: bool,
+    any: bool,
+    l: usize,
     offset: i8,
-    k: usize,
     n: usize,
     p: usize,
     lanes: usize,
@@ -453,20 +372,22 @@ fn run(
     m: usize,
 )
     requires { ⌜ InRun n p lanes first q m (now index) (now work) × (now rows ≡ rowsIn p (now index)) ⌝ }
-    requires { ⌜ Shares k p q (codeIn p (now index)) first m (now addrs) (now starts) (now flags) busy × (k + p ≡ n) ⌝ }
-    requires { ⌜ (2048 ≤ length (now t)) × ((2048 ≤ length (now u)) × (m ≤ length (now places))) ⌝ }
+    requires { ⌜ Shares n q (codeIn p (now index)) first m l (now table) (now flags) × ((length (now table) ≡ 14520) × ((l < 120) × (0 < m))) ⌝ }
+    requires { ⌜ (any ≡ false → (g : ℕ) → getD (now flags) g false ≡ false) ⌝ }
+    requires { ⌜ (2048 ≤ length (now t)) × ((2048 ≤ length (now u)) × (23936 ≤ length (now sums))) ⌝ }
     ensures { λ _. ⌜ RunMade n p lanes offset (now (index .entry)) first q m (now (work .entry)) (now (work .exit)) ⌝ }
 {
-    if !busy {
+    if !any {
         alone_run(index, rows, work, t, u, n, p, lanes, offset, first, q, m);
         return;
     }
-    send_run(
+    shared_run(
         index,
         rows,
         work,
-        places,
         t,
+        u,
+        flags,
         n,
         p,
         lanes,
@@ -475,16 +396,14 @@ fn run(
         q,
         m,
     );
-    write_run(
+    write_rows(
+        work,
+        sums,
         index,
         rows,
-        work,
-        places,
-        addrs,
-        starts,
+        table,
         flags,
-        busy,
-        k,
+        l,
         n,
         p,
         lanes,
@@ -494,26 +413,18 @@ fn run(
     );
 }
 
-fn least(a: usize, b: usize) -> usize
-    ensures { λ r. ⌜ r ≡ min a b ⌝ }
-{
-    if a < b { a } else { b }
-}
-
 // Layer l in runs of `step` checks, the last shorter.
 fn runs(
     index: &[u32],
     rows: &[u32],
     work: &mut [i8],
-    places: &mut [u32],
     t: &mut [i8],
     u: &mut [i8],
-    addrs: &[u16],
-    starts: &[u32; 121],
+    sums: &mut [i32],
+    table: &[u8],
     flags: &[bool; 120],
-    busy: bool,
+    any: bool,
     offset: i8,
-    k: usize,
     n: usize,
     p: usize,
     lanes: usize,
@@ -522,8 +433,9 @@ fn runs(
     l: usize,
 )
     requires { ⌜ InLayer n p lanes q step l (now index) (now work) × (now rows ≡ rowsIn p (now index)) ⌝ }
-    requires { ⌜ Shares k p q (codeIn p (now index)) l 374 (now addrs) (now starts) (now flags) busy × (k + p ≡ n) ⌝ }
-    requires { ⌜ (2048 ≤ length (now t)) × ((2048 ≤ length (now u)) × (374 ≤ length (now places))) ⌝ }
+    requires { ⌜ Shares n q (codeIn p (now index)) l 374 l (now table) (now flags) × ((length (now table) ≡ 14520) × (l < 120)) ⌝ }
+    requires { ⌜ (any ≡ false → (g : ℕ) → getD (now flags) g false ≡ false) ⌝ }
+    requires { ⌜ (2048 ≤ length (now t)) × ((2048 ≤ length (now u)) × (23936 ≤ length (now sums))) ⌝ }
     ensures { λ _. ⌜ RunsMade n p lanes offset (now (index .entry)) q step l (now (work .entry)) (runCount step) (now (work .exit)) ⌝ }
 {
     let mut at: usize = 0;
@@ -535,15 +447,14 @@ fn runs(
             index,
             rows,
             work,
-            places,
             t,
             u,
-            addrs,
-            starts,
+            sums,
+            table,
             flags,
-            busy,
+            any,
+            l,
             offset,
-            k,
             n,
             p,
             lanes,
@@ -556,46 +467,43 @@ fn runs(
     }
 }
 
-// Layers 0 to q − 1.
+// Layers 0 to q − 1. `few` is how many rows of addresses there are.
 fn layers(
     index: &[u32],
     rows: &[u32],
     work: &mut [i8],
-    places: &mut [u32],
     t: &mut [i8],
     u: &mut [i8],
-    addrs: &[u16],
-    starts: &[u32; 121],
-    flags: &[bool; 120],
-    busy: &[bool; 120],
+    sums: &mut [i32],
+    table: &[u8],
+    few: usize,
     offset: i8,
-    k: usize,
     n: usize,
     p: usize,
     lanes: usize,
     q: usize,
     step: usize,
 )
-    requires { ⌜ AllLayers k n p lanes q step (now index) (now work) (now addrs) (now starts) (now flags) (now busy) × (now rows ≡ rowsIn p (now index)) ⌝ }
-    requires { ⌜ (2048 ≤ length (now t)) × ((2048 ≤ length (now u)) × (374 ≤ length (now places))) ⌝ }
+    requires { ⌜ AllLayers n p lanes q step few (now index) (now work) (now table) × (now rows ≡ rowsIn p (now index)) ⌝ }
+    requires { ⌜ (2048 ≤ length (now t)) × ((2048 ≤ length (now u)) × (23936 ≤ length (now sums))) ⌝ }
     ensures { λ _. ⌜ LayersMade n p lanes offset (now (index .entry)) q step (now (work .entry)) q (now (work .exit)) ⌝ }
 {
     let mut l: usize = 0;
     while l < q {
-        let b = busy[l];
+        let s = fixed_conflicts::shared(table, few, q, l);
+        let flags = s.rows;
+        let any = s.any;
         runs(
             index,
             rows,
             work,
-            places,
             t,
             u,
-            addrs,
-            starts,
-            flags,
-            b,
+            sums,
+            table,
+            &flags,
+            any,
             offset,
-            k,
             n,
             p,
             lanes,
@@ -623,31 +531,27 @@ pub fn layered_iteration(
     requires { ⌜ (0 < step) × (step ≤ 4294967295) ⌝ }
     ensures { λ _. ⌜ Layered n (now (lens .entry)) (now (addrs .entry)) lanes offset step (now (work .entry)) (now (work .exit)) ⌝ }
 {
-    let c = fixed_conflicts::work_out(n, lens, addrs);
-    let starts = c.starts;
-    let flags = c.rows;
-    let busy = c.layers;
+    let mut table: [u8; 14520] = [0; 14520];
+    fixed_conflicts::spans(n, lens, addrs, &mut table);
     let bits = n as usize;
-    let k = 374 * lens.len();
+    let few = lens.len();
+    let k = 374 * few;
     let p = bits - k;
     let q = p / 374;
     let base = p + 1;
     let mut t: [i8; 2048] = [0; 2048];
     let mut u: [i8; 2048] = [0; 2048];
-    let mut places: [u32; 374] = [0; 374];
+    let mut sums: [i32; 23936] = [0; 23936];
     layers(
         index,
         &index[base..],
         work,
-        &mut places,
         &mut t,
         &mut u,
-        addrs,
-        &starts,
-        &flags,
-        &busy,
+        &mut sums,
+        &table,
+        few,
         offset,
-        k,
         bits,
         p,
         lanes,

@@ -1,4 +1,2 @@
--- The layered schedule's kernels by columns, and their column laws.
-pub mod Pass
-pub mod Words
-pub mod Alone
+-- A check of a run: its messages, what is kept of its edges, and its values.
+pub mod Checked

@@ -1,127 +1,18 @@
 // A check's messages, and its values after them, for a run of the layered schedule. The memory is that of simd: the E rows from n + E are
 // the t of a run's edges, those from n + 2E their old messages, and `place` is where the check's begin among them.
+// The functions come twice: for a run in which no variable has several edges, and for one in which those of flagged rows of 374 variables can.
 use lane16::Pass;
+ghost use mathlib.Core.Bool.{false};
 ghost use Prim.Native.Nat.{_<_, _≤_, _+_, _*_};
 ghost use lib.ListN.{length};
 ghost use Rattle.lane16.specs.Lanes.{NoneNegative};
 ghost use Rattle.lane_memory.specs.Column.{Part};
 ghost use Rattle.lane_memory.specs.Room.{var, Room, Width};
 ghost use Rattle.simd.specs.Pass.{Scan};
-ghost use Rattle.simd_layered.specs.Pass.{Kept, Edge, messagesColumn, applied};
-ghost use Rattle.simd_layered.specs.Alone.{Told, aloneColumn, CheckAlone};
-ghost use Rattle.simd_layered.specs.Words.{CheckMessages, ApplyMessages};
+ghost use Rattle.simd_layered.specs.Checked.{sharedIn, StoredUnless, Told, runColumn, Checked};
 
-// The second pass of the layered schedule: each edge's t and old message go to the rows of the run's edges, from `place` on, then its new
-// message to its own; L is left.
-fn keep(
-    rows: &[u32],
-    s: usize,
-    d: usize,
-    a: &mut [i8],
-    t: &[i8],
-    n: usize,
-    lanes: usize,
-    at: usize,
-    w: usize,
-    place: usize,
-    sign: [i8; 16],
-    least: [u8; 16],
-    m1: [i8; 16],
-    m2: [i8; 16],
-)
-    requires { ⌜ Room (now rows) s d n lanes (now a) ⌝ }
-    requires { ⌜ (at + w ≤ lanes) × (Width w × (2048 ≤ length (now t))) ⌝ }
-    requires { ⌜ place + d ≤ length (now rows) ⌝ }
-    requires { ⌜ NoneNegative m1 × NoneNegative m2 ⌝ }
-    ensures { λ _. ⌜ Kept w s n (length (now (rows .entry))) place lanes at (now (t .entry)) sign least m1 m2 (now (a .entry)) d (now (a .exit)) ⌝ }
-{
-    let edges = rows.len();
-    let mut k: usize = 0;
-    while k < d {
-        let e = s + k;
-        let u = n + e;
-        let x = lane_memory::load(t, k, 16, 0);
-        let old = lane_memory::load(a, u, lanes, at);
-        let p = lane16::reply(x, sign, least, m1, m2);
-        let m = p.m;
-        let f = place + k;
-        let tu = n + edges + f;
-        lane_memory::store_lanes(a, tu, lanes, at, x, w);
-        let ou = n + 2 * edges + f;
-        lane_memory::store_lanes(a, ou, lanes, at, old, w);
-        lane_memory::store_lanes(a, u, lanes, at, m, w);
-        k += 1;
-    }
-}
-
-fn messages_chunk(
-    rows: &[u32],
-    s: usize,
-    d: usize,
-    a: &mut [i8],
-    t: &mut [i8],
-    n: usize,
-    lanes: usize,
-    at: usize,
-    w: usize,
-    place: usize,
-    offset: i8,
-)
-    requires { ⌜ Room (now rows) s d n lanes (now a) ⌝ }
-    requires { ⌜ (at + w ≤ lanes) × (Width w × (2048 ≤ length (now t))) ⌝ }
-    requires { ⌜ place + d ≤ length (now rows) ⌝ }
-    ensures { λ _. ⌜ Part (messagesColumn offset (var (now (rows .entry))) s d n (length (now (rows .entry))) place) w lanes at (now (a .entry)) (now (a .exit)) ⌝ }
-{
-    let pass = simd::scan(rows, s, d, a, t, n, lanes, at);
-    let r = lane16::prepare(pass, offset);
-    let sign = r.sign;
-    let least = r.least;
-    let m1 = r.m1;
-    let m2 = r.m2;
-    keep(
-        rows,
-        s,
-        d,
-        a,
-        t,
-        n,
-        lanes,
-        at,
-        w,
-        place,
-        sign,
-        least,
-        m1,
-        m2,
-    );
-}
-
-// The messages of one check of every lane's word, for a run of the layered schedule. Its edge k's t and old message go to the rows
-// n + E + place + k and n + 2E + place + k.
-pub fn check_messages(
-    rows: &[u32],
-    s: usize,
-    d: usize,
-    a: &mut [i8],
-    t: &mut [i8],
-    n: usize,
-    lanes: usize,
-    place: usize,
-    offset: i8,
-)
-    requires { ⌜ Room (now rows) s d n lanes (now a) ⌝ }
-    requires { ⌜ (2048 ≤ length (now t)) × (place + d ≤ length (now rows)) ⌝ }
-    ensures { λ _. ⌜ CheckMessages (now (rows .entry)) s d n lanes place offset (now (a .entry)) (now (a .exit)) ⌝ }
-{
-    let mut at: usize = 0;
-    while at < lanes {
-        let w = lane_memory::width(lanes - at);
-        messages_chunk(rows, s, d, a, t, n, lanes, at, w, place, offset);
-        at += w;
-    }
-}
-
-// The second pass for a check whose variables have no other edge in the run: as above, and each variable's value.
+// The second pass for a check whose variables have no other edge in the run: each edge's t and old message go to the rows of the run's
+// edges, from `place` on, then its new message to its own row and its variable's value to that one's.
 fn answer(
     rows: &[u32],
     s: usize,
@@ -142,7 +33,7 @@ fn answer(
     requires { ⌜ (at + w ≤ lanes) × (Width w × (2048 ≤ length (now t))) ⌝ }
     requires { ⌜ place + d ≤ length (now rows) ⌝ }
     requires { ⌜ NoneNegative m1 × NoneNegative m2 ⌝ }
-    ensures { λ _. ⌜ Told w (var (now (rows .entry))) s n (length (now (rows .entry))) place lanes at (now (t .entry)) sign least m1 m2 (now (a .entry)) d (now (a .exit)) ⌝ }
+    ensures { λ _. ⌜ Told (λ v. false) w (var (now (rows .entry))) s n (length (now (rows .entry))) place lanes at (now (t .entry)) sign least m1 m2 (now (a .entry)) d (now (a .exit)) ⌝ }
 {
     let edges = rows.len();
     let mut k: usize = 0;
@@ -185,7 +76,7 @@ fn finish(
     requires { ⌜ (at + w ≤ lanes) × (Width w × (2048 ≤ length (now t))) ⌝ }
     requires { ⌜ place + d ≤ length (now rows) ⌝ }
     requires { ⌜ Scan (var (now rows)) s n lanes at (now a) d (now t) (st .min1) (st .min2) (st .sign) ⌝ }
-    ensures { λ _. ⌜ Part (aloneColumn offset (var (now (rows .entry))) s d n (length (now (rows .entry))) place) w lanes at (now (a .entry)) (now (a .exit)) ⌝ }
+    ensures { λ _. ⌜ Part (runColumn (λ v. false) offset (var (now (rows .entry))) s d n (length (now (rows .entry))) place) w lanes at (now (a .entry)) (now (a .exit)) ⌝ }
 {
     let r = lane16::prepare(st, offset);
     let sign = r.sign;
@@ -227,7 +118,7 @@ fn two_chunks(
     requires { ⌜ Room (now rows) s d n lanes (now a) ⌝ }
     requires { ⌜ (at + 32 ≤ lanes) × ((2048 ≤ length (now t)) × (2048 ≤ length (now u))) ⌝ }
     requires { ⌜ place + d ≤ length (now rows) ⌝ }
-    ensures { λ _. ⌜ Part (aloneColumn offset (var (now (rows .entry))) s d n (length (now (rows .entry))) place) 32 lanes at (now (a .entry)) (now (a .exit)) ⌝ }
+    ensures { λ _. ⌜ Part (runColumn (λ v. false) offset (var (now (rows .entry))) s d n (length (now (rows .entry))) place) 32 lanes at (now (a .entry)) (now (a .exit)) ⌝ }
 {
     let p = simd::scan_two(rows, s, d, a, t, u, n, lanes, at);
     let one = p.one;
@@ -253,7 +144,7 @@ fn alone_chunk(
     requires { ⌜ Room (now rows) s d n lanes (now a) ⌝ }
     requires { ⌜ (at < lanes) × ((2048 ≤ length (now t)) × (2048 ≤ length (now u))) ⌝ }
     requires { ⌜ place + d ≤ length (now rows) ⌝ }
-    ensures { λ w. ⌜ ((0 < w) × (at + w ≤ lanes)) × Part (aloneColumn offset (var (now (rows .entry))) s d n (length (now (rows .entry))) place) w lanes at (now (a .entry)) (now (a .exit)) ⌝ }
+    ensures { λ w. ⌜ ((0 < w) × (at + w ≤ lanes)) × Part (runColumn (λ v. false) offset (var (now (rows .entry))) s d n (length (now (rows .entry))) place) w lanes at (now (a .entry)) (now (a .exit)) ⌝ }
 {
     if 32 <= lanes - at {
         two_chunks(rows, s, d, a, t, u, n, lanes, at, place, offset);
@@ -285,8 +176,8 @@ fn alone_chunk(
     w
 }
 
-// One check of every lane's word, whose variables have no other edge in the run: its messages, its values, and as above t and the old
-// messages. t and u are work of 128 times 16.
+// One check of every lane's word, whose variables have no other edge in the run: its messages, its values, and t and the old messages.
+// t and u are work of 128 times 16.
 pub fn check_alone(
     rows: &[u32],
     s: usize,
@@ -301,7 +192,7 @@ pub fn check_alone(
 )
     requires { ⌜ Room (now rows) s d n lanes (now a) ⌝ }
     requires { ⌜ (2048 ≤ length (now t)) × ((2048 ≤ length (now u)) × (place + d ≤ length (now rows))) ⌝ }
-    ensures { λ _. ⌜ CheckAlone (now (rows .entry)) s d n lanes place offset (now (a .entry)) (now (a .exit)) ⌝ }
+    ensures { λ _. ⌜ Checked (λ v. false) (now (rows .entry)) s d n lanes place offset (now (a .entry)) (now (a .exit)) ⌝ }
 {
     let mut at: usize = 0;
     while at < lanes {
@@ -310,86 +201,245 @@ pub fn check_alone(
     }
 }
 
-// Rows tu and u, t and a message, added into row v, of the w lanes from `at`.
-fn apply_edge(a: &mut [i8], v: usize, tu: usize, u: usize, lanes: usize, at: usize, w: usize)
-    requires { ⌜ (tu * lanes + at + 16 ≤ length (now a)) × (u * lanes + at + 16 ≤ length (now a)) ⌝ }
-    requires { ⌜ (v * lanes + lanes ≤ length (now a)) × ((at + w ≤ lanes) × (w ≤ 16)) ⌝ }
-    ensures { λ _. ⌜ Edge w lanes v tu u at (now (a .entry)) (now (a .exit)) ⌝ }
+// The value y of variable v, unless its row is flagged.
+fn store_value(
+    a: &mut [i8],
+    v: usize,
+    lanes: usize,
+    at: usize,
+    y: [i8; 16],
+    w: usize,
+    flags: &[bool; 120],
+)
+    requires { ⌜ (v * lanes + lanes ≤ length (now a)) × (v < 44880) ⌝ }
+    requires { ⌜ (at + w ≤ lanes) × Width w ⌝ }
+    ensures { λ _. ⌜ StoredUnless (sharedIn (now (flags .entry)) v) w lanes v at y (now (a .entry)) (now (a .exit)) ⌝ }
 {
-    let x = lane_memory::load(a, tu, lanes, at);
-    let m = lane_memory::load(a, u, lanes, at);
-    let y = lane16::add(x, m);
-    lane_memory::store(a, v, lanes, at, y, w);
+    if flags[v / 374] {
+        return;
+    }
+    lane_memory::store_lanes(a, v, lanes, at, y, w);
 }
 
-// The same, with a constant width in each arm.
-fn apply_edge_lanes(a: &mut [i8], v: usize, tu: usize, u: usize, lanes: usize, at: usize, w: usize)
-    requires { ⌜ (tu * lanes + at + 16 ≤ length (now a)) × (u * lanes + at + 16 ≤ length (now a)) ⌝ }
-    requires { ⌜ (v * lanes + lanes ≤ length (now a)) × ((at + w ≤ lanes) × Width w) ⌝ }
-    ensures { λ _. ⌜ Edge w lanes v tu u at (now (a .entry)) (now (a .exit)) ⌝ }
-{
-    if w == 16 {
-        apply_edge(a, v, tu, u, lanes, at, 16);
-        return;
-    }
-    if w == 8 {
-        apply_edge(a, v, tu, u, lanes, at, 8);
-        return;
-    }
-    if w == 4 {
-        apply_edge(a, v, tu, u, lanes, at, 4);
-        return;
-    }
-    apply_edge(a, v, tu, u, lanes, at, 1);
-}
-
-// A check's values after its messages, of the w lanes from `at`.
-fn apply_chunk(
+// The second pass for a check some of whose variables have other edges in the run: these, whose rows are flagged, keep their values.
+fn answer_shared(
     rows: &[u32],
     s: usize,
     d: usize,
     a: &mut [i8],
+    t: &[i8],
     n: usize,
     lanes: usize,
     at: usize,
     w: usize,
     place: usize,
+    flags: &[bool; 120],
+    sign: [i8; 16],
+    least: [u8; 16],
+    m1: [i8; 16],
+    m2: [i8; 16],
 )
-    requires { ⌜ Room (now rows) s d n lanes (now a) ⌝ }
-    requires { ⌜ (at + w ≤ lanes) × (Width w × (place + d ≤ length (now rows))) ⌝ }
-    ensures { λ _. ⌜ Part (applied n (length (now (rows .entry))) (var (now (rows .entry))) s place d) w lanes at (now (a .entry)) (now (a .exit)) ⌝ }
+    requires { ⌜ Room (now rows) s d n lanes (now a) × (n ≤ 44880) ⌝ }
+    requires { ⌜ (at + w ≤ lanes) × (Width w × (2048 ≤ length (now t))) ⌝ }
+    requires { ⌜ place + d ≤ length (now rows) ⌝ }
+    requires { ⌜ NoneNegative m1 × NoneNegative m2 ⌝ }
+    ensures { λ _. ⌜ Told (sharedIn (now (flags .entry))) w (var (now (rows .entry))) s n (length (now (rows .entry))) place lanes at (now (t .entry)) sign least m1 m2 (now (a .entry)) d (now (a .exit)) ⌝ }
 {
     let edges = rows.len();
     let mut k: usize = 0;
     while k < d {
         let e = s + k;
         let v = lane_memory::variable(rows, e);
+        let u = n + e;
+        let x = lane_memory::load(t, k, 16, 0);
+        let old = lane_memory::load(a, u, lanes, at);
+        let p = lane16::reply(x, sign, least, m1, m2);
+        let m = p.m;
+        let y = p.y;
         let f = place + k;
         let tu = n + edges + f;
-        let u = n + e;
-        apply_edge_lanes(a, v, tu, u, lanes, at, w);
+        lane_memory::store_lanes(a, tu, lanes, at, x, w);
+        let ou = n + 2 * edges + f;
+        lane_memory::store_lanes(a, ou, lanes, at, old, w);
+        lane_memory::store_lanes(a, u, lanes, at, m, w);
+        store_value(a, v, lanes, at, y, w, flags);
         k += 1;
     }
 }
 
-// The values of one check's variables, of every lane's word, after the messages of its run: L = sat(t + message), edges in order.
-pub fn apply_messages(
+// A check that was scanned, of the w lanes from `at`.
+fn finish_shared(
     rows: &[u32],
     s: usize,
     d: usize,
     a: &mut [i8],
+    t: &[i8],
+    n: usize,
+    lanes: usize,
+    at: usize,
+    w: usize,
+    place: usize,
+    flags: &[bool; 120],
+    st: Pass,
+    offset: i8,
+)
+    requires { ⌜ Room (now rows) s d n lanes (now a) × (n ≤ 44880) ⌝ }
+    requires { ⌜ (at + w ≤ lanes) × (Width w × (2048 ≤ length (now t))) ⌝ }
+    requires { ⌜ place + d ≤ length (now rows) ⌝ }
+    requires { ⌜ Scan (var (now rows)) s n lanes at (now a) d (now t) (st .min1) (st .min2) (st .sign) ⌝ }
+    ensures { λ _. ⌜ Part (runColumn (sharedIn (now (flags .entry))) offset (var (now (rows .entry))) s d n (length (now (rows .entry))) place) w lanes at (now (a .entry)) (now (a .exit)) ⌝ }
+{
+    let r = lane16::prepare(st, offset);
+    let sign = r.sign;
+    let least = r.least;
+    let m1 = r.m1;
+    let m2 = r.m2;
+    answer_shared(
+        rows,
+        s,
+        d,
+        a,
+        t,
+        n,
+        lanes,
+        at,
+        w,
+        place,
+        flags,
+        sign,
+        least,
+        m1,
+        m2,
+    );
+}
+
+// A check, of the 32 lanes from `at`.
+fn two_shared(
+    rows: &[u32],
+    s: usize,
+    d: usize,
+    a: &mut [i8],
+    t: &mut [i8],
+    u: &mut [i8],
+    n: usize,
+    lanes: usize,
+    at: usize,
+    place: usize,
+    flags: &[bool; 120],
+    offset: i8,
+)
+    requires { ⌜ Room (now rows) s d n lanes (now a) × (n ≤ 44880) ⌝ }
+    requires { ⌜ (at + 32 ≤ lanes) × ((2048 ≤ length (now t)) × (2048 ≤ length (now u))) ⌝ }
+    requires { ⌜ place + d ≤ length (now rows) ⌝ }
+    ensures { λ _. ⌜ Part (runColumn (sharedIn (now (flags .entry))) offset (var (now (rows .entry))) s d n (length (now (rows .entry))) place) 32 lanes at (now (a .entry)) (now (a .exit)) ⌝ }
+{
+    let p = simd::scan_two(rows, s, d, a, t, u, n, lanes, at);
+    let one = p.one;
+    let two = p.two;
+    finish_shared(
+        rows,
+        s,
+        d,
+        a,
+        t,
+        n,
+        lanes,
+        at,
+        16,
+        place,
+        flags,
+        one,
+        offset,
+    );
+    finish_shared(
+        rows,
+        s,
+        d,
+        a,
+        u,
+        n,
+        lanes,
+        at + 16,
+        16,
+        place,
+        flags,
+        two,
+        offset,
+    );
+}
+
+// A check, of 32 lanes from `at` if there are so many, else of fewer; how many these are.
+fn shared_chunk(
+    rows: &[u32],
+    s: usize,
+    d: usize,
+    a: &mut [i8],
+    t: &mut [i8],
+    u: &mut [i8],
+    n: usize,
+    lanes: usize,
+    at: usize,
+    place: usize,
+    flags: &[bool; 120],
+    offset: i8,
+) -> usize
+    requires { ⌜ Room (now rows) s d n lanes (now a) × (n ≤ 44880) ⌝ }
+    requires { ⌜ (at < lanes) × ((2048 ≤ length (now t)) × (2048 ≤ length (now u))) ⌝ }
+    requires { ⌜ place + d ≤ length (now rows) ⌝ }
+    ensures { λ w. ⌜ ((0 < w) × (at + w ≤ lanes)) × Part (runColumn (sharedIn (now (flags .entry))) offset (var (now (rows .entry))) s d n (length (now (rows .entry))) place) w lanes at (now (a .entry)) (now (a .exit)) ⌝ }
+{
+    if 32 <= lanes - at {
+        two_shared(rows, s, d, a, t, u, n, lanes, at, place, flags, offset);
+        return 32;
+    }
+    let w = lane_memory::width(lanes - at);
+    let st = simd::scan(rows, s, d, a, t, n, lanes, at);
+    let r = lane16::prepare(st, offset);
+    let sign = r.sign;
+    let least = r.least;
+    let m1 = r.m1;
+    let m2 = r.m2;
+    answer_shared(
+        rows,
+        s,
+        d,
+        a,
+        t,
+        n,
+        lanes,
+        at,
+        w,
+        place,
+        flags,
+        sign,
+        least,
+        m1,
+        m2,
+    );
+    w
+}
+
+// One check of every lane's word, some of whose variables have other edges in the run: all but the values of those.
+pub fn check_shared(
+    rows: &[u32],
+    s: usize,
+    d: usize,
+    a: &mut [i8],
+    t: &mut [i8],
+    u: &mut [i8],
     n: usize,
     lanes: usize,
     place: usize,
+    flags: &[bool; 120],
+    offset: i8,
 )
-    requires { ⌜ Room (now rows) s d n lanes (now a) ⌝ }
-    requires { ⌜ place + d ≤ length (now rows) ⌝ }
-    ensures { λ _. ⌜ ApplyMessages (now (rows .entry)) s d n lanes place (now (a .entry)) (now (a .exit)) ⌝ }
+    requires { ⌜ Room (now rows) s d n lanes (now a) × (n ≤ 44880) ⌝ }
+    requires { ⌜ (2048 ≤ length (now t)) × ((2048 ≤ length (now u)) × (place + d ≤ length (now rows))) ⌝ }
+    ensures { λ _. ⌜ Checked (sharedIn (now (flags .entry))) (now (rows .entry)) s d n lanes place offset (now (a .entry)) (now (a .exit)) ⌝ }
 {
     let mut at: usize = 0;
     while at < lanes {
-        let w = lane_memory::width(lanes - at);
-        apply_chunk(rows, s, d, a, n, lanes, at, w, place);
+        let w = shared_chunk(rows, s, d, a, t, u, n, lanes, at, place, flags, offset);
         at += w;
     }
 }

@@ -23,13 +23,13 @@ byte : (x : ℤ) → mag x < 128 → {y : ℤ} → x ≡ y → natAbs y ≤ 128
 byte x h {y} e = subst (λ (z : ℤ). natAbs z ≤ 128) e (abs-byte x (sfits-of h))
 
 abbrev Inv-loop : tie.InvT-loop
-Inv-loop sums₀ work tu ru ou lanes seen many i₀ sums i = (i ≤ lanes) × (EdgeGathered lanes tu ru ou seen work sums₀ i sums × Growing lanes many i sums)
+Inv-loop sums₀ at work tu ru ou lanes seen many i₀ sums i = (i ≤ lanes) × (EdgeGathered lanes at tu ru ou seen work sums₀ i sums × Growing lanes at many seen i sums)
 
 abbrev μ-loop : tie.MeasureT-loop
-μ-loop sums₀ work tu ru ou lanes seen many i₀ sums i = lanes - i
+μ-loop sums₀ at work tu ru ou lanes seen many i₀ sums i = lanes - i
 
 loop-holds : tie.Need-loop-holds Inv-loop μ-loop
-loop-holds c = let a = c .args in (search needs, (edge-start (a .lanes) (a .tu) (a .ru) (a .ou) (a .seen) (a .work .now) (a .sums .now), growing-start (c .pre .1 .1 .1)))
+loop-holds c = let a = c .args in (search needs, (edge-start (a .lanes) (a .at) (a .tu) (a .ru) (a .ou) (a .seen) (a .work .now) (a .sums .now), growing-start (c .pre .1 .1 .1)))
 
 value-requires : tie.Need-value-requires Inv-loop μ-loop
 value-requires c κs = search needs
@@ -39,6 +39,9 @@ value-requires-2 c κs = search needs
 
 value-requires-3 : tie.Need-value-requires-3 Inv-loop μ-loop
 value-requires-3 c κs = search needs
+
+add-s : tie.Need-add-s Inv-loop μ-loop
+add-s c = search needs
 
 mul-s : tie.Need-mul-s Inv-loop μ-loop
 mul-s c = search needs
@@ -51,10 +54,13 @@ gathered-requires c κs =
     let s = c .before .before .before .before .before .before in
     let h = c .before .before .before .before .before in
     let q = c .before .before .before .before .loop-test .taken in
-    rw (toZ-ofZ w32 (z (h .loop .sums) (h .loop .i)) (sfits-of (c .s .given))) (omega (arith, h .loop .inv .1 .1 .still (h .loop .i) (omega arith) q, s .pre .1 .1 .0))
+    rw (toZ-ofZ w32 (z (h .loop .sums) (s .args .at + h .loop .i)) (sfits-of (c .s .given))) (λ b. omega (arith, h .loop .inv .1 .1 .still b (h .loop .i) (omega arith) q, s .pre .1 .1 .0))
 
-mul-t15 : tie.Need-mul-t15 Inv-loop μ-loop
-mul-t15 c = search needs
+add-t16 : tie.Need-add-t16 Inv-loop μ-loop
+add-t16 c = search needs
+
+mul-t17 : tie.Need-mul-t17 Inv-loop μ-loop
+mul-t17 c = search needs
 
 slice-set-from-sums : tie.Need-slice-set-from-sums Inv-loop μ-loop
 slice-set-from-sums c = let s = c .before .before .before .before .before .before .before in omega (arith, s .pre .1 .0, c .before .before .before .before .before .loop-test .taken, c .before .before .before .before .before .before .loop .inv .1 .0 .long)
@@ -76,12 +82,12 @@ loop-again c =
     let o = c .before .before .value3 in
     let g = c .gathered in
     let f = column (a .lanes) (a .work .now) (h .loop .i) in
-    let room : h .loop .i < length (a .sums .now) = omega (arith, s .pre .1 .0, q) in
-    let is : toZ w32 (ofZ w32 (g .result)) ≡ plus (a .seen) f (a .tu) (a .ru) (a .ou) (z (h .loop .sums) (h .loop .i)) =
+    let room : a .at + h .loop .i < length (a .sums .now) = omega (arith, s .pre .1 .0, q) in
+    let is : toZ w32 (ofZ w32 (g .result)) ≡ plus (a .seen) f (a .tu) (a .ru) (a .ou) (z (h .loop .sums) (s .args .at + h .loop .i)) =
     toZ-ofZ w32 (g .result) (sfits-of (g .ok))
     ∙ g .ensures
     ∙ (λ j. cond (a .seen)
-    (toZ-ofZ w32 (z (h .loop .sums) (h .loop .i)) (sfits-of (c .before .s .given)) j +ℤ ((plain (n .result) (sfits-of (n .ok)) ∙ n .ensures) j -ℤ (plain (o .result) (sfits-of (o .ok)) ∙ o .ensures) j))
+    (toZ-ofZ w32 (z (h .loop .sums) (s .args .at + h .loop .i)) (sfits-of (c .before .s .given)) j +ℤ ((plain (n .result) (sfits-of (n .ok)) ∙ n .ensures) j -ℤ (plain (o .result) (sfits-of (o .ok)) ∙ o .ensures) j))
     ((plain (t .result) (sfits-of (t .ok)) ∙ t .ensures) j +ℤ (plain (n .result) (sfits-of (n .ok)) ∙ n .ensures) j)) in (
       search needs,
       (
@@ -109,10 +115,12 @@ gather-spec =
     value-requires
     value-requires-2
     value-requires-3
+    add-s
     mul-s
     slice-copy-out-s
     gathered-requires
-    mul-t15
+    add-t16
+    mul-t17
     slice-set-from-sums
     add-i
     loop-less

@@ -14,13 +14,16 @@ use Rattle.fixed_delta.proofs.settle.Statement.{statement}
 use Rattle.fixed_delta.proofs.settle.Tie as tie
 
 abbrev Inv-loop : tie.InvT-loop
-Inv-loop work₀ u lanes sums i₀ work i = (i ≤ lanes) × ((length work ≡ length work₀) × Settled lanes u sums work₀ i work)
+Inv-loop work₀ u lanes sums at i₀ work i = (i ≤ lanes) × ((length work ≡ length work₀) × Settled lanes u at sums work₀ i work)
 
 abbrev μ-loop : tie.MeasureT-loop
-μ-loop work₀ u lanes sums i₀ work i = lanes - i
+μ-loop work₀ u lanes sums at i₀ work i = lanes - i
 
 loop-holds : tie.Need-loop-holds Inv-loop μ-loop
-loop-holds c = let a = c .args in (search needs, (refl, settled-start (a .lanes) (a .u) (a .sums .now) (a .work .now)))
+loop-holds c = let a = c .args in (search needs, (refl, settled-start (a .lanes) (a .u) (a .at) (a .sums .now) (a .work .now)))
+
+add-s : tie.Need-add-s Inv-loop μ-loop
+add-s c = let s = c .before .before in record { fits = omega (arith, s .pre .1, c .loop-test .taken, s .good) }
 
 mul-s : tie.Need-mul-s Inv-loop μ-loop
 mul-s c = search needs
@@ -55,7 +58,7 @@ loop-again c =
       (
         omega (arith, k .kept, h .loop .inv .1 .0),
         settled-again (h .loop .inv .1 .1) q
-            (plain (x .result) (sfits-of (x .ok)) ∙ x .ensures ∙ ap satZ (toZ-ofZ w32 (getD (s .args .sums .now) (h .loop .i) (pos 0)) (sfits-of (c .before .before .before .before .s .given)))) (k .ensures),
+            (plain (x .result) (sfits-of (x .ok)) ∙ x .ensures ∙ ap satZ (toZ-ofZ w32 (getD (s .args .sums .now) (s .args .at + h .loop .i) (pos 0)) (sfits-of (c .before .before .before .before .s .given)))) (k .ensures),
       ),
     )
 
@@ -72,6 +75,7 @@ settle-spec =
     Inv-loop
     μ-loop
     loop-holds
+    add-s
     mul-s
     shared-slice-copy-out-s
     sat-requires

@@ -1,6 +1,7 @@
 use borrow.Author.Needs.{needs}
 use native.Mathlib.Omega.{arith}
 use mathlib.Core.Path.{_≡_, refl, sym, ap, subst, _∙_}
+use mathlib.Core.Bool.{false}
 use mathlib.Core.List.{List}
 use Prim.Native.Nat.{ℕ, _+_, _*_, _-_, _≤_, _<_}
 use lib.ListN.{length, getD}
@@ -8,18 +9,18 @@ use mir.Syntax.{w8}
 use mir.Val.{toZ, ofZ}
 use Rattle.laws.specs.Signed.{plain}
 use Rattle.lane_memory.specs.Room.{Room}
-use Rattle.simd_layered.specs.Alone.{CheckAlone}
+use Rattle.simd_layered.specs.Checked.{Checked}
 use Rattle.fixed_code.specs.Lists.{rowsIn, codeIn, room, memory-to}
 use Rattle.fixed_layered.specs.Full.{placeOf}
 use Rattle.fixed_layered.specs.Order.{stepped}
 use Rattle.fixed_layered.specs.Run.{place-first, place-next, place-room}
-use Rattle.fixed_layered.specs.Alone.{AloneMade, alone-start, alone-again, alone-end}
+use Rattle.fixed_layered.specs.Checks.{ChecksMade, checks-start, checks-again, checks-end, alone-made}
 use Rattle.fixed_layered.proofs.alone_run.Statement.{statement}
 use Rattle.fixed_layered.proofs.alone_run.Tie as tie
 
 abbrev Inv-loop : tie.InvT-loop
 Inv-loop index rows work₀ t₀ u₀ n p lanes offset first q m place₀ x₀ work t u place x =
-    (x ≤ m) × ((length work ≡ length work₀) × (((length t ≡ length t₀) × (length u ≡ length u₀)) × ((place ≡ placeOf (codeIn p index) (stepped first q) x) × AloneMade n p lanes (toZ w8 offset) index first q work₀ x work)))
+    (x ≤ m) × ((length work ≡ length work₀) × (((length t ≡ length t₀) × (length u ≡ length u₀)) × ((place ≡ placeOf (codeIn p index) (stepped first q) x) × ChecksMade (λ v. false) n p lanes (toZ w8 offset) index first q work₀ x work)))
 
 abbrev μ-loop : tie.MeasureT-loop
 μ-loop index rows work₀ t₀ u₀ n p lanes offset first q m place₀ x₀ work t u place x = m - x
@@ -27,7 +28,7 @@ abbrev μ-loop : tie.MeasureT-loop
 loop-holds : tie.Need-loop-holds Inv-loop μ-loop
 loop-holds c =
     let a = c .before .before .args in
-    (search needs, (refl, ((refl, refl), (place-first (a .p) (a .index .now) (a .first) (a .q), alone-start (a .n) (a .p) (a .lanes) (toZ w8 (ofZ w8 (a .offset))) (a .index .now) (a .first) (a .q) (a .work .now)))))
+    (search needs, (refl, ((refl, refl), (place-first (a .p) (a .index .now) (a .first) (a .q), checks-start (λ v. false) (a .n) (a .p) (a .lanes) (toZ w8 (ofZ w8 (a .offset))) (a .index .now) (a .first) (a .q) (a .work .now)))))
 
 mul-c : tie.Need-mul-c Inv-loop μ-loop
 mul-c c = let s = c .before .before .before .before in record { fits = omega (arith, s .pre .0 .0 .inside (c .before .loop .x) (c .loop-test .taken), s .pre .0 .0 .few-checks) }
@@ -90,8 +91,8 @@ loop-again c =
           (omega (arith, k .kept, h .loop .inv .1 .1 .0 .0), omega (arith, k .kept, h .loop .inv .1 .1 .0 .1)),
           (
             place-next (a .p) (a .index .now) (a .first) (a .q) (h .loop .x) (h .loop .place) (r .result) (d .result) inside e f g,
-            alone-again inside e f g (place-room (h .loop .x) (h .loop .place) (r .result) (d .result) (s .pre .0 .0) y e f g) (h .loop .inv .1 .1 .1 .1)
-                (subst (λ (l : List ℕ). CheckAlone l (r .result) (d .result) (a .n) (a .lanes) (h .loop .place) (toZ w8 (ofZ w8 (a .offset))) (h .loop .work) (k .last .1 .1 .1 .0)) (s .pre .0 .1) (k .ensures)),
+            checks-again inside e f g (place-room (h .loop .x) (h .loop .place) (r .result) (d .result) (s .pre .0 .0) y e f g) (h .loop .inv .1 .1 .1 .1)
+                (subst (λ (l : List ℕ). Checked (λ v. false) l (r .result) (d .result) (a .n) (a .lanes) (h .loop .place) (toZ w8 (ofZ w8 (a .offset))) (h .loop .work) (k .last .1 .1 .1 .0)) (s .pre .0 .1) (k .ensures)),
           ),
         ),
       ),
@@ -110,7 +111,7 @@ returns : tie.Need-returns Inv-loop μ-loop
 returns c =
     let s = c .before .before .before .before in
     let h = c .before in
-    alone-end (plain (s .args .offset) (s .fits .offset)) (omega (arith, h .loop .inv .0, c .loop-test .left)) (s .pre .0 .0) (s .pre .1 .0) (h .loop .inv .1 .1 .1 .1)
+    alone-made (checks-end (plain (s .args .offset) (s .fits .offset)) (omega (arith, h .loop .inv .0, c .loop-test .left)) (s .pre .0 .0) (λ v e. s .pre .1 .0 v) (h .loop .inv .1 .1 .1 .1))
 
 pub alone-run-spec : {M : Type 1} → statement M
 alone-run-spec =

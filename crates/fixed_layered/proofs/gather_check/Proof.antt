@@ -1,25 +1,24 @@
-use borrow.Author.Needs.{needs}
 use native.Mathlib.Omega.{arith}
-use mathlib.Core.Path.{_≡_, refl}
+use borrow.Author.Needs.{needs}
+use mathlib.Core.Path.{_≡_, refl, sym, ap, subst, _∙_}
 use Prim.Native.Nat.{ℕ, _+_, _*_, _-_, _≤_, _<_}
-use lib.ListN.{length}
+use lib.ListN.{length, length-set}
 use Rattle.lane_memory.specs.Room.{var, Room}
-use Rattle.fixed_layered.specs.Gather.{Gathered, gathered-start, gathered-again, gathered-end}
 use Rattle.fixed_layered.specs.Run.{edge-room}
+use Rattle.fixed_layered.specs.Rows.{Gathers, sumAt, after, gathers-start, gathers-again, gathers-end}
 use Rattle.fixed_layered.proofs.gather_check.Statement.{statement}
 use Rattle.fixed_layered.proofs.gather_check.Tie as tie
 
 abbrev Inv-loop : tie.InvT-loop
-Inv-loop sums₀ rows work v s d place n lanes seen found₀ k₀ sums found k = (k ≤ d) × Gathered n (length rows) (var rows) v s place lanes work seen sums₀ k found sums
+Inv-loop sums₀ seen₀ rows work base s d place n lanes k₀ sums seen k = (k ≤ d) × ((length sums ≡ length sums₀) × ((length seen ≡ length seen₀) × Gathers lanes (place + k) (after n (length rows) lanes (var rows) base s place work (sumAt lanes seen₀ sums₀) k) seen sums))
 
 abbrev μ-loop : tie.MeasureT-loop
-μ-loop sums₀ rows work v s d place n lanes seen found₀ k₀ sums found k = d - k
+μ-loop sums₀ seen₀ rows work base s d place n lanes k₀ sums seen k = d - k
 
 loop-holds : tie.Need-loop-holds Inv-loop μ-loop
-loop-holds c =
-    let s = c .before in
+loop-holds c = let s = c .before .before in
     let a = s .args in
-    (search needs, gathered-start (a .n) (length (a .rows .now)) (var (a .rows .now)) (a .v) (a .s) (a .place) (a .lanes) (a .work .now) (a .seen) (a .sums .now) (s .pre .1 .1))
+    (search needs, (refl, (refl, gathers-start (a .n) (length (a .rows .now)) (a .lanes) (var (a .rows .now)) (a .base) (a .s) (a .place) (a .work .now) (sumAt (a .lanes) (a .seen .now) (a .sums .now)) (λ i j. refl) (s .pre .1 .1))))
 
 add-gather-edge : tie.Need-add-gather-edge Inv-loop μ-loop
 add-gather-edge c = search needs
@@ -28,12 +27,15 @@ add-gather-edge-2 : tie.Need-add-gather-edge-2 Inv-loop μ-loop
 add-gather-edge-2 c = search needs
 
 gather-edge-requires : tie.Need-gather-edge-requires Inv-loop μ-loop
-gather-edge-requires c κs =
-    let s = c .before .before .before .before in
-    let h = c .before .before in
-    let q = c .before .loop-test .taken in (
+gather-edge-requires c κs = let s = c .before .before .before .before .before .before in
+    let h = c .before .before .before in
+    let q = c .before .before .loop-test .taken in
+    let w = s .pre .1 .0 .1 .1 (h .loop .k) q in (
       (edge-room (h .loop .k) q (s .pre .0 .0), (omega (arith, q, s .pre .0 .1 .0), s .pre .0 .1 .1)),
-      (omega (arith, h .loop .inv .1 .long, s .pre .1 .0), h .loop .inv .1 .small),
+      (
+        (omega (arith, h .loop .inv .1 .0, s .pre .1 .0 .0), (omega (arith, h .loop .inv .1 .1 .0, s .pre .1 .0 .1 .0), w)),
+        h .loop .inv .1 .1 .1 .small,
+      ),
     )
 
 add-k : tie.Need-add-k Inv-loop μ-loop
@@ -43,15 +45,32 @@ loop-less : tie.Need-loop-less Inv-loop μ-loop
 loop-less c = search needs
 
 loop-again : tie.Need-loop-again Inv-loop μ-loop
-loop-again c =
-    let h = c .before .before .before .before in
-    (omega (arith, c .before .before .before .loop-test .taken), gathered-again (h .loop .inv .1) (c .before .gather-edge .ensures))
+loop-again c = let s = c .before .before .before .before .before .before .before .before .before .before in
+    let a = s .args in
+    let h = c .before .before .before .before .before .before .before in
+    let q = c .before .before .before .before .before .before .loop-test .taken in
+    let w = s .pre .1 .0 .1 .1 (h .loop .k) q in
+    let e = c .before .before .before .gather-edge in (
+      omega (arith, q),
+      (
+        omega (arith, e .kept, h .loop .inv .1 .0),
+        (
+          omega (arith, e .kept, h .loop .inv .1 .1 .0),
+          gathers-again (a .n) (length (a .rows .now)) (a .lanes) (var (a .rows .now)) (a .base) (a .s) (a .place) (a .work .now) (sumAt (a .lanes) (a .seen .now) (a .sums .now)) (h .loop .k) (var (a .rows .now) (a .s + h .loop .k) - a .base)
+              (omega (arith, w .0)) (omega (arith, w)) (omega (arith, h .loop .inv .1 .1 .0, s .pre .1 .0 .1 .0)) (h .loop .inv .1 .1 .1) (e .ensures),
+        ),
+      ),
+    )
 
 same-length : tie.Need-same-length Inv-loop μ-loop
-same-length c = c .before .loop .inv .1 .long
+same-length c = search needs
+
+same-length-2 : tie.Need-same-length-2 Inv-loop μ-loop
+same-length-2 c = search needs
 
 returns : tie.Need-returns Inv-loop μ-loop
-returns c = gathered-end (c .before .loop .inv .1) (omega (arith, c .before .loop .inv .0, c .loop-test .left))
+returns c = let a = c .before .before .before .before .args in
+    gathers-end (a .n) (length (a .rows .now)) (a .lanes) (var (a .rows .now)) (a .base) (a .s) (a .place) (a .work .now) (sumAt (a .lanes) (a .seen .now) (a .sums .now)) (omega (arith, c .before .loop .inv .0, c .loop-test .left)) (c .before .loop .inv .1 .1 .1)
 
 pub gather-check-spec : {M : Type 1} → statement M
 gather-check-spec =
@@ -67,4 +86,5 @@ gather-check-spec =
     loop-less
     loop-again
     same-length
+    same-length-2
     returns)

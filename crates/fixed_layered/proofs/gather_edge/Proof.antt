@@ -1,18 +1,20 @@
 use native.Mathlib.Omega.{arith}
 use borrow.Author.Needs.{needs}
-use mathlib.Core.Path.{_≡_, refl, sym, _∙_}
-use Prim.Native.Nat.{ℕ, _+_, _*_, _≤_, _<_}
-use lib.ListN.{length}
-use Rattle.lane_memory.specs.Room.{row-room, row-fits}
-use Rattle.fixed_layered.specs.Gather.{OneEdge}
+use mathlib.Core.Path.{_≡_, refl, sym, ap, subst, _∙_}
+use Prim.Native.Nat.{ℕ, _+_, _*_, _-_, _≤_, _<_}
+use native.Mathlib.Nat.{mul-le-mul-right}
+use mathlib.Core.Bool.{true}
+use lib.ListN.{length, length-set, getD, set}
+use Rattle.lane_memory.specs.Room.{var, row-room, row-fits}
+use Rattle.fixed_layered.specs.Rows.{EdgeDone}
 use Rattle.fixed_layered.proofs.gather_edge.Statement.{statement}
 use Rattle.fixed_layered.proofs.gather_edge.Tie as tie
 
 variable-requires : tie.Need-variable-requires
 variable-requires c κs = search needs
 
-returns : tie.Need-returns
-returns c = record { hit = λ e. absurd (c .if1 .taken (c .before .variable .ensures ∙ e)); miss = λ k. (refl, refl) }
+sub-j : tie.Need-sub-j
+sub-j c = let s = c .before .before .before in omega (arith, c .variable .ensures, s .pre .1 .0 .1 .1 .0)
 
 add-tu : tie.Need-add-tu
 add-tu c = let s = c .before .before .before in record { fits = omega (arith, row-fits (s .pre .0 .0) (s .args .n + 3 * length (s .args .rows .now)) (omega arith), s .pre .0 .0 .edges, s .pre .0 .1 .0, s .good) }
@@ -24,7 +26,7 @@ add-ru : tie.Need-add-ru
 add-ru c = let s = c .before .before .before in record { fits = omega (arith, row-fits (s .pre .0 .0) (s .args .n + 3 * length (s .args .rows .now)) (omega arith), s .pre .0 .0 .edges, s .pre .0 .1 .0, s .good) }
 
 mul-ou : tie.Need-mul-ou
-mul-ou c = search needs
+mul-ou c = let s = c .before .before .before in record { fits = omega (arith, row-fits (s .pre .0 .0) (s .args .n + 3 * length (s .args .rows .now)) (omega arith), s .pre .0 .0 .edges, s .pre .0 .1 .0, s .good) }
 
 add-ou : tie.Need-add-ou
 add-ou c = let s = c .before .before .before in record { fits = omega (arith, row-fits (s .pre .0 .0) (s .args .n + 3 * length (s .args .rows .now)) (omega arith), s .pre .0 .0 .edges, s .pre .0 .1 .0, s .good) }
@@ -32,39 +34,65 @@ add-ou c = let s = c .before .before .before in record { fits = omega (arith, ro
 add-ou-2 : tie.Need-add-ou-2
 add-ou-2 c = let s = c .before .before .before in record { fits = omega (arith, row-fits (s .pre .0 .0) (s .args .n + 3 * length (s .args .rows .now)) (omega arith), s .pre .0 .0 .edges, s .pre .0 .1 .0, s .good) }
 
+slice-read-was : tie.Need-slice-read-was
+slice-read-was c = let s = c .before .before .before .before in omega (arith, c .before .variable .ensures, s .pre .1 .0 .1 .0, s .pre .1 .0 .1 .1)
+
+mul-gather : tie.Need-mul-gather
+mul-gather c = let s = c .before .before .before .before .before in
+    let v = c .before .before .variable in
+    let y : v .result - s .args .base ≤ 374 = omega (arith, v .ensures, s .pre .1 .0 .1 .1 .1) in
+    let z : (v .result - s .args .base) * s .args .lanes ≤ 374 * s .args .lanes = mul-le-mul-right (s .args .lanes) y in
+    record { fits = omega (arith, s .pre .0 .0 .few-lanes) }
+
 gather-requires : tie.Need-gather-requires
-gather-requires c κs =
-    let s = c .before .before .before .before in
+gather-requires c κs = let s = c .before .before .before .before .before in
+    let v = c .before .before .variable in
     let n = s .args .n in
-    let E = length (s .args .rows .now) in (
+    let E = length (s .args .rows .now) in
+    let j = v .result - s .args .base in
+    let i : j < 374 = omega (arith, v .ensures, s .pre .1 .0 .1 .1) in
+    let y : j + 1 ≤ 374 = omega arith in
+    let z : (j + 1) * s .args .lanes ≤ 374 * s .args .lanes = mul-le-mul-right (s .args .lanes) y in (
       (
         row-room (s .pre .0 .0) (n + E + s .args .at) (omega (arith, s .pre .0 .1 .0)),
         (row-room (s .pre .0 .0) (n + s .args .e) (omega (arith, s .pre .0 .0 .edges)), row-room (s .pre .0 .0) (n + 2 * E + s .args .at) (omega (arith, s .pre .0 .1 .0))),
       ),
-      (s .pre .1 .0, (omega (arith, s .pre .0 .1 .0, s .pre .0 .1 .1), s .pre .1 .1)),
+      (omega (arith, s .pre .1 .0 .0), (omega (arith, s .pre .0 .1 .0, s .pre .0 .1 .1), λ e. s .pre .1 .1 j i e)),
     )
+
+slice-write-seen : tie.Need-slice-write-seen
+slice-write-seen c = let s = c .before .before .before .before .before .before .before in omega (arith, c .before .before .before .before .variable .ensures, s .pre .1 .0 .1 .0, s .pre .1 .0 .1 .1)
 
 same-length : tie.Need-same-length
 same-length c = search needs
 
-returns-2 : tie.Need-returns-2
-returns-2 c =
-    let s = c .before .before .before .before .before .before in
+same-length-2 : tie.Need-same-length-2
+same-length-2 c = search needs
+
+returns : tie.Need-returns
+returns c = let s = c .before .before .before .before .before .before .before in
+    let a = s .args in
+    let v = c .before .before .before .before .variable in
     let g = c .before .gather in
-    record { hit = λ e. (refl, g .ensures); miss = λ k. absurd (k (sym (c .before .before .before .before .variable .ensures) ∙ c .before .before .before .if1 .left)) }
+    subst (λ (z : ℕ). EdgeDone (a .n) (length (a .rows .now)) (a .lanes) (a .at) (a .e) (z - a .base) (a .work .now) (a .seen .now) (a .sums .now) (set (a .seen .now) (v .result - a .base) true) (g .last .0)) (v .ensures)
+    (record { sums-is = g .ensures .0; small = g .ensures .1; seen-is = refl })
 
 pub gather-edge-spec : {M : Type 1} → statement M
 gather-edge-spec =
     tie.close
     (tie.spec
     variable-requires
-    returns
+    sub-j
     add-tu
     add-tu-2
     add-ru
     mul-ou
     add-ou
     add-ou-2
+    slice-read-was
+    mul-gather
     gather-requires
+    slice-write-seen
     same-length
-    returns-2)
+    same-length-2
+    returns)

@@ -1,7 +1,7 @@
-use borrow.Author.Needs.{needs}
 use native.Mathlib.Omega.{arith}
+use borrow.Author.Needs.{needs}
 use mathlib.Core.Path.{_≡_, refl, sym, ap, subst, _∙_}
-use Prim.Native.Nat.{ℕ, _+_, _*_, _-_, _≤_, _<_}
+use Prim.Native.Nat.{ℕ, _+_, _*_, _-_, _/_, _≤_, _<_}
 use lib.ListN.{length}
 use mir.Syntax.{w8}
 use mir.Val.{toZ, ofZ}
@@ -11,31 +11,28 @@ use Rattle.fixed_layered.proofs.layers.Statement.{statement}
 use Rattle.fixed_layered.proofs.layers.Tie as tie
 
 abbrev Inv-loop : tie.InvT-loop
-Inv-loop index rows work₀ places₀ t₀ u₀ addrs starts flags busy offset k n p lanes q step l₀ work places t u l =
-    (l ≤ q) × ((length work ≡ length work₀) × (((length places ≡ length places₀) × ((length t ≡ length t₀) × (length u ≡ length u₀))) × LayersMade n p lanes (toZ w8 offset) index q step work₀ l work))
+Inv-loop index rows work₀ t₀ u₀ sums₀ table few offset n p lanes q step l₀ work t u sums l = (l ≤ q) × ((length work ≡ length work₀) × (((length t ≡ length t₀) × ((length u ≡ length u₀) × (length sums ≡ length sums₀))) × LayersMade n p lanes (toZ w8 offset) index q step work₀ l work))
 
 abbrev μ-loop : tie.MeasureT-loop
-μ-loop index rows work₀ places₀ t₀ u₀ addrs starts flags busy offset k n p lanes q step l₀ work places t u l =
-    q - l
+μ-loop index rows work₀ t₀ u₀ sums₀ table few offset n p lanes q step l₀ work t u sums l = q - l
 
 loop-holds : tie.Need-loop-holds Inv-loop μ-loop
-loop-holds c =
-    let a = c .before .before .before .before .args in
+loop-holds c = let a = c .before .before .before .args in
     (search needs, (refl, ((refl, (refl, refl)), layers-start (a .n) (a .p) (a .lanes) (toZ w8 (ofZ w8 (a .offset))) (a .index .now) (a .q) (a .step) (a .work .now))))
 
-element-copy-out-b : tie.Need-element-copy-out-b Inv-loop μ-loop
-element-copy-out-b c = search needs
+shared-requires : tie.Need-shared-requires Inv-loop μ-loop
+shared-requires c κs = let s = c .before .before .before .before .before in (s .pre .0 .0 .long, (s .pre .0 .0 .few-rows, omega (arith, c .loop-test .taken, s .pre .0 .0 .few-layers)))
 
 runs-requires : tie.Need-runs-requires Inv-loop μ-loop
-runs-requires c κs =
-    let s = c .before .before .before .before .before .before .before .before .before .before .before in
-    let h = c .before .before .before .before .before .before in
-    let q = c .before .before .before .before .before .loop-test .taken in
+runs-requires c κs = let s = c .before .before .before .before .before .before .before .before .before .before .before .before in
+    let h = c .before .before .before .before .before .before .before .before in
+    let q = c .before .before .before .before .before .before .before .loop-test .taken in
+    let k = c .before .before .before .before .before .before .shared in
     let long = h .loop .inv .1 .1 .0 in (
       (in-layer-to (h .loop .inv .1 .0) (s .pre .0 .0 .layer (h .loop .l) q), s .pre .0 .1),
       (
-        (s .pre .0 .0 .shares (h .loop .l) q, s .pre .0 .0 .bits),
-        (omega (arith, long .1 .0, s .pre .1 .0), (omega (arith, long .1 .1, s .pre .1 .1 .0), omega (arith, long .0, s .pre .1 .1 .1))),
+        (s .pre .0 .0 .shares (h .loop .l) q (k .result .rows) (k .result .any) (k .ensures), (s .pre .0 .0 .long, omega (arith, q, s .pre .0 .0 .few-layers))),
+        (k .ensures .none, (omega (arith, long .0, s .pre .1 .0), (omega (arith, long .1 .0, s .pre .1 .1 .0), omega (arith, long .1 .1, s .pre .1 .1 .1)))),
       ),
     )
 
@@ -43,14 +40,13 @@ add-l : tie.Need-add-l Inv-loop μ-loop
 add-l c = search needs
 
 loop-less : tie.Need-loop-less Inv-loop μ-loop
-loop-less c = omega (arith, c .before .before .before .before .before .before .before .before .before .before .before .loop-test .taken)
+loop-less c = omega (arith, c .before .before .before .before .before .before .before .before .before .before .before .before .loop-test .taken)
 
 loop-again : tie.Need-loop-again Inv-loop μ-loop
-loop-again c =
-    let h = c .before .before .before .before .before .before .before .before .before .before .before .before in
-    let k = c .before .before .before .before .before .runs in
+loop-again c = let h = c .before .before .before .before .before .before .before .before .before .before .before .before .before in
+    let k = c .before .before .before .before .runs in
     let long = h .loop .inv .1 .1 .0 in (
-      omega (arith, c .before .before .before .before .before .before .before .before .before .before .before .loop-test .taken),
+      omega (arith, c .before .before .before .before .before .before .before .before .before .before .before .before .loop-test .taken),
       (
         omega (arith, k .kept, h .loop .inv .1 .0),
         (
@@ -73,8 +69,7 @@ same-length-4 : tie.Need-same-length-4 Inv-loop μ-loop
 same-length-4 c = c .before .loop .inv .1 .1 .0 .1 .1
 
 returns : tie.Need-returns Inv-loop μ-loop
-returns c =
-    let s = c .before .before .before .before .before .before in
+returns c = let s = c .before .before .before .before .before in
     let h = c .before in
     layers-end (plain (s .args .offset) (s .fits .offset)) (omega (arith, h .loop .inv .0, c .loop-test .left)) (h .loop .inv .1 .1 .1)
 
@@ -85,7 +80,7 @@ layers-spec =
     Inv-loop
     μ-loop
     loop-holds
-    element-copy-out-b
+    shared-requires
     runs-requires
     add-l
     loop-less

@@ -2,21 +2,20 @@ use native.Mathlib.Omega.{arith}
 use borrow.Author.Needs.{needs}
 use mathlib.Core.Path.{_≡_, refl, sym, ap, subst, _∙_}
 use mathlib.Core.Bool.{Bool}
-use Prim.Native.Nat.{ℕ, _+_, _*_, _-_, _≤_, _<_}
-use lib.ListN.{length}
+use Prim.Native.Nat.{ℕ, _+_, _*_, _-_, _/_, _≤_, _<_}
 use borrow.Author.Tests.{not-true}
+use lib.ListN.{length}
 use Rattle.laws.specs.Signed.{plain}
-use Rattle.fixed_conflicts.specs.Table.{sharedOf}
 use Rattle.fixed_layered.specs.Run.{in-run-to}
-use Rattle.fixed_layered.specs.Runs.{run-law, run-offset}
+use Rattle.fixed_layered.specs.Runs.{run-offset}
+use Rattle.fixed_layered.specs.Checks.{run-law}
 use Rattle.fixed_layered.proofs.run.Statement.{statement}
 use Rattle.fixed_layered.proofs.run.Tie as tie
 
 alone-run-requires : tie.Need-alone-run-requires
-alone-run-requires c κs =
-    let s = c .before .before .before .before .before .before .before .before in
-    let a = s .args in
-    (s .pre .0, (λ v. s .pre .1 .0 .0 .once v (ap (λ (b : Bool). sharedOf (a .flags .now) b (a .k) (a .q) v) (not-true (a .busy) (c .before .before .before .if1 .taken))), (s .pre .1 .1 .0, s .pre .1 .1 .1 .0)))
+alone-run-requires c κs = let s = c .before .before .before .before .before .before .before in
+    let none = s .pre .1 .1 .0 (not-true (s .args .any) (c .before .before .before .if1 .taken)) in
+    (s .pre .0, (λ v. s .pre .1 .0 .0 .once v (none (v / 374)), (s .pre .1 .1 .1 .0, s .pre .1 .1 .1 .1 .0)))
 
 same-length : tie.Need-same-length
 same-length c = search needs
@@ -28,18 +27,15 @@ same-length-3 : tie.Need-same-length-3
 same-length-3 c = search needs
 
 returns : tie.Need-returns
-returns c =
-    let s = c .before .before .before .before .before .before .before .before .before .before .before .before in
-    run-offset (plain (s .args .offset) (s .fits .offset)) (c .before .before .before .alone-run .ensures)
+returns c = let s = c .before .before .before .before .before .before .before .before .before .before .before in run-offset (plain (s .args .offset) (s .fits .offset)) (c .before .before .before .alone-run .ensures)
 
-send-run-requires : tie.Need-send-run-requires
-send-run-requires c κs = let s = c .before .before .before .before .before .before .before .before in (s .pre .0, (s .pre .1 .1 .0, s .pre .1 .1 .1 .1))
+shared-run-requires : tie.Need-shared-run-requires
+shared-run-requires c κs = let s = c .before .before .before .before .before .before .before in (s .pre .0, (s .pre .1 .0 .0 .once, (s .pre .1 .1 .1 .0, s .pre .1 .1 .1 .1 .0)))
 
-write-run-requires : tie.Need-write-run-requires
-write-run-requires c κs =
-    let s = c .before .before .before .before .before .before .before .before .before .before .before .before .before .before .before in
-    let k = c .before .before .before .before .before .before .send-run in
-    ((in-run-to (k .kept .1 .1 .0) (s .pre .0 .0), (s .pre .0 .1, k .ensures .1)), s .pre .1 .0)
+write-rows-requires : tie.Need-write-rows-requires
+write-rows-requires c κs = let s = c .before .before .before .before .before .before .before .before .before .before .before .before .before in
+    let k = c .before .before .before .before .before .shared-run in
+    ((in-run-to (k .kept .1 .1 .0) (s .pre .0 .0), s .pre .0 .1), (s .pre .1 .0, s .pre .1 .1 .1 .1 .1))
 
 same-length-4 : tie.Need-same-length-4
 same-length-4 c = search needs
@@ -50,10 +46,12 @@ same-length-5 c = search needs
 same-length-6 : tie.Need-same-length-6
 same-length-6 c = search needs
 
+same-length-7 : tie.Need-same-length-7
+same-length-7 c = search needs
+
 returns-2 : tie.Need-returns-2
-returns-2 c =
-    let s = c .before .before .before .before .before .before .before .before .before .before .before .before .before .before .before .before .before in
-    run-offset (plain (s .args .offset) (s .fits .offset)) (run-law (s .pre .0 .0) (c .before .before .before .before .before .before .before .before .send-run .ensures .0) (c .before .write-run .ensures))
+returns-2 c = let s = c .before .before .before .before .before .before .before .before .before .before .before .before .before .before .before .before in
+    run-offset (plain (s .args .offset) (s .fits .offset)) (run-law (s .pre .0 .0) (s .pre .1 .0 .0 .low) (c .before .before .before .before .before .before .before .before .shared-run .ensures) (c .before .before .write-rows .ensures))
 
 pub run-spec : {M : Type 1} → statement M
 run-spec =
@@ -64,9 +62,10 @@ run-spec =
     same-length-2
     same-length-3
     returns
-    send-run-requires
-    write-run-requires
+    shared-run-requires
+    write-rows-requires
     same-length-4
     same-length-5
     same-length-6
+    same-length-7
     returns-2)

@@ -1,6 +1,7 @@
 use native.Mathlib.Omega.{arith}
 use borrow.Author.Needs.{needs}
 use mathlib.Core.Path.{_≡_, refl, sym, subst}
+use mathlib.Core.Bool.{Bool, false}
 use mathlib.Core.List.{List}
 use Prim.Native.Nat.{ℕ, _+_, _-_, _≤_, _<_}
 use lib.ListN.{length}
@@ -10,12 +11,12 @@ use Rattle.lane16.specs.Lanes.{readied-to, reduced-none-negative}
 use Rattle.lane_memory.specs.Column.{Part}
 use Rattle.lane_memory.specs.Room.{var, room-to, Width}
 use Rattle.simd.specs.Pass.{scan-to}
-use Rattle.simd_layered.specs.Alone.{aloneColumn, told-is, two-parts}
+use Rattle.simd_layered.specs.Checked.{runColumn, told-is, two-parts}
 use Rattle.simd_layered.proofs.alone_chunk.Statement.{statement}
 use Rattle.simd_layered.proofs.alone_chunk.Tie as tie
 
-offset-to : (v : ℕ → ℕ) (s d base E p : ℕ) {o o′ : ℤ} {w lanes at : ℕ} {a a′ : List ℤ} → o ≡ o′ → Part (aloneColumn o v s d base E p) w lanes at a a′ → Part (aloneColumn o′ v s d base E p) w lanes at a a′
-offset-to v s d base E p {o} {o′} {w} {lanes} {at} {a} {a′} e x = subst (λ (y : ℤ). Part (aloneColumn y v s d base E p) w lanes at a a′) e x
+offset-to : (sh : ℕ → Bool) (v : ℕ → ℕ) (s d base E p : ℕ) {o o′ : ℤ} {w lanes at : ℕ} {a a′ : List ℤ} → o ≡ o′ → Part (runColumn sh o v s d base E p) w lanes at a a′ → Part (runColumn sh o′ v s d base E p) w lanes at a a′
+offset-to sh v s d base E p {o} {o′} {w} {lanes} {at} {a} {a′} e x = subst (λ (y : ℤ). Part (runColumn sh y v s d base E p) w lanes at a a′) e x
 
 sub-if1 : tie.Need-sub-if1
 sub-if1 c = search needs
@@ -37,7 +38,7 @@ same-length-3 c = search needs
 returns : tie.Need-returns
 returns c =
     let s = c .before .before .before .before .before .before .before .before .before in
-    ((omega arith, omega (arith, s .pre .1 .0 .0, c .before .before .before .before .before .before .before .if1 .taken)), offset-to (var (s .args .rows .now)) (s .args .s) (s .args .d) (s .args .n) (length (s .args .rows .now)) (s .args .place) (plain (s .args .offset) (s .fits .offset)) (c .before .before .before .two-chunks .ensures))
+    ((omega arith, omega (arith, s .pre .1 .0 .0, c .before .before .before .before .before .before .before .if1 .taken)), offset-to (λ v. false) (var (s .args .rows .now)) (s .args .s) (s .args .d) (s .args .n) (length (s .args .rows .now)) (s .args .place) (plain (s .args .offset) (s .fits .offset)) (c .before .before .before .two-chunks .ensures))
 
 sub-width : tie.Need-sub-width
 sub-width c = search needs

@@ -1,15 +1,16 @@
 use borrow.Author.Needs.{needs}
 use native.Mathlib.Omega.{arith}
 use mathlib.Core.Path.{_≡_, refl}
+use mathlib.Core.Bool.{Bool, false}
 use Prim.Native.Nat.{ℕ, _+_, _*_, _-_, _≤_, _<_}
 use lib.ListN.{length}
 use Rattle.lane_memory.specs.Room.{var, row-room, load-room, row-fits, value-row}
-use Rattle.simd_layered.specs.Alone.{Told, told-start, told-again, told-end}
+use Rattle.simd_layered.specs.Checked.{Told, told-start, told-again, told-end, stored-all}
 use Rattle.simd_layered.proofs.answer.Statement.{statement}
 use Rattle.simd_layered.proofs.answer.Tie as tie
 
 abbrev Inv-loop : tie.InvT-loop
-Inv-loop rows s d a₀ t n lanes at w place sign least m1 m2 edges k₀ a k = (k ≤ d) × ((length a ≡ length a₀) × Told w (var rows) s n (length rows) place lanes at t sign least m1 m2 a₀ k a)
+Inv-loop rows s d a₀ t n lanes at w place sign least m1 m2 edges k₀ a k = (k ≤ d) × ((length a ≡ length a₀) × Told (λ v. false) w (var rows) s n (length rows) place lanes at t sign least m1 m2 a₀ k a)
 
 abbrev μ-loop : tie.MeasureT-loop
 μ-loop rows s d a₀ t n lanes at w place sign least m1 m2 edges k₀ a k = d - k
@@ -24,7 +25,7 @@ loop-holds c =
       search needs,
       (
         refl,
-        told-start (a .w) (var (a .rows .now)) (a .s) (a .n) (length (a .rows .now)) (a .place) (a .lanes) (a .at) (a .t .now) (a .sign) (a .least) (a .m1) (a .m2) (a .a .now),
+        told-start (λ v. false) (a .w) (var (a .rows .now)) (a .s) (a .n) (length (a .rows .now)) (a .place) (a .lanes) (a .at) (a .t .now) (a .sign) (a .least) (a .m1) (a .m2) (a .a .now),
       ),
     )
 
@@ -141,7 +142,7 @@ loop-again c =
         omega (arith, c .before .before .before .before .before .before .before .before .before .before .store-lanes .kept, c .before .before .before .before .before .before .before .store-lanes2 .kept, c .before .before .before .before .store-lanes3 .kept, c .before .store-lanes4 .kept, h .loop .inv .1 .0),
         told-again (s .pre .1 .0 .1 .0 .few) (omega (arith, s .pre .0 .edges, q)) (λ k l. value-row (s .pre .0) k (omega (arith, l, q)), (omega (arith, s .pre .0 .edges, q), omega (arith, s .pre .1 .1 .0, q)))
             (h .loop .inv .1 .1) (c .before .before .before .before .before .before .before .before .before .before .before .before .before .before .before .before .before .before .variable .ensures) (c .before .before .before .before .before .before .before .before .before .before .before .before .before .before .before .before .before .load .ensures) (c .before .before .before .before .before .before .before .before .before .before .before .before .before .before .before .load2 .ensures) (c .before .before .before .before .before .before .before .before .before .before .before .before .before .before .reply .ensures)
-            (c .before .before .before .before .before .before .before .before .before .before .store-lanes .ensures) (c .before .before .before .before .before .before .before .store-lanes2 .ensures) (c .before .before .before .before .store-lanes3 .ensures) (c .before .store-lanes4 .ensures),
+            (c .before .before .before .before .before .before .before .before .before .before .store-lanes .ensures) (c .before .before .before .before .before .before .before .store-lanes2 .ensures) (c .before .before .before .before .store-lanes3 .ensures) (stored-all (c .before .store-lanes4 .ensures)),
       ),
     )
 

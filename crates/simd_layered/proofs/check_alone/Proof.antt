@@ -1,6 +1,7 @@
 use borrow.Author.Needs.{needs}
 use native.Mathlib.Omega.{arith}
 use mathlib.Core.Path.{_≡_, refl, subst}
+use mathlib.Core.Bool.{Bool, false}
 use Prim.Native.Nat.{ℕ, _+_, _-_, _≤_, _<_}
 use lib.ListN.{length}
 use lib.IntN.{ℤ}
@@ -9,13 +10,13 @@ use mir.Val.{toZ, ofZ}
 use Rattle.laws.specs.Signed.{plain}
 use Rattle.lane_memory.specs.Column.{Upto, upto-start, upto-again, upto-end}
 use Rattle.lane_memory.specs.Room.{var, room-to}
-use Rattle.simd_layered.specs.Alone.{aloneColumn, CheckAlone, check-alone}
+use Rattle.simd_layered.specs.Checked.{runColumn, Checked, checked}
 use Rattle.simd_layered.proofs.check_alone.Statement.{statement}
 use Rattle.simd_layered.proofs.check_alone.Tie as tie
 
 abbrev Inv-loop : tie.InvT-loop
 Inv-loop rows s d a₀ t₀ u₀ n lanes place offset at₀ a t u at =
-    (at ≤ lanes) × ((length a ≡ length a₀) × (((length t ≡ length t₀) × (length u ≡ length u₀)) × Upto (aloneColumn (toZ w8 offset) (var rows) s d n (length rows) place) lanes at a₀ a))
+    (at ≤ lanes) × ((length a ≡ length a₀) × (((length t ≡ length t₀) × (length u ≡ length u₀)) × Upto (runColumn (λ v. false) (toZ w8 offset) (var rows) s d n (length rows) place) lanes at a₀ a))
 
 abbrev μ-loop : tie.MeasureT-loop
 μ-loop rows s d a₀ t₀ u₀ n lanes place offset at₀ a t u at = lanes - at
@@ -26,7 +27,7 @@ loop-holds c =
       search needs,
       (
         refl,
-        ((refl, refl), upto-start (aloneColumn (toZ w8 (ofZ w8 (a .offset))) (var (a .rows .now)) (a .s) (a .d) (a .n) (length (a .rows .now)) (a .place)) (a .lanes) (a .a .now)),
+        ((refl, refl), upto-start (runColumn (λ v. false) (toZ w8 (ofZ w8 (a .offset))) (var (a .rows .now)) (a .s) (a .d) (a .n) (length (a .rows .now)) (a .place)) (a .lanes) (a .a .now)),
       ),
     )
 
@@ -68,8 +69,8 @@ returns : tie.Need-returns Inv-loop μ-loop
 returns c =
     let s = c .before .before .before in
     let h = c .before in
-    subst (λ (o : ℤ). CheckAlone (s .args .rows .now) (s .args .s) (s .args .d) (s .args .n) (s .args .lanes) (s .args .place) o (s .args .a .now) (h .loop .a)) (plain (s .args .offset) (s .fits .offset))
-    (check-alone (s .pre .0) (s .pre .1 .1 .1) (upto-end (omega (arith, c .loop-test .left)) (h .loop .inv .1 .1 .1)))
+    subst (λ (o : ℤ). Checked (λ v. false) (s .args .rows .now) (s .args .s) (s .args .d) (s .args .n) (s .args .lanes) (s .args .place) o (s .args .a .now) (h .loop .a)) (plain (s .args .offset) (s .fits .offset))
+    (checked (s .pre .0) (s .pre .1 .1 .1) (upto-end (omega (arith, c .loop-test .left)) (h .loop .inv .1 .1 .1)))
 
 pub check-alone-spec : {M : Type 1} → statement M
 check-alone-spec =

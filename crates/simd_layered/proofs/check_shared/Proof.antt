@@ -1,0 +1,89 @@
+use borrow.Author.Needs.{needs}
+use native.Mathlib.Omega.{arith}
+use mathlib.Core.Path.{_≡_, refl, subst}
+use mathlib.Core.Bool.{Bool, false}
+use Prim.Native.Nat.{ℕ, _+_, _-_, _≤_, _<_}
+use lib.ListN.{length}
+use lib.IntN.{ℤ}
+use mir.Syntax.{w8}
+use mir.Val.{toZ, ofZ}
+use Rattle.laws.specs.Signed.{plain}
+use Rattle.lane_memory.specs.Column.{Upto, upto-start, upto-again, upto-end}
+use Rattle.lane_memory.specs.Room.{var, room-to}
+use Rattle.simd_layered.specs.Checked.{sharedIn, runColumn, Checked, checked}
+use Rattle.simd_layered.proofs.check_shared.Statement.{statement}
+use Rattle.simd_layered.proofs.check_shared.Tie as tie
+
+abbrev Inv-loop : tie.InvT-loop
+Inv-loop rows s d a₀ t₀ u₀ n lanes place flags offset at₀ a t u at =
+    (at ≤ lanes) × ((length a ≡ length a₀) × (((length t ≡ length t₀) × (length u ≡ length u₀)) × Upto (runColumn (sharedIn flags) (toZ w8 offset) (var rows) s d n (length rows) place) lanes at a₀ a))
+
+abbrev μ-loop : tie.MeasureT-loop
+μ-loop rows s d a₀ t₀ u₀ n lanes place flags offset at₀ a t u at = lanes - at
+
+loop-holds : tie.Need-loop-holds Inv-loop μ-loop
+loop-holds c =
+    let a = c .before .args in (
+      search needs,
+      (
+        refl,
+        ((refl, refl), upto-start (runColumn (sharedIn (a .flags .now)) (toZ w8 (ofZ w8 (a .offset))) (var (a .rows .now)) (a .s) (a .d) (a .n) (length (a .rows .now)) (a .place)) (a .lanes) (a .a .now)),
+      ),
+    )
+
+shared-chunk-requires : tie.Need-shared-chunk-requires Inv-loop μ-loop
+shared-chunk-requires c κs =
+    let s = c .before .before .before .before .before .before in
+    let h = c .before .before .before .before in (
+      (room-to (h .loop .inv .1 .0) (s .pre .0 .0), s .pre .0 .1),
+      ((c .before .before .before .loop-test .taken, (omega (arith, h .loop .inv .1 .1 .0 .0, s .pre .1 .0), omega (arith, h .loop .inv .1 .1 .0 .1, s .pre .1 .1 .0))), s .pre .1 .1 .1),
+    )
+
+add-at : tie.Need-add-at Inv-loop μ-loop
+add-at c = let w = c .before .before .before .shared-chunk .ensures .0 in record { fits = omega (arith, w .1, c .before .before .before .before .before .before .before .before .before .before .fits .lanes .fits) }
+
+loop-less : tie.Need-loop-less Inv-loop μ-loop
+loop-less c = let w = c .before .before .before .shared-chunk .ensures .0 in omega (arith, w .0, w .1, c .before .before .before .before .before .before .before .loop-test .taken)
+
+loop-again : tie.Need-loop-again Inv-loop μ-loop
+loop-again c =
+    let h = c .before .before .before .before .before .before .before .before in
+    let k = c .before .before .before .shared-chunk in (
+      omega (arith, k .ensures .0 .1),
+      (
+        omega (arith, k .kept, h .loop .inv .1 .0),
+        ((omega (arith, k .kept, h .loop .inv .1 .1 .0 .0), omega (arith, k .kept, h .loop .inv .1 .1 .0 .1)), upto-again (h .loop .inv .1 .1 .1) (k .ensures .1)),
+      ),
+    )
+
+same-length : tie.Need-same-length Inv-loop μ-loop
+same-length c = search needs
+
+same-length-2 : tie.Need-same-length-2 Inv-loop μ-loop
+same-length-2 c = search needs
+
+same-length-3 : tie.Need-same-length-3 Inv-loop μ-loop
+same-length-3 c = search needs
+
+returns : tie.Need-returns Inv-loop μ-loop
+returns c =
+    let s = c .before .before .before in
+    let h = c .before in
+    subst (λ (o : ℤ). Checked (sharedIn (s .args .flags .now)) (s .args .rows .now) (s .args .s) (s .args .d) (s .args .n) (s .args .lanes) (s .args .place) o (s .args .a .now) (h .loop .a)) (plain (s .args .offset) (s .fits .offset))
+    (checked (s .pre .0 .0) (s .pre .1 .1 .1) (upto-end (omega (arith, c .loop-test .left)) (h .loop .inv .1 .1 .1)))
+
+pub check-shared-spec : {M : Type 1} → statement M
+check-shared-spec =
+    tie.close
+    (tie.spec
+    Inv-loop
+    μ-loop
+    loop-holds
+    shared-chunk-requires
+    add-at
+    loop-less
+    loop-again
+    same-length
+    same-length-2
+    same-length-3
+    returns)

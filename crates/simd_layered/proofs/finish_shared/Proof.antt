@@ -1,0 +1,36 @@
+use native.Mathlib.Omega.{arith}
+use borrow.Author.Needs.{needs}
+use mathlib.Core.Path.{_≡_, refl, sym, subst}
+use mathlib.Core.Bool.{Bool, false}
+use mathlib.Core.List.{List}
+use Prim.Native.Nat.{ℕ, _+_, _-_, _≤_, _<_}
+use lib.ListN.{length}
+use lib.IntN.{ℤ}
+use Rattle.laws.specs.Signed.{plain}
+use Rattle.lane16.specs.Lanes.{readied-to, reduced-none-negative}
+use Rattle.lane_memory.specs.Column.{Part}
+use Rattle.lane_memory.specs.Room.{var, room-to, Width}
+use Rattle.simd.specs.Pass.{scan-to}
+use Rattle.simd_layered.specs.Checked.{sharedIn, runColumn, told-is, two-parts}
+use Rattle.simd_layered.proofs.finish_shared.Statement.{statement}
+use Rattle.simd_layered.proofs.finish_shared.Tie as tie
+
+prepare-requires : tie.Need-prepare-requires
+prepare-requires c κs = search needs
+
+answer-shared-requires : tie.Need-answer-shared-requires
+answer-shared-requires c κs =
+    let s = c .before .before .before .before .before .before .before in
+    let p = c .before .before .before .before .before .prepare .ensures in
+    (s .pre .0, (s .pre .1 .0, (s .pre .1 .1 .0, (reduced-none-negative (p .r1), reduced-none-negative (p .r2)))))
+
+same-length : tie.Need-same-length
+same-length c = search needs
+
+returns : tie.Need-returns
+returns c =
+    let s = c .before .before .before .before .before .before .before .before .before in
+    told-is (s .pre .1 .0 .1 .0 .few) (s .pre .1 .1 .1) (readied-to (plain (s .args .offset) (s .fits .offset)) (c .before .before .before .before .before .before .before .prepare .ensures)) (c .before .answer-shared .ensures)
+
+pub finish-shared-spec : {M : Type 1} → statement M
+finish-shared-spec = tie.close (tie.spec prepare-requires answer-shared-requires same-length returns)

@@ -1,0 +1,75 @@
+use native.Mathlib.Omega.{arith}
+use borrow.Author.Needs.{needs}
+use mathlib.Core.Path.{_≡_, refl, sym, subst}
+use mathlib.Core.Bool.{Bool, false}
+use mathlib.Core.List.{List}
+use Prim.Native.Nat.{ℕ, _+_, _-_, _≤_, _<_}
+use lib.ListN.{length}
+use lib.IntN.{ℤ}
+use Rattle.laws.specs.Signed.{plain}
+use Rattle.lane16.specs.Lanes.{readied-to, reduced-none-negative}
+use Rattle.lane_memory.specs.Column.{Part}
+use Rattle.lane_memory.specs.Room.{var, room-to, Width}
+use Rattle.simd.specs.Pass.{scan-to}
+use Rattle.simd_layered.specs.Checked.{sharedIn, runColumn, told-is, two-parts}
+use Rattle.simd_layered.proofs.two_shared.Statement.{statement}
+use Rattle.simd_layered.proofs.two_shared.Tie as tie
+
+offset-to : (sh : ℕ → Bool) (v : ℕ → ℕ) (s d base E p : ℕ) {o o′ : ℤ} {w lanes at : ℕ} {a a′ : List ℤ} → o ≡ o′ → Part (runColumn sh o v s d base E p) w lanes at a a′ → Part (runColumn sh o′ v s d base E p) w lanes at a a′
+offset-to sh v s d base E p {o} {o′} {w} {lanes} {at} {a} {a′} e x = subst (λ (y : ℤ). Part (runColumn sh y v s d base E p) w lanes at a a′) e x
+
+sixteen : Width 16
+sixteen = record { some = omega arith; few = omega arith; one-of = λ no eight four. absurd (no refl) }
+
+scan-two-requires : tie.Need-scan-two-requires
+scan-two-requires c κs = let s = c .before .before .before .before in (s .pre .0 .0, s .pre .1 .0)
+
+finish-shared-requires : tie.Need-finish-shared-requires
+finish-shared-requires c κs =
+    let s = c .before .before .before .before .before .before .before .before .before .before .before in
+    let k = c .before .before .before .before .before .before .scan-two in (
+      s .pre .0,
+      ((omega (arith, s .pre .1 .0 .0), (sixteen, omega (arith, k .kept, s .pre .1 .0 .1 .0))), (s .pre .1 .1, k .ensures .0)),
+    )
+
+add-finish-shared : tie.Need-add-finish-shared
+add-finish-shared c = let s = c .before .before .before .before .before .before .before .before .before .before .before .before .before .before .before in record { fits = omega (arith, s .pre .1 .0 .0, s .fits .lanes .fits) }
+
+finish-shared-requires-2 : tie.Need-finish-shared-requires-2
+finish-shared-requires-2 c κs =
+    let s = c .before .before .before .before .before .before .before .before .before .before .before .before .before .before .before in
+    let k = c .before .before .before .before .before .before .before .before .before .before .scan-two in
+    let f = c .before .before .before .finish-shared in (
+      (room-to (f .kept .1 .1 .1 .0) (s .pre .0 .0), s .pre .0 .1),
+      (
+        (omega (arith, s .pre .1 .0 .0), (sixteen, omega (arith, k .kept, s .pre .1 .0 .1 .1))),
+        (s .pre .1 .1, scan-to _ (λ j q. sym (f .ensures .outside (s .args .at + 16 + j) (omega (arith, s .pre .1 .0 .0, q)) (λ l h e. omega (arith, h, e)))) (k .ensures .1)),
+      ),
+    )
+
+same-length : tie.Need-same-length
+same-length c = search needs
+
+same-length-2 : tie.Need-same-length-2
+same-length-2 c = search needs
+
+same-length-3 : tie.Need-same-length-3
+same-length-3 c = search needs
+
+returns : tie.Need-returns
+returns c =
+    let s = c .before .before .before .before .before .before .before .before .before .before .before .before .before .before .before .before .before in
+    offset-to (sharedIn (s .args .flags .now)) (var (s .args .rows .now)) (s .args .s) (s .args .d) (s .args .n) (length (s .args .rows .now)) (s .args .place) (plain (s .args .offset) (s .fits .offset)) (two-parts (s .pre .1 .0 .0) (c .before .before .before .before .before .finish-shared .ensures) (c .before .finish-shared2 .ensures))
+
+pub two-shared-spec : {M : Type 1} → statement M
+two-shared-spec =
+    tie.close
+    (tie.spec
+    scan-two-requires
+    finish-shared-requires
+    add-finish-shared
+    finish-shared-requires-2
+    same-length
+    same-length-2
+    same-length-3
+    returns)
