@@ -130,7 +130,7 @@ advance-requires c κs =
     let k = c .before .before .counts in
     let few-is = c .before .before .before .before .before .before .before .before .wide .ensures in (
       (w .long, (omega (arith, rows-le (a .n) (a .lens .now) (a .addrs .now) A, q), omega (arith, few-is, q-le (a .n) (a .lens .now) (a .addrs .now) A))),
-      λ l i. working-small A w (h .loop .at + v .result) (k .result) q (ap (λ (z : ℕ). h .loop .at + z) (v .ensures)) (k .ensures) l (omega (arith, i, few-is)),
+      λ l i. working-small A w (h .loop .at + v .result) (k .result) q (ap (λ (z : ℕ). h .loop .at + z) (v .ensures)) (k .ensures .below) l (omega (arith, i, few-is)),
     )
 
 add-g : tie.Need-add-g Inv-loop μ-loop
