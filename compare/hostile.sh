@@ -3,8 +3,9 @@
 #   hostile.sh            runs every case on target/bin/report (or the program that REPORT names)
 #   hostile.sh --wrong    runs every case on programs that are wrong, and asks that each case be failed by one of them
 # A case has what must stand on both outputs and the exit status, and limits of time and memory. One line a case, then a count.
-# Needs cc, perl and GNU time.
+# Needs cc, perl, script and GNU time.
 set -u
+export LC_ALL=C
 here=$(cd "$(dirname "$0")" && pwd)
 top=$(cd "$here/.." && pwd)
 REPORT=$(readlink -f "${REPORT:-$top/target/bin/report}")
@@ -56,12 +57,12 @@ t() { # NAME SECONDS STATUS OUT ERR COMMAND
     eval "$6"
     local got=$?
     [ "$got" = "$status" ] || wrong="$wrong status $got, not $status;"
-    printf "$want_out" | cmp -s - out || wrong="$wrong standard output: $(head -c 60 out | tr '\n\t' '|>');"
-    printf "$want_err" | cmp -s - err || wrong="$wrong standard error: $(head -c 60 err | tr '\n\t' '|>');"
+    printf "$want_out" | cmp -s - out || wrong="$wrong standard output: $(head -c 60 out | tr '\n\t' '|>' | tr -c '[:print:]' '?');"
+    printf "$want_err" | cmp -s - err || wrong="$wrong standard error: $(head -c 60 err | tr '\n\t' '|>' | tr -c '[:print:]' '?');"
     local spent=0 memory=0
     if [ -s time ]; then IFS=: read -r spent memory < <(tail -1 time); fi
     [ "$(echo "${spent:-0} $seconds" | awk '{ print ($1 <= $2) }')" = 1 ] || wrong="$wrong took $spent s;"
-    [ "${memory:-0}" -le 8000 ] || wrong="$wrong $memory KB;"
+    [ "${memory:-0}" -le 16000 ] || wrong="$wrong $memory KB;"
     if [ -z "$wrong" ]; then
         ok=$((ok + 1))
         echo "ok     $name: status $got, $(wc -c < out) and $(wc -c < err) bytes out, $spent s, $memory KB"
@@ -125,6 +126,7 @@ t "10,502 bytes, one newline more" 5 0 "$one" '' '(cat $longest; echo) | $run "e
 t "10,502 bytes, cut where a line ends" 5 0 "$one" '' '(cat $longest; printf "W\t1\n") | head -c 10502 | $run "exec \"\$REPORT\" >out 2>err"'
 t "a byte every 5 ms" 20 0 "$answer" '' 'perl -e "\$| = 1; local \$/; \$_ = <STDIN>; for (split //) { syswrite STDOUT, \$_; select undef, undef, undef, 0.005 }" <$text | $run "exec \"\$REPORT\" >out 2>err"'
 t "a writer that pauses in a number" 20 0 "$answer" '' '(head -c 4 $text; sleep 1; tail -c +5 $text) | $run "exec \"\$REPORT\" >out 2>err"'
+t "a terminal" 10 0 "$answer" '' '$run "exec script -qec \"\$REPORT >out 2>err\" /dev/null <$text >/dev/null"'
 t "a writer that is killed in a line" 20 0 "$one" '' '(sh -c "head -c 30 $text; kill -9 \$\$") 2>/dev/null | $run "exec \"\$REPORT\" >out 2>err"'
 
 # every beginning of the example: of the form where it ends with the line P or W
@@ -151,9 +153,10 @@ t "the example cut after every byte" 60 0 '43 beginnings, 3 with a run, 0 wrong\
 t "output closed" 5 0 '' "$no_output" '$run "exec \"\$REPORT\" <$text >&- 2>err"'
 t "output open for reading only" 5 0 '' "$no_output" '$run "exec \"\$REPORT\" <$text 1</dev/null 2>err"'
 t "a full device" 5 0 '' "$no_output" '$run "exec \"\$REPORT\" <$text >/dev/full 2>err"'
-t "a reader that has gone" 5 141 '' '' '{ sleep 0.3; $run "exec \"\$REPORT\" <$text 2>err"; echo $? >gone; } | true; (exit $(cat gone))'
-t "a reader of nothing (head -c 0)" 5 141 '' '' '{ sleep 0.3; $run "exec \"\$REPORT\" <$text 2>err"; echo $? >gone; } | head -c 0; (exit $(cat gone))'
-t "a reader that has gone, SIGPIPE ignored" 5 0 '' "$no_output" '(trap "" PIPE; { sleep 0.3; $run "exec \"\$REPORT\" <$text 2>err"; echo $? >gone; } | true; exit $(cat gone))'
+t "a reader that has gone" 5 141 '' '' '$run "exec perl -e \"pipe R, W; close R; open STDOUT, q(>&), W; exec q($REPORT)\" <$text 2>err"'
+t "a reader that ends at once (true)" 5 141 '' '' '{ sleep 1; $run "exec \"\$REPORT\" <$text 2>err"; echo $? >gone; } | true; (exit $(cat gone))'
+t "a reader of nothing (head -c 0)" 5 141 '' '' '{ sleep 1; $run "exec \"\$REPORT\" <$text 2>err"; echo $? >gone; } | head -c 0; (exit $(cat gone))'
+t "a reader that has gone, SIGPIPE ignored" 5 0 '' "$no_output" '$run "exec perl -e \"pipe R, W; close R; \\\$SIG{PIPE} = q(IGNORE); open STDOUT, q(>&), W; exec q($REPORT)\" <$text 2>err"'
 t "a reader that starts late, its pipe full" 20 0 "$answer" '' '{ head -c 65536 /dev/zero; $run "exec \"\$REPORT\" <$text 2>err"; } | { sleep 1; tail -c +65537 >out; }'
 t "a full pipe, not blocking" 5 0 '' "$no_output" '$run "exec perl -e \"use Fcntl; pipe R, W; fcntl W, F_SETFL, O_NONBLOCK; 1 while syswrite W, q(x) x 4096; fcntl R, F_SETFD, 0; open STDOUT, q(>&), W; exec q($REPORT)\" <$text 2>err"'
 t "file size limit 0" 5 153 '' '' '$run "ulimit -f 0; exec \"\$REPORT\" <$text >out 2>/dev/null"'

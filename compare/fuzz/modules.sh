@@ -33,7 +33,7 @@ make() { # NAME COMMAND..
     shift
     rm -f "$links/module.bc"
     RATTLE_HOME=$links "$@" > "$out/$name.say" 2>&1 || { cat "$out/$name.say"; exit 1; }
-    grep -q '^logic=proved' "$out/$name.say" "$top/target/log/$name"* || { echo "$name: no verdict that it is proved"; exit 1; }
+    grep -q "^logic=proved" "$out/$name.say" "$top/target/log/$name.say" || { echo "$name: no verdict that it is proved"; exit 1; }
     cp "$links/module.bc" "$out/$name.bc"
     chmod 644 "$out/$name.bc"
     echo "$name.bc: $(stat -c %s "$out/$name.bc") bytes"

@@ -5,6 +5,8 @@
 #   run.sh report again       run.sh archive again
 # and tells the stack that the archive's functions take, which fails if a run takes more than so many bytes:
 #   run.sh stack BYTES
+# and calls them with slices of so many megabytes:
+#   run.sh big MEGABYTES
 # The modules come from modules.sh, which proves and compiles the product if they are not there. Needs Debian's clang-22, llvm-22 and
 # libclang-rt-22-dev, as old as the kit's clang, since a module is read only by an LLVM that is no older.
 set -eu
@@ -16,19 +18,19 @@ seconds=${2:-}
 case $target in
 report) module=report ;;
 archive) module=raxdov ;;
-stack) module= ;;
+stack | big) module= ;;
 *) target= ;;
 esac
 if [ -z "$target" ] || [ -z "$seconds" ]; then
-    sed -n '2,9s/^# \{0,1\}//p' "$0" >&2
+    sed -n '2,11s/^# \{0,1\}//p' "$0" >&2
     exit 2
 fi
 clang=${CLANG:-clang-22} opt=${OPT:-opt-22} objcopy=${OBJCOPY:-llvm-objcopy-22}
 mkdir -p "$out"
-if [ $target = stack ]; then
+if [ -z "$module" ]; then
     [ -f "$top/target/staticlib/libraxdov.a" ] || (cd "$top" && rt staticlib raxdov)
-    cc -O2 -I"$top/bindings/c" "$here/stack.c" "$top/target/staticlib/libraxdov.a" -pthread -o "$out/stack"
-    "$out/stack" "$seconds"
+    cc -O2 -I"$top/bindings/c" "$here/$target.c" "$here/scope.c" "$top/target/staticlib/libraxdov.a" -pthread -lm -o "$out/$target"
+    "$out/$target" "$seconds"
     exit
 fi
 [ -f "$out/$module.bc" ] || "$here/modules.sh"
