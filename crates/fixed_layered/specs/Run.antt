@@ -38,10 +38,6 @@ edge-room k h r =
       few-lanes = r .few-lanes;
     }
 
--- a variable's row lies in the memory
-pub value-room : {n p lanes first q m : ℕ} {index : List ℕ} {a : List ℤ} (v : ℕ) → v < n → InRun n p lanes first q m index a → v * lanes + lanes ≤ length a
-value-room {n} {p} {lanes} {first} {q} {m} {index} v h r = omega (arith, row-ends v (n + 3 * edgesIn p index) lanes (omega arith), r .memory .long)
-
 -- the place of the check behind
 pub place-next : (p : ℕ) (index : List ℕ) (first q x pl s d : ℕ) → stepped first q x < p → s ≡ getD index (stepped first q x) 0 → s + d ≡ getD index (stepped first q x + 1) 0
     → pl ≡ placeOf (codeIn p index) (stepped first q) x → pl + d ≡ placeOf (codeIn p index) (stepped first q) (x + 1)

@@ -86,12 +86,6 @@ pub layers-end : {n p lanes : ℕ} {o o′ : ℤ} {index : List ℕ} {q s : ℕ}
 layers-end {n} {p} {lanes} {o} {o′} {index} {q} {s} {a} {a′} {l} g e v =
     subst (λ (y : ℕ). LayersMade n p lanes o′ index q s a y a′) e (subst (λ (z : ℤ). LayersMade n p lanes z index q s a l a′) g v)
 
--- every lane's word is iterated as that word alone
-pub layered-word : {n p lanes : ℕ} {o : ℤ} {index : List ℕ} {q s : ℕ} {a a′ : List ℤ} → LayersMade n p lanes o index q s a q a′
-    → (i : ℕ) → i < lanes → word n (edgesIn p index) lanes a′ i ≡ layered o (codeIn p index) q s (word n (edgesIn p index) lanes a i)
-layered-word {n} {p} {lanes} {o} {index} {q} {s} {a} v i h =
-    ap (λ (f : Full). f .word) (v .fulls i h) ∙ layers-word o (codeIn p index) q s q (full n (edgesIn p index) lanes a i)
-
 -- ---- what a layer's runs may count on
 pub record InLayer (n p lanes q s l : ℕ) (index : List ℕ) (a : List ℤ) : Type 0 where
   pub memory : Memory n p lanes index a

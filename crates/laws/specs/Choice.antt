@@ -30,6 +30,3 @@ same-self w = ap {B = ℕ} (λ b. cond b 1 0) (eq-eqb w w refl)
 
 pub same-sym : (v w : ℕ) → same v w ≡ same w v
 same-sym v w = ap {B = ℕ} (λ b. cond b 1 0) (eqb-sym v w)
-
-pub same-le : (v w : ℕ) → same v w ≤ 1
-same-le v w = by-cond (λ n. n ≤ 1) (eqb v w) 1 0 (λ _. omega arith) (λ _. omega arith)

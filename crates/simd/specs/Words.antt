@@ -38,19 +38,6 @@ pub record CheckNode (rows : List ℕ) (s d n lanes : ℕ) (o : ℤ) (a a′ : L
 pub record SignParity (rows : List ℕ) (s d lanes at : ℕ) (a : List ℤ) (b : List ℕ) : Type 0 where
   pub is : (k : ℕ) → k < 16 → getD b k 0 ≡ unsatisfied (var rows) s d (column lanes a (at + k))
 
--- what a slice holds behind the rows that a law speaks of
-pub tail-kept : (m lanes : ℕ) (a a′ : List ℤ) → 0 < lanes → ((i : ℕ) → i < lanes → (u : ℕ) → m ≤ u → column lanes a′ i u ≡ column lanes a i u) → (p : ℕ) → m * lanes ≤ p → getD a′ p (pos 0) ≡ getD a p (pos 0)
-unfolding column
-tail-kept m lanes a a′ h k p q =
-    let e : p / lanes * lanes + p % lanes ≡ p = div-add-mod' p lanes in
-    subst (λ (j : ℕ). getD a′ j (pos 0) ≡ getD a j (pos 0)) e (k (p % lanes) (mod-lt p h) (p / lanes) (row (ltb (p / lanes) m) refl))
-  where
-    row : (b : Bool) → ltb (p / lanes) m ≡ b → m ≤ p / lanes
-    row true s =
-        let c : (p / lanes + 1) * lanes ≤ m * lanes = mul-le-mul-right lanes (omega (arith, ltb-true (p / lanes) m s)) in
-        absurd (omega (arith, div-add-mod' p lanes, mod-lt p h))
-    row false s = ltb-false (p / lanes) m s
-
 -- ---- a row written, and the words
 pub within-at : (m : ℕ) (f : ℕ → ℤ) (u : ℕ) → u < m → within m f u ≡ f u
 unfolding within
