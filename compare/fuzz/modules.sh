@@ -7,7 +7,7 @@ here=$(cd "$(dirname "$0")" && pwd)
 top=$(cd "$here/../.." && pwd)
 kit=$(cd "$(dirname "$(readlink -f "$(command -v rt)")")/.." && pwd)
 machine=$(uname -m)
-out=$top/target/fuzz
+out=${FUZZ_OUT:-$top/target/fuzz}
 mkdir -p "$out"
 links=$(mktemp -d)
 chmod 755 "$links" # rt runs a program as nobody
