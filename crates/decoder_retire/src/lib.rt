@@ -67,7 +67,7 @@ fn turns(
     requires { ⌜ Judged (laneCode plan (now index)) plan (at .held) (laneWord plan (now index) (now work)) (λ l. getD verdict l false) ⌝ }
     requires { ⌜ Tallied (laneCode plan (now index)) plan (at .held) (at .iters) (λ l. getD verdict l false) (laneWord plan (now index) (now work)) counts checks ⌝ }
     ensures { λ r. ⌜ Retires (laneCode plan (now (index .entry))) plan (laneWord plan (now (index .entry)) (now (work .entry))) (at .held) (at .iters) (book (now (state .entry)) (now (iterations .entry)) (now (unsatisfied .entry)) (now (check .entry)) (now (bch .entry)) (now (out .entry))) (r .held) (r .iters) (book (now (state .exit)) (now (iterations .exit)) (now (unsatisfied .exit)) (now (check .exit)) (now (bch .exit)) (now (out .exit))) ⌝ }
-    ensures { λ r. ⌜ r .next ≡ at .next ⌝ }
+    ensures { λ r. ⌜ (r .next ≡ at .next) × (r .busy ≡ at .busy) ⌝ }
 {
     let mut held = at.held;
     let mut iters = at.iters;
@@ -146,7 +146,7 @@ pub fn retire(
     requires { ⌜ Sized (at .held) (at .iters) × Readied plan (at .held) (at .iters) ⌝ }
     requires { ⌜ Judged (laneCode plan (now index)) plan (at .held) (laneWord plan (now index) (now work)) (λ l. getD verdict l false) ⌝ }
     ensures { λ r. ⌜ Retires (laneCode plan (now (index .entry))) plan (laneWord plan (now (index .entry)) (now (work .entry))) (at .held) (at .iters) (book (now (state .entry)) (now (iterations .entry)) (now (unsatisfied .entry)) (now (check .entry)) (now (bch .entry)) (now (out .entry))) (r .held) (r .iters) (book (now (state .exit)) (now (iterations .exit)) (now (unsatisfied .exit)) (now (check .exit)) (now (bch .exit)) (now (out .exit))) ⌝ }
-    ensures { λ r. ⌜ r .next ≡ at .next ⌝ }
+    ensures { λ r. ⌜ (r .next ≡ at .next) × (r .busy ≡ at .busy) ⌝ }
 {
     let held = at.held;
     let iters = at.iters;

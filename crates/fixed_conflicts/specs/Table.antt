@@ -1,11 +1,11 @@
 -- Which variables can have several edges in a run, and where the edges of their rows stand in its checks.
-use mathlib.Core.Path.{_≡_, refl, sym, ap, _∙_, subst}
+use mathlib.Core.Path.{_≡_, refl, sym, ap, ap₂, _∙_, subst}
 use mathlib.Core.Bool.{Bool, true, false, cond, _||_}
 use mathlib.Core.List.{List}
 use Prim.Native.Nat.{ℕ, zero, suc, _+_, _*_, _-_, _/_, _%_, _≤_, _<_}
 use native.Mathlib.Omega.{arith}
 use native.Mathlib.Decide.{ℕ-discrete}
-use lib.Dec.{eqb, ltb}
+use lib.Dec.{T, eqb, ltb}
 use lib.ListN.{getD, set, length, replicate, length-set}
 use lib.Seq.{getD-set-same, getD-set-other}
 use Rattle.lane_math.specs.Iteration.{Code, degree}
@@ -45,6 +45,7 @@ pub record Flagged (table : List ℕ) (rows q l k : ℕ) (flags : List Bool) (an
   pub of-parity : getD flags rows false ≡ eqb q 1
   pub others : (g : ℕ) → k ≤ g → (g ≡ rows → ⊥) → getD flags g false ≡ false
   pub none : any ≡ false → (g : ℕ) → getD flags g false ≡ false
+  pub some : any ≡ true → (g : ℕ) × (getD flags g false ≡ true)
 
 pub zeros : (m g : ℕ) → getD (replicate m false) g false ≡ false
 zeros zero g = refl
@@ -68,6 +69,7 @@ flagged-start table rows q l flags any long few zeros e =
       of-parity = getD-set-same flags rows any false (omega arith) ∙ e;
       others = λ g h k. getD-set-other flags rows g any false k ∙ zeros g;
       none = λ f g. go f g (ℕ-discrete g rows);
+      some = λ f. (rows, getD-set-same flags rows any false (omega arith) ∙ f);
     }
   where
     go : any ≡ false → (g : ℕ) → Dec (g ≡ rows) → getD (set flags rows any) g false ≡ false
@@ -83,6 +85,7 @@ flagged-again {table} {rows} {q} {l} {k} {flags} {any} {any′} {many} v h few e
       of-parity = getD-set-other flags k rows many false (λ r. omega arith) ∙ v .of-parity;
       others = λ g r s. getD-set-other flags k g many false (λ t. omega arith) ∙ v .others g (omega arith) s;
       none = λ r g. let o = or-false any many (sym f ∙ r) in all (o .0) (o .1) g (ℕ-discrete g k);
+      some = λ r. found any many refl refl (sym f ∙ r);
     }
   where
     same : getD (set flags k many) k false ≡ many
@@ -95,6 +98,18 @@ flagged-again {table} {rows} {q} {l} {k} {flags} {any} {any′} {many} v h few e
     all : any ≡ false → many ≡ false → (g : ℕ) → Dec (g ≡ k) → getD (set flags k many) g false ≡ false
     all a b g (yes s) = ap (λ (j : ℕ). getD (set flags k many) j false) s ∙ same ∙ b
     all a b g (no s) = getD-set-other flags k g many false s ∙ v .none a g
+
+    -- a row that was flagged is another one: row k was not yet
+    kept : any ≡ true → (g : ℕ) × (getD (set flags k many) g false ≡ true)
+    kept a =
+        let p = v .some a in
+        let other : p .0 ≡ k → ⊥ = λ t. subst T (sym (sym (v .others k (omega arith) (λ r. omega arith)) ∙ ap (λ (j : ℕ). getD flags j false) (sym t) ∙ p .1)) tt in
+        (p .0, getD-set-other flags k (p .0) many false other ∙ p .1)
+
+    found : (a m : Bool) → any ≡ a → many ≡ m → (any || many) ≡ true → (g : ℕ) × (getD (set flags k many) g false ≡ true)
+    found true m x y r = kept x
+    found false true x y r = (k, same ∙ y)
+    found false false x y r = absurd (subst T (sym (sym (ap₂ _||_ x y) ∙ r)) tt)
 
 pub flagged-end : {table : List ℕ} {rows q l k : ℕ} {flags : List Bool} {any : Bool} → k ≡ rows → Flagged table rows q l k flags any → Flagged table rows q l rows flags any
 flagged-end {table} {rows} {q} {l} {k} {flags} {any} e v = subst (λ (j : ℕ). Flagged table rows q l j flags any) e v

@@ -146,7 +146,7 @@ same-length-6 : tie.Need-same-length-6 Inv-loop μ-loop
 same-length-6 c = c .before .loop .inv .3 .same .bch
 
 returns : tie.Need-returns Inv-loop μ-loop
-returns c = let z : c .before .before .before .before .before .before .before .before .before .before .before .args .plan .lanes ≡ c .before .loop .l = omega arith in (leaves-end _ _ _ _ _ _ _ _ _ _ (c .before .loop .inv .3) z, refl)
+returns c = let z : c .before .before .before .before .before .before .before .before .before .before .before .args .plan .lanes ≡ c .before .loop .l = omega arith in (leaves-end _ _ _ _ _ _ _ _ _ _ (c .before .loop .inv .3) z, (refl, refl))
 
 pub turns-spec : {M : Type 1} → statement M
 turns-spec =
