@@ -45,7 +45,11 @@ fn run(r: &mut Random, plan: &Plan, words: usize, limit: u32, step: u32) -> f64 
     };
     let mut to = space(r, &table, words, 16);
     let lent = Lent::of(&soft, r);
-    alone(5, || assert_eq!(archive::run(&table, &lent, set, &mut to), 0)).least * 1e3
+    alone(5, || {
+        assert_eq!(archive::run(&table, &lent, set, &mut to), 0)
+    })
+    .least
+        * 1e3
 }
 
 fn line(what: &str, of: usize, count: usize, a: f64, b: f64) {

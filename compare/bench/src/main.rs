@@ -4,6 +4,7 @@ mod chart;
 mod codes;
 mod growth;
 mod noise;
+mod place;
 mod runs;
 mod time;
 
@@ -13,6 +14,9 @@ const USAGE: &str =
 fn main() {
     let words: Vec<String> = std::env::args().skip(1).collect();
     let chart = words.get(1).map(String::as_str);
+    if !words.is_empty() {
+        place::print();
+    }
     match words.first().map(String::as_str) {
         Some("codes") => codes::bench(),
         Some("growth") => growth::bench(),
