@@ -159,7 +159,11 @@ pub fn bench(file: Option<&str>, name: &str, count: Option<u32>) {
             dashed: true,
         });
     }
-    for (name, layered, step) in [("sequential", 0, 0), ("layered 374", 1, 374)] {
+    for (name, layered, step) in [
+        ("sequential", 0, 0),
+        ("layered 34", 1, 34),
+        ("layered 374", 1, 374),
+    ] {
         for lanes in LANES {
             if wanted(name, lanes) {
                 both(&mut r, &apart, lanes, layered, step, true, name);
