@@ -1,47 +1,64 @@
--- THE COLUMN LAW of the sequential iteration, stated once for any lane count.
-use mathlib.Core.Path.{_≡_, refl, sym, _∙_, subst}
+-- THE COLUMN LAW of checks in turn, stated once for any lane count: of all checks it is the sequential iteration.
+use mathlib.Core.Path.{_≡_, refl, sym, ap, _∙_, subst}
 use mathlib.Core.List.{List}
-use Prim.Native.Nat.{ℕ, _+_, _≤_, _<_}
+use Prim.Native.Nat.{ℕ, _+_, _*_, _≤_, _<_}
 use native.Mathlib.Omega.{arith}
 use native.Mathlib.Numerals.{add-one}
 use lib.ListN.{getD}
 use lib.IntN.{ℤ}
-use Rattle.lane_math.specs.Check.{check}
-use Rattle.lane_math.specs.Iteration.{degree, sequential}
+use Rattle.lane_math.specs.Check.{Word, check}
+use Rattle.lane_math.specs.Iteration.{degree, inTurn, sequential}
 use Rattle.lane_memory.specs.Column.{column}
 use Rattle.lane_memory.specs.Room.{var}
 use Rattle.simd.specs.Words.{word, CheckNode}
 use Rattle.fixed_code.specs.Lists.{rowsIn, edgesIn, codeIn, start-in, degree-in}
 
--- Every lane's word after the first c checks is that word alone after them; the rows of t and of old messages and all behind them
+-- check x of those that begin at check `first`, q apart
+abbrev pub stepped : ℕ → ℕ → ℕ → ℕ
+stepped first q x = first + x * q
+
+-- Every lane's word after m such checks in turn is that word alone after them; the rows of t and of old messages and all behind them
 -- are as they were.
-pub record Upto (n p lanes : ℕ) (o : ℤ) (index : List ℕ) (a : List ℤ) (c : ℕ) (a′ : List ℤ) : Type 0 where
-  pub words : (i : ℕ) → i < lanes → word n (edgesIn p index) lanes a′ i ≡ sequential o (codeIn p index) c (word n (edgesIn p index) lanes a i)
+pub record InTurn (n p lanes : ℕ) (o : ℤ) (index : List ℕ) (first q : ℕ) (a : List ℤ) (m : ℕ) (a′ : List ℤ) : Type 0 where
+  pub words : (i : ℕ) → i < lanes → word n (edgesIn p index) lanes a′ i ≡ inTurn o (codeIn p index) (stepped first q) m (word n (edgesIn p index) lanes a i)
   pub rest : (i : ℕ) → i < lanes → (u : ℕ) → n + edgesIn p index ≤ u → column lanes a′ i u ≡ column lanes a i u
 
-abbrev pub Iterated : ℕ → ℕ → ℕ → ℤ → List ℕ → List ℤ → List ℤ → Type 0
-Iterated n p lanes o index a a′ = Upto n p lanes o index a p a′
+-- The same of a sequential iteration.
+pub record Iterated (n p lanes : ℕ) (o : ℤ) (index : List ℕ) (a a′ : List ℤ) : Type 0 where
+  pub words : (i : ℕ) → i < lanes → word n (edgesIn p index) lanes a′ i ≡ sequential o (codeIn p index) p (word n (edgesIn p index) lanes a i)
+  pub rest : (i : ℕ) → i < lanes → (u : ℕ) → n + edgesIn p index ≤ u → column lanes a′ i u ≡ column lanes a i u
 
-pub upto-start : (n p lanes : ℕ) (o : ℤ) (index : List ℕ) (a : List ℤ) → Upto n p lanes o index a 0 a
-unfolding sequential
-upto-start n p lanes o index a = record { words = λ i q. refl; rest = λ i q u h. refl }
+pub turn-start : (n p lanes : ℕ) (o : ℤ) (index : List ℕ) (first q : ℕ) (a : List ℤ) → InTurn n p lanes o index first q a 0 a
+unfolding inTurn
+turn-start n p lanes o index first q a = record { words = λ i h. refl; rest = λ i h u k. refl }
 
-pub upto-again : {n p lanes : ℕ} {o : ℤ} {index : List ℕ} {a a′ a″ : List ℤ} {c s d : ℕ} → c < p → s ≡ getD index c 0 → s + d ≡ getD index (c + 1) 0
-    → Upto n p lanes o index a c a′ → CheckNode (rowsIn p index) s d n lanes o a′ a″ → Upto n p lanes o index a (c + 1) a″
-unfolding sequential
-upto-again {n} {p} {lanes} {o} {index} {a} {a′} {a″} {c} {s} {d} h e f v k =
-    subst (λ (m : ℕ). Upto n p lanes o index a m a″) (sym (add-one c))
+pub turn-again : {n p lanes : ℕ} {o : ℤ} {index : List ℕ} {first q : ℕ} {a a′ a″ : List ℤ} {x s d : ℕ} → stepped first q x < p → s ≡ getD index (stepped first q x) 0 → s + d ≡ getD index (stepped first q x + 1) 0
+    → InTurn n p lanes o index first q a x a′ → CheckNode (rowsIn p index) s d n lanes o a′ a″ → InTurn n p lanes o index first q a (x + 1) a″
+unfolding inTurn
+turn-again {n} {p} {lanes} {o} {index} {first} {q} {a} {a′} {a″} {x} {s} {d} h e f v k =
+    subst (λ (m : ℕ). InTurn n p lanes o index first q a m a″) (sym (add-one x))
     (record {
-      words = λ i q. k .words i q ∙ (λ j. check o (var (rowsIn p index)) (same-start j) (same-degree j) (v .words i q j));
-      rest = λ i q u r. k .rest i q u r ∙ v .rest i q u r;
+      words = λ i b. k .words i b ∙ (λ j. check o (var (rowsIn p index)) (same-start j) (same-degree j) (v .words i b j));
+      rest = λ i b u r. k .rest i b u r ∙ v .rest i b u r;
     })
   where
-    same-start : s ≡ codeIn p index .row-start c
-    same-start = e ∙ sym (start-in p index c (omega arith))
+    same-start : s ≡ codeIn p index .row-start (stepped first q x)
+    same-start = e ∙ sym (start-in p index (stepped first q x) (omega arith))
 
-    same-degree : d ≡ degree (codeIn p index) c
-    same-degree = sym (degree-in p index c s d h e f)
+    same-degree : d ≡ degree (codeIn p index) (stepped first q x)
+    same-degree = sym (degree-in p index (stepped first q x) s d h e f)
 
-pub upto-end : {n p lanes : ℕ} {o o′ : ℤ} {index : List ℕ} {a a′ : List ℤ} {c : ℕ} → o ≡ o′ → c ≡ p → Upto n p lanes o index a c a′ → Iterated n p lanes o′ index a a′
-upto-end {n} {p} {lanes} {o} {o′} {index} {a} {a′} {c} e f v =
-    subst (λ (m : ℕ). Upto n p lanes o′ index a m a′) f (subst (λ (z : ℤ). Upto n p lanes z index a c a′) e v)
+pub turn-end : {n p lanes : ℕ} {o o′ : ℤ} {index : List ℕ} {first q : ℕ} {a a′ : List ℤ} {x m : ℕ} → o ≡ o′ → x ≡ m → InTurn n p lanes o index first q a x a′ → InTurn n p lanes o′ index first q a m a′
+turn-end {n} {p} {lanes} {o} {o′} {index} {first} {q} {a} {a′} {x} e f v =
+    subst (λ (m : ℕ). InTurn n p lanes o′ index first q a m a′) f (subst (λ (z : ℤ). InTurn n p lanes z index first q a x a′) e v)
+
+-- all checks, from check 0 on
+all-checks : stepped 0 1 ≡ (λ c. c)
+all-checks = λ i x. (let e : 0 + x * 1 ≡ x = omega arith in e) i
+
+pub iterated : {n p lanes : ℕ} {o o′ : ℤ} {index : List ℕ} {a a′ : List ℤ} → o ≡ o′ → InTurn n p lanes o index 0 1 a p a′ → Iterated n p lanes o′ index a a′
+iterated {n} {p} {lanes} {o} {o′} {index} {a} {a′} e v =
+    record {
+      words = λ i h. v .words i h ∙ (λ j. inTurn (e j) (codeIn p index) (all-checks j) p (word n (edgesIn p index) lanes a i));
+      rest = v .rest;
+    }

@@ -1,13 +1,13 @@
-// One iteration of the sequential schedule on interleaved memory, for every lane count.
+// Checks in turn on interleaved memory, for every lane count; one iteration of the sequential schedule.
 // `index` holds the code's lists (fixed_code); `work` n + 3E rows with stride `lanes` (simd).
 ghost use mathlib.Core.Path.{_≡_};
-ghost use Prim.Native.Nat.{_≤_};
+ghost use Prim.Native.Nat.{ℕ, _≤_, _<_};
 ghost use lib.ListN.{length};
 ghost use Rattle.fixed_code.specs.Lists.{rowsIn, Memory};
-ghost use Rattle.fixed.specs.Sequential.{Iterated};
+ghost use Rattle.fixed.specs.Sequential.{stepped, InTurn, Iterated};
 
-// Checks 0 to p − 1, each reading what the ones before it wrote. t and u are work of 128 times 16.
-fn checks(
+// The checks first + x * q, x below m, each reading what the ones before it wrote. t and u are work of 128 times 16.
+pub fn checks(
     index: &[u32],
     rows: &[u32],
     work: &mut [i8],
@@ -17,17 +17,22 @@ fn checks(
     p: usize,
     lanes: usize,
     offset: i8,
+    first: usize,
+    q: usize,
+    m: usize,
 )
     requires { ⌜ Memory n p lanes (now index) (now work) × (now rows ≡ rowsIn p (now index)) ⌝ }
+    requires { ⌜ ((x : ℕ) → x < m → stepped first q x < p) ⌝ }
     requires { ⌜ (2048 ≤ length (now t)) × (2048 ≤ length (now u)) ⌝ }
-    ensures { λ _. ⌜ Iterated n p lanes offset (now (index .entry)) (now (work .entry)) (now (work .exit)) ⌝ }
+    ensures { λ _. ⌜ InTurn n p lanes offset (now (index .entry)) first q (now (work .entry)) m (now (work .exit)) ⌝ }
 {
-    let mut c: usize = 0;
-    while c < p {
+    let mut x: usize = 0;
+    while x < m {
+        let c = first + x * q;
         let s = fixed_code::start(index, c);
         let d = fixed_code::degree(index, n, p, c);
         simd::check_node(rows, s, d, work, t, u, n, lanes, offset);
-        c += 1;
+        x += 1;
     }
 }
 
@@ -49,5 +54,8 @@ pub fn iteration(index: &[u32], work: &mut [i8], n: usize, p: usize, lanes: usiz
         p,
         lanes,
         offset,
+        0,
+        1,
+        p,
     );
 }

@@ -13,6 +13,7 @@ use lib.ListN.{length, take, drop, getD, length-append, List·getD-append}
 use lib.Seq.{getD-take, getD-drop, getD-append-add}
 use Rattle.laws.specs.Lists.{true-false}
 use Rattle.lane_math.specs.Iteration.{Code, degree}
+use Rattle.lane_memory.specs.Room.{sharedIn}
 use Rattle.ldpc_shape.specs.Shape.{kOf, pOf, qOf, eOf, rowsOf, total, countMod}
 use Rattle.ldpc_shape.specs.Accepted.{Accepted, p-is, p-pos, q-pos, p-le, q-le, n-is}
 use Rattle.ldpc_edges.specs.Code.{only, meets, ofRows, stairs, check, edgeLists}
@@ -20,7 +21,7 @@ use Rattle.ldpc_edges.specs.Degree.{met-by}
 use Rattle.ldpc_edges.specs.Layout.{Laid, laid}
 use Rattle.fixed_code.specs.Lists.{Lists, rowsIn, edgesIn, codeIn, start-in, degree-in}
 use Rattle.fixed_code.specs.Code.{lists-in}
-use Rattle.fixed_conflicts.specs.Table.{Once, Split, Shares, Flagged, spanAt, sharedOf}
+use Rattle.fixed_conflicts.specs.Table.{Once, Split, Shares, Flagged, spanAt}
 use Rattle.fixed_conflicts.specs.Edges.{rowOf, parity-without, parity-once, stairs-below, stairs-from, check-length}
 use Rattle.fixed_conflicts.specs.Count.{occurs, occurs-one, occurs-two, sumUp, sum-one, sum-two, inLayer, layer-occurs, rows-own}
 use Rattle.fixed_conflicts.specs.Spans.{spanOf, span-next, span-within, span-all, groups-below, groups-from}
@@ -90,7 +91,7 @@ module _ (n : ℕ) (lens addrs : List ℕ) (A : Accepted n lens addrs) (index : 
           let z : (x + 1) * qOf n lens ≤ 374 * qOf n lens = mul-le-mul-right (qOf n lens) (omega arith) in
           omega (arith, p-is n lens addrs A)
 
-      few-of : (v : ℕ) → v < kOf lens → sharedOf flags v ≡ false → countMod (qOf n lens) l (rowOf lens addrs (v / 374)) ≤ 1
+      few-of : (v : ℕ) → v < kOf lens → sharedIn flags v ≡ false → countMod (qOf n lens) l (rowOf lens addrs (v / 374)) ≤ 1
       unfolding kOf
       few-of v k e =
           let g = v / 374 in
@@ -127,7 +128,7 @@ module _ (n : ℕ) (lens addrs : List ℕ) (A : Accepted n lens addrs) (index : 
             rows-own (qOf n lens) l h v 0 lens addrs (λ g t a b e. let z : v / 374 ≡ g = omega arith in subst (λ (y : ℕ). countMod (qOf n lens) l (rowOf lens addrs y) ≤ 1) z few) (omega arith),
           ))
 
-      bit-once : (v : ℕ) → v < kOf lens → sharedOf flags v ≡ false → Once (codeIn (pOf n lens) index) (λ x. l + x * qOf n lens) 374 v
+      bit-once : (v : ℕ) → v < kOf lens → sharedIn flags v ≡ false → Once (codeIn (pOf n lens) index) (λ x. l + x * qOf n lens) 374 v
       bit-once v b e =
           record {
             one = λ x k y j x′ y′ q r f g. let s = hit-of v (l + x * qOf n lens) k (check-in x x′) q f in let t = hit-of v (l + y * qOf n lens) j (check-in y y′) r g in
@@ -172,7 +173,7 @@ module _ (n : ℕ) (lens addrs : List ℕ) (A : Accepted n lens addrs) (index : 
               order (no d) (no f) = let e : x ≡ y = omega arith in (e, within e (decLt k j) (decLt j k))
 
       -- ---- a parity bit, unless q = 1
-      layers-of : (v : ℕ) → kOf lens ≤ v → v < n → sharedOf flags v ≡ false → 2 ≤ qOf n lens
+      layers-of : (v : ℕ) → kOf lens ≤ v → v < n → sharedIn flags v ≡ false → 2 ≤ qOf n lens
       unfolding kOf
       layers-of v b i e = go (ℕ-discrete (qOf n lens) 1)
         where
@@ -189,7 +190,7 @@ module _ (n : ℕ) (lens addrs : List ℕ) (A : Accepted n lens addrs) (index : 
           go (yes e) = e
           go (no e) = absurd (parity-without n lens addrs c y (p-pos n lens addrs A) d e k (s .0) (s .1))
 
-      parity-once-in : (v : ℕ) → kOf lens ≤ v → v < n → sharedOf flags v ≡ false → Once (codeIn (pOf n lens) index) (λ x. l + x * qOf n lens) 374 v
+      parity-once-in : (v : ℕ) → kOf lens ≤ v → v < n → sharedIn flags v ≡ false → Once (codeIn (pOf n lens) index) (λ x. l + x * qOf n lens) 374 v
       parity-once-in v b i e =
           record {
             one = λ x k z j x′ z′ q r f g.
@@ -346,7 +347,7 @@ module _ (n : ℕ) (lens addrs : List ℕ) (A : Accepted n lens addrs) (index : 
           in-lists c k a b =
               omega (arith, start-in (pOf n lens) index c (omega arith), degree-in (pOf n lens) index c (getD index c 0) (getD index (c + 1) 0 - getD index c 0) a refl (omega (arith, lists .ascend c a)), lists .ascend c a, lists .within (c + 1) (omega arith))
 
-          go : (v : ℕ) → sharedOf flags v ≡ false → Dec (v < kOf lens) → Dec (v < n) → Once (codeIn (pOf n lens) index) (λ x. l + x * qOf n lens) 374 v
+          go : (v : ℕ) → sharedIn flags v ≡ false → Dec (v < kOf lens) → Dec (v < n) → Once (codeIn (pOf n lens) index) (λ x. l + x * qOf n lens) 374 v
           go v e (yes b) d = bit-once v b e
           go v e (no b) (yes d) = parity-once-in v (omega arith) d e
           go v e (no b) (no d) =

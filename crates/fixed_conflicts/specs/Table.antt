@@ -9,6 +9,7 @@ use lib.Dec.{T, eqb, ltb}
 use lib.ListN.{getD, set, length, replicate, length-set}
 use lib.Seq.{getD-set-same, getD-set-other}
 use Rattle.lane_math.specs.Iteration.{Code, degree}
+use Rattle.lane_memory.specs.Room.{sharedIn}
 
 -- variable u has one edge at most among the run's m checks
 pub record Once (code : Code) (c : ℕ → ℕ) (m u : ℕ) : Type 0 where
@@ -19,10 +20,6 @@ pub record Once (code : Code) (c : ℕ → ℕ) (m u : ℕ) : Type 0 where
 abbrev pub spanAt : List ℕ → ℕ → ℕ → ℕ
 spanAt table l g = getD table (g * 120 + l) 0
 
--- a variable of a row that is flagged
-abbrev pub sharedOf : List Bool → ℕ → Bool
-sharedOf flags v = getD flags (v / 374) false
-
 -- edge k of a check is of variable v: of the row of 374 variables from base on if k is from a up to b, else of one before or behind them
 pub record Split (a b base k v : ℕ) : Type 0 where
   pub before : k < a → v < base
@@ -32,7 +29,7 @@ pub record Split (a b base k v : ℕ) : Type 0 where
 
 -- What a run of layer l may count on: a variable whose row is not flagged has one edge in it; the edges of a flagged row stand together in each check.
 pub record Shares (n q : ℕ) (code : Code) (first m l : ℕ) (table : List ℕ) (flags : List Bool) : Type 0 where
-  pub once : (v : ℕ) → sharedOf flags v ≡ false → Once code (λ x. first + x * q) m v
+  pub once : (v : ℕ) → sharedIn flags v ≡ false → Once code (λ x. first + x * q) m v
   pub low : (g : ℕ) → getD flags g false ≡ true → 374 * g + 374 ≤ n
   pub fits : (g : ℕ) → getD flags g false ≡ true → (x : ℕ) → x < m → (spanAt table l g ≤ degree code (first + x * q)) × (spanAt table l g ≤ spanAt table l (g + 1))
   pub split : (g : ℕ) → getD flags g false ≡ true → (x k : ℕ) → x < m → k < degree code (first + x * q)

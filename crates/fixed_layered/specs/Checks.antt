@@ -11,17 +11,18 @@ use lib.ListN.{getD, length}
 use lib.IntN.{ℤ, pos, _+ℤ_, _-ℤ_}
 use Rattle.laws.specs.Choice.{eqb-sym}
 use Rattle.lane_math.specs.Value.{satZ}
-use Rattle.lane_math.specs.Check.{Word, message, put, wrote, tOf, newR}
-use Rattle.lane_math.specs.Iteration.{Code, degree, Run, Sum, nothing, gather, gatherEdge, gatherCheck, gatherRun, settle, run, runOf, runR}
+use Rattle.lane_math.specs.Check.{Word, check, message, put, wrote, tOf, newL, newR}
+use Rattle.lane_math.specs.Iteration.{Code, degree, Run, Sum, nothing, gather, gatherEdge, gatherCheck, gatherRun, settle, run, runOf, runR, inTurn}
 use Rattle.lane_math.specs.Laws.{message-same, wrote-same, wrote-other}
 use Rattle.lane_memory.specs.Column.{column}
-use Rattle.lane_memory.specs.Room.{var}
-use Rattle.simd.specs.Words.{within, wordOf, within-at}
+use Rattle.lane_memory.specs.Room.{var, sharedIn}
+use Rattle.simd.specs.Words.{within, wordOf, word, within-at}
 use Rattle.simd_layered.specs.Checked.{wroteUnless, checkUnless, Checked}
 use Rattle.fixed_code.specs.Lists.{rowsIn, edgesIn, codeIn, start-in, degree-in}
-use Rattle.fixed_conflicts.specs.Table.{Once, sharedOf}
-use Rattle.fixed_layered.specs.Full.{Full, placeOf, laidOut, tSent, oldSent, partFull, runFull, fullOf, full}
-use Rattle.fixed_layered.specs.Order.{Order, order, stepped, wrote-at, before}
+use Rattle.fixed_conflicts.specs.Table.{Once}
+use Rattle.fixed_layered.specs.Full.{Full, placeOf, laidOut, tSent, oldSent, partFull, fullOf, full}
+use Rattle.fixed.specs.Sequential.{stepped, InTurn}
+use Rattle.fixed_layered.specs.Order.{Order, order, wrote-at, before}
 use Rattle.fixed_layered.specs.Ready.{within-wrote, ready}
 use Rattle.fixed_layered.specs.Gather.{gatherRunAt, run-gathers, run-none}
 use Rattle.fixed_layered.specs.Rows.{writtenAt, Written}
@@ -230,39 +231,63 @@ module _ {sh : ℕ → Bool} {n p lanes : ℕ} {o : ℤ} {index : List ℕ} {fir
         rest = v .rest;
       })
 
--- where none are shared it is the run
-pub alone-made : {n p lanes : ℕ} {o : ℤ} {index : List ℕ} {first q m : ℕ} {a a′ : List ℤ} → PartMade (λ v. false) n p lanes o index first q m a a′ → RunMade n p lanes o index first q m a a′
+-- ---- where no variable has several edges, the run is its checks in turn
+none-unless : (u : ℕ → ℕ) (x f : ℕ → ℤ) (n : ℕ) → wroteUnless (λ v. false) u x f n ≡ wrote u x f n
+unfolding wroteUnless wrote
+none-unless u x f zero = refl
+none-unless u x f (suc n) = ap (λ (g : ℕ → ℤ). put g (u n) (x n)) (none-unless u x f n)
+
+check-unless : (o : ℤ) (v : ℕ → ℕ) (s d : ℕ) (w : Word) → checkUnless (λ u. false) o v s d w ≡ check o v s d w
+unfolding newL
+check-unless o v s d w = λ i. record { L = none-unless (λ k. v (s + k)) (λ k. satZ (tOf v s (w .L) (w .r) k +ℤ message o (tOf v s (w .L) (w .r)) d k)) (w .L) d i; r = newR o v s d (w .L) (w .r) }
+
+checks-word : (o : ℤ) (code : Code) (c : ℕ → ℕ) (x : ℕ) (f : Full) → checksFull (λ v. false) o code c x f .word ≡ inTurn o code c x (f .word)
+unfolding checksFull inTurn
+checks-word o code c zero f = refl
+checks-word o code c (suc x) f =
+    check-unless o (code .rows) (code .row-start (c x)) (degree code (c x)) (checksFull (λ v. false) o code c x f .word)
+    ∙ ap (check o (code .rows) (code .row-start (c x)) (degree code (c x))) (checks-word o code c x f)
+
+pub in-turn-run : (o : ℤ) (code : Code) (c : ℕ → ℕ) (m E n : ℕ) → Order code c m E n → ((v : ℕ) → Once code c m v) → (w : Word) → inTurn o code c m w ≡ run o code c m w
 unfolding run
-alone-made v = record { fulls = v .fulls; rest = v .rest }
+in-turn-run o code c m E n ord once w =
+    let f : Full = record { word = w; t = λ e. pos 0; old = λ e. pos 0 } in
+    sym (checks-word o code c m f) ∙ ap (λ (g : Full). g .word) (checks-run o code c m E n ord (λ v. false) (λ v e. once v) f)
+
+pub turn-made : {n p lanes : ℕ} {o : ℤ} {index : List ℕ} {first q m : ℕ} {a a′ : List ℤ} → InRun n p lanes first q m index a → ((v : ℕ) → Once (codeIn p index) (stepped first q) m v)
+    → InTurn n p lanes o index first q a m a′ → RunMade n p lanes o index first q m a a′
+turn-made {n} {p} {lanes} {o} {index} {first} {q} {m} {a} {a′} r once v =
+    record {
+      words =
+          λ i h. v .words i h
+          ∙ in-turn-run o (codeIn p index) (stepped first q) m (edgesIn p index) n (order (r .memory .lists) first q m (r .step) (r .inside)) once (word n (edgesIn p index) lanes a i);
+      rest = λ i h u k. v .rest i h u (omega (arith, k));
+    }
 
 -- ---- with the values of shared variables it is the run
 made : {n E : ℕ} {code : Code} {c : ℕ → ℕ} {m : ℕ} (flags : List Bool) (o : ℤ) (f f′ : ℕ → ℤ) (w : Full) → Order code c m E n → n ≤ 44880 → ((g : ℕ) → getD flags g false ≡ true → 374 * g + 374 ≤ n)
-    → fullOf n E f ≡ partFull o code c (sharedOf flags) m w → ((u : ℕ) → n ≤ u → w .word .L u ≡ pos 0)
-    → ((u : ℕ) → u < 374 * 120 → sharedOf flags u ≡ true → f′ u ≡ writtenAt n E code c m f u) → ((u : ℕ) → (u < 374 * 120 → sharedOf flags u ≡ false) → f′ u ≡ f u)
-    → fullOf n E f′ ≡ runFull o code c m w
+    → fullOf n E f ≡ partFull o code c (sharedIn flags) m w → ((u : ℕ) → n ≤ u → w .word .L u ≡ pos 0)
+    → ((u : ℕ) → u < 374 * 120 → sharedIn flags u ≡ true → f′ u ≡ writtenAt n E code c m f u) → ((u : ℕ) → (u < 374 * 120 → sharedIn flags u ≡ false) → f′ u ≡ f u)
+    → wordOf n E f′ ≡ run o code c m (w .word)
 unfolding wordOf run within
 made {n} {E} {code} {c} {m} flags o f f′ w ord few low is zeros done still =
-    (λ i. record {
-      word = record { L = λ u. values u (ltb u n) refl i; r = λ e. cond (ltb e E) (behind (n + e) (omega arith) i) (pos 0) };
-      t = λ e. cond (ltb e E) (behind (n + E + e) (omega arith) i) (pos 0);
-      old = λ e. cond (ltb e E) (behind (n + 2 * E + e) (omega arith) i) (pos 0);
-    })
-    ∙ (λ i. record { word = record { L = λ u. settle (gatherRun (runOf o code c m (w .word)) code c u m) (w .word .L u); r = is i .word .r }; t = is i .t; old = is i .old })
+    (λ i. record { L = λ u. values u (ltb u n) refl i; r = λ e. cond (ltb e E) (behind (n + e) (omega arith) i) (pos 0) })
+    ∙ (λ i. record { L = λ u. settle (gatherRun (runOf o code c m (w .word)) code c u m) (w .word .L u); r = is i .word .r })
   where
     behind : (u : ℕ) → n ≤ u → f′ u ≡ f u
-    behind u q = still u (λ r. go (sharedOf flags u) refl)
+    behind u q = still u (λ r. go (sharedIn flags u) refl)
       where
-        go : (b : Bool) → sharedOf flags u ≡ b → b ≡ false
+        go : (b : Bool) → sharedIn flags u ≡ b → b ≡ false
         go false e = refl
         go true e = absurd (omega (arith, low (u / 374) e))
 
     gathers : (u : ℕ) → gatherRunAt n E code c u f m ≡ gatherRun (runOf o code c m (w .word)) code c u m
-    gathers u = run-gathers (ready (sharedOf flags) o f w ord is) refl u m (omega arith)
+    gathers u = run-gathers (ready (sharedIn flags) o f w ord is) refl u m (omega arith)
 
-    before-is : (u : ℕ) → u < n → f u ≡ cond (sharedOf flags u) (w .word .L u) (settle (gatherRun (runOf o code c m (w .word)) code c u m) (w .word .L u))
+    before-is : (u : ℕ) → u < n → f u ≡ cond (sharedIn flags u) (w .word .L u) (settle (gatherRun (runOf o code c m (w .word)) code c u m) (w .word .L u))
     before-is u q = sym (within-at n f u q) ∙ ap (λ (x : Full). x .word .L u) is
 
-    value : (u : ℕ) → u < n → (b : Bool) → sharedOf flags u ≡ b → f′ u ≡ settle (gatherRun (runOf o code c m (w .word)) code c u m) (w .word .L u)
+    value : (u : ℕ) → u < n → (b : Bool) → sharedIn flags u ≡ b → f′ u ≡ settle (gatherRun (runOf o code c m (w .word)) code c u m) (w .word .L u)
     value u q true e =
         done u (omega arith) e
         ∙ (λ i. settle (gathers u i) ((before-is u q ∙ ap (λ (b : Bool). cond b (w .word .L u) (settle (gatherRun (runOf o code c m (w .word)) code c u m) (w .word .L u))) e) i))
@@ -272,7 +297,7 @@ made {n} {E} {code} {c} {m} flags o f f′ w ord few low is zeros done still =
         ∙ ap (λ (b : Bool). cond b (w .word .L u) (settle (gatherRun (runOf o code c m (w .word)) code c u m) (w .word .L u))) e
 
     values : (u : ℕ) (b : Bool) → ltb u n ≡ b → cond b (f′ u) (pos 0) ≡ settle (gatherRun (runOf o code c m (w .word)) code c u m) (w .word .L u)
-    values u true e = value u (ltb-true u n e) (sharedOf flags u) refl
+    values u true e = value u (ltb-true u n e) (sharedIn flags u) refl
     values u false e =
         sym (ap (λ (a : Sum). settle a (w .word .L u)) (sym (gathers u) ∙ run-none n E code c f u m (λ y k q l x. omega (arith, ord .below y k q l, ltb-false u n e))) ∙ zeros u (ltb-false u n e))
 
@@ -281,15 +306,15 @@ unfolding wordOf within
 behind-zero n E f u h = ap (λ (b : Bool). cond b (f u) (pos 0)) (le-ltb u n h)
 
 pub run-law : {n p lanes : ℕ} {o : ℤ} {index : List ℕ} {first q m : ℕ} {flags : List Bool} {a b a′ : List ℤ} → InRun n p lanes first q m index a → ((g : ℕ) → getD flags g false ≡ true → 374 * g + 374 ≤ n)
-    → PartMade (sharedOf flags) n p lanes o index first q m a b → Written n (edgesIn p index) (codeIn p index) (stepped first q) m lanes flags b 120 a′ → RunMade n p lanes o index first q m a a′
+    → PartMade (sharedIn flags) n p lanes o index first q m a b → Written n (edgesIn p index) (codeIn p index) (stepped first q) m lanes flags b 120 a′ → RunMade n p lanes o index first q m a a′
 run-law {n} {p} {lanes} {o} {index} {first} {q} {m} {flags} {a} {b} {a′} r low s k =
     record {
-      fulls =
+      words =
           λ i h. made flags o (column lanes b i) (column lanes a′ i) (full n (edgesIn p index) lanes a i) (order (r .memory .lists) first q m (r .step) (r .inside)) (r .few-bits) low (s .fulls i h)
           (behind-zero n (edgesIn p index) (column lanes a i)) (λ u l e. k .done i u h l e) (λ u l. k .still i u h l);
-      rest = λ i h u l. k .still i u h (λ y. go u l (sharedOf flags u) refl) ∙ s .rest i h u l;
+      rest = λ i h u l. k .still i u h (λ y. go u l (sharedIn flags u) refl) ∙ s .rest i h u l;
     }
   where
-    go : (u : ℕ) → n + 3 * edgesIn p index ≤ u → (b : Bool) → sharedOf flags u ≡ b → b ≡ false
+    go : (u : ℕ) → n + 3 * edgesIn p index ≤ u → (b : Bool) → sharedIn flags u ≡ b → b ≡ false
     go u l false e = refl
     go u l true e = absurd (omega (arith, low (u / 374) e))

@@ -1,11 +1,10 @@
--- The layered iteration of ONE word with its scratch rows: the t and the old messages of a run's edges stand one check after the other
--- from row 0 of their part on, over what earlier runs left there.
-use mathlib.Core.Path.{_≡_, refl, sym, ap, _∙_}
+-- A run of ONE word with its scratch rows, in which variables can have several edges: the t and the old messages of its edges stand one check
+-- after the other from row 0 of their part on, over what earlier runs left there.
 use mathlib.Core.Bool.{Bool, cond}
-use Prim.Native.Nat.{ℕ, zero, suc, _+_, _*_, _-_, _/_, min}
+use Prim.Native.Nat.{ℕ, zero, suc, _+_, _*_}
 use lib.IntN.{ℤ}
 use Rattle.lane_math.specs.Check.{Word, wrote, tOf}
-use Rattle.lane_math.specs.Iteration.{Code, degree, Run, gatherRun, settle, runOf, runR, run, runs, layers, inRun, runCount}
+use Rattle.lane_math.specs.Iteration.{Code, degree, gatherRun, settle, runOf, runR}
 use Rattle.simd.specs.Words.{within, wordOf}
 use Rattle.lane_memory.specs.Column.{column}
 use mathlib.Core.List.{List}
@@ -44,29 +43,6 @@ partFull o code c sh m f =
       t = laidOut code c (tSent o code c (f .word)) (f .t) m;
       old = laidOut code c (oldSent o code c (f .word)) (f .old) m;
     }
-
-abbrev pub runFull : ℤ → Code → (ℕ → ℕ) → ℕ → Full → Full
-runFull o code c m f =
-    record { word = run o code c m (f .word); t = laidOut code c (tSent o code c (f .word)) (f .t) m; old = laidOut code c (oldSent o code c (f .word)) (f .old) m }
-
-unfoldable pub runsFull : ℤ → Code → ℕ → ℕ → ℕ → ℕ → Full → Full
-runsFull o code q s l zero f = f
-runsFull o code q s l (suc j) f = runFull o code (inRun q s l j) (min s (374 - j * s)) (runsFull o code q s l j f)
-
-unfoldable pub layersFull : ℤ → Code → ℕ → ℕ → ℕ → Full → Full
-layersFull o code q s zero f = f
-layersFull o code q s (suc l) f = runsFull o code q s l (runCount s) (layersFull o code q s l f)
-
--- the word of it is the iteration of the word
-pub runs-word : (o : ℤ) (code : Code) (q s l j : ℕ) (f : Full) → runsFull o code q s l j f .word ≡ runs o code q s l j (f .word)
-unfolding runsFull runs
-runs-word o code q s l zero f = refl
-runs-word o code q s l (suc j) f = ap (run o code (inRun q s l j) (min s (374 - j * s))) (runs-word o code q s l j f)
-
-pub layers-word : (o : ℤ) (code : Code) (q s l : ℕ) (f : Full) → layersFull o code q s l f .word ≡ layers o code q s l (f .word)
-unfolding layersFull layers
-layers-word o code q s zero f = refl
-layers-word o code q s (suc l) f = runs-word o code q s l (runCount s) (layersFull o code q s l f) ∙ ap (runs o code q s l (runCount s)) (layers-word o code q s l f)
 
 -- ---- a column's word and scratch rows
 abbrev pub fullOf : ℕ → ℕ → (ℕ → ℤ) → Full

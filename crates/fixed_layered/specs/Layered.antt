@@ -5,7 +5,6 @@ use Prim.Native.Nat.{ℕ, zero, suc, _+_, _*_, _-_, _/_, _≤_, _<_}
 use native.Mathlib.Omega.{arith}
 use lib.ListN.{getD, length}
 use lib.IntN.{ℤ}
-use Rattle.lane_math.specs.Check.{Word}
 use Rattle.lane_math.specs.Iteration.{Code, layered}
 use Rattle.lane_memory.specs.Column.{column}
 use Rattle.simd.specs.Words.{word}
@@ -15,14 +14,12 @@ use Rattle.ldpc_edges.specs.Code.{edgeLists}
 use Rattle.fixed_code.specs.Lists.{edgesIn, codeIn, Memory}
 use Rattle.fixed_code.specs.Code.{codeOf, code-in, edges-are, lists-in}
 use Rattle.fixed_conflicts.specs.Conflicts.{Spanned, shares}
-use Rattle.fixed_layered.specs.Full.{Full, layersFull, layers-word, full}
 use Rattle.fixed_layered.specs.Runs.{LayersMade, InLayer, AllLayers}
 
--- THE COLUMN LAW: every lane's word is iterated as that word alone. Of the scratch rows too it is said what they hold: `layersFull` is the iteration of
--- a word with its rows of t and of old messages. All behind the n + 3E rows is as it was.
+-- THE COLUMN LAW: every lane's word is iterated as that word alone. What the rows of t and of old messages hold is left to the program; all behind
+-- the n + 3E rows is as it was.
 pub record Layered (n : ℕ) (lens addrs : List ℕ) (lanes : ℕ) (o : ℤ) (s : ℕ) (a a′ : List ℤ) : Type 0 where
   pub words : (i : ℕ) → i < lanes → word n (eOf n lens addrs) lanes a′ i ≡ layered o (codeOf n lens addrs) (qOf n lens) s (word n (eOf n lens addrs) lanes a i)
-  pub fulls : (i : ℕ) → i < lanes → full n (eOf n lens addrs) lanes a′ i ≡ layersFull o (codeOf n lens addrs) (qOf n lens) s (qOf n lens) (full n (eOf n lens addrs) lanes a i)
   pub rest : (i : ℕ) → i < lanes → (u : ℕ) → n + 3 * eOf n lens addrs ≤ u → column lanes a′ i u ≡ column lanes a i u
 
 module _ (n : ℕ) (lens addrs : List ℕ) (A : Accepted n lens addrs) (index : List ℕ) (is : index ≡ edgeLists n lens addrs) where
@@ -58,12 +55,10 @@ module _ (n : ℕ) (lens addrs : List ℕ) (A : Accepted n lens addrs) (index : 
       }
 
   pub layered-law : {lanes s : ℕ} {o : ℤ} {a a′ : List ℤ} → LayersMade n (pOf n lens) lanes o index (qOf n lens) s a (qOf n lens) a′ → Layered n lens addrs lanes o s a a′
-  layered-law {lanes} {s} {o} {a} {a′} v = record { words = λ i h. ap (λ (f : Full). f .word) (made i h) ∙ layers-word o (codeOf n lens addrs) (qOf n lens) s (qOf n lens) (full n (eOf n lens addrs) lanes a i); fulls = made; rest = behind }
-    where
-      made : (i : ℕ) → i < lanes → full n (eOf n lens addrs) lanes a′ i ≡ layersFull o (codeOf n lens addrs) (qOf n lens) s (qOf n lens) (full n (eOf n lens addrs) lanes a i)
-      made i h =
-          subst (λ (c : Code). full n (eOf n lens addrs) lanes a′ i ≡ layersFull o c (qOf n lens) s (qOf n lens) (full n (eOf n lens addrs) lanes a i)) (code-in n lens addrs index is)
-          (subst (λ (e : ℕ). full n e lanes a′ i ≡ layersFull o (codeIn (pOf n lens) index) (qOf n lens) s (qOf n lens) (full n e lanes a i)) (edges-are n lens addrs A index is) (v .fulls i h))
-
-      behind : (i : ℕ) → i < lanes → (u : ℕ) → n + 3 * eOf n lens addrs ≤ u → column lanes a′ i u ≡ column lanes a i u
-      behind i h u k = v .rest i h u (omega (arith, edges-are n lens addrs A index is))
+  layered-law {lanes} {s} {o} {a} {a′} v =
+      record {
+        words =
+            λ i h. subst (λ (c : Code). word n (eOf n lens addrs) lanes a′ i ≡ layered o c (qOf n lens) s (word n (eOf n lens addrs) lanes a i)) (code-in n lens addrs index is)
+            (subst (λ (e : ℕ). word n e lanes a′ i ≡ layered o (codeIn (pOf n lens) index) (qOf n lens) s (word n e lanes a i)) (edges-are n lens addrs A index is) (v .words i h));
+        rest = λ i h u k. v .rest i h u (omega (arith, edges-are n lens addrs A index is));
+      }

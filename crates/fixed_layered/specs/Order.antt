@@ -13,11 +13,8 @@ use Rattle.lane_math.specs.Check.{put, wrote, message, tOf, newR}
 use Rattle.lane_math.specs.Iteration.{Code, degree, runR}
 use Rattle.lane_math.specs.Laws.{wrote-other, put-same, put-other}
 use Rattle.fixed_code.specs.Lists.{Lists, edgesIn, codeIn, start-in, degree-in}
+use Rattle.fixed.specs.Sequential.{stepped}
 use Rattle.fixed_layered.specs.Full.{placeOf, laidOut}
-
--- the x-th check of a run that begins at check `first`
-abbrev pub stepped : ℕ → ℕ → ℕ → ℕ
-stepped first q x = first + x * q
 
 pub record Order (code : Code) (c : ℕ → ℕ) (m E n : ℕ) : Type 0 where
   pub next : (j x : ℕ) → j < x → x < m → code .row-start (c j) + degree code (c j) ≤ code .row-start (c x)

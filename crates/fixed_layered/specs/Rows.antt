@@ -25,7 +25,7 @@ use Rattle.fixed_code.specs.Lists.{rowsIn, edgesIn, codeIn}
 use Rattle.fixed_delta.specs.Gather.{Small, EdgeGathered, Settled, plus}
 use Rattle.fixed_conflicts.specs.Table.{Split}
 use Rattle.fixed_layered.specs.Full.{placeOf}
-use Rattle.fixed_layered.specs.Order.{stepped}
+use Rattle.fixed.specs.Sequential.{stepped}
 use Rattle.fixed_layered.specs.Gather.{gatherAt, gatherRunAt, run-same, at-part, Alike, alike-same, alike-more, alike-gather, alike-at}
 
 -- the d edges from s are of the row of 374 variables from base on

@@ -11,7 +11,8 @@ use Rattle.lane_memory.specs.Column.{column, row-ends}
 use Rattle.lane_memory.specs.Room.{var, Room}
 use Rattle.fixed_code.specs.Lists.{rowsIn, edgesIn, codeIn, Memory, memory-to, start-in, degree-in}
 use Rattle.fixed_layered.specs.Full.{placeOf}
-use Rattle.fixed_layered.specs.Order.{Order, order, stepped, place-ends}
+use Rattle.fixed.specs.Sequential.{stepped}
+use Rattle.fixed_layered.specs.Order.{Order, order, place-ends}
 
 -- the run's checks are checks; E is small enough for sums of 32 bits
 pub record InRun (n p lanes first q m : ℕ) (index : List ℕ) (a : List ℤ) : Type 0 where

@@ -8,21 +8,19 @@ use native.Mathlib.Nat.{add-mul-div-right, div-eq-of-lt, mul-le-mul-right}
 use native.Mathlib.Numerals.{add-one}
 use lib.ListN.{getD, length}
 use lib.IntN.{ℤ}
-use Rattle.lane_math.specs.Check.{Word}
-use Rattle.lane_math.specs.Iteration.{Code, degree, inRun, runCount, layered, layers}
+use Rattle.lane_math.specs.Iteration.{Code, degree, run, inRun, runs, runCount, layers}
 use Rattle.lane_memory.specs.Column.{column}
 use Rattle.simd.specs.Words.{word}
 use Rattle.lane_memory.specs.Room.{var, Room}
 use Rattle.fixed_code.specs.Lists.{rowsIn, edgesIn, codeIn, Memory, memory-to, room, start-in, degree-in}
 use Rattle.fixed_conflicts.specs.Table.{Split, Shares, Flagged, spanAt}
-use Rattle.fixed_layered.specs.Full.{Full, runFull, runsFull, layersFull, layers-word, full}
-use Rattle.fixed_layered.specs.Order.{stepped}
+use Rattle.fixed.specs.Sequential.{stepped}
 use Rattle.fixed_layered.specs.Run.{InRun}
 use Rattle.fixed_layered.specs.Rows.{InRow, Grouped, part-in}
 
--- ---- one run
+-- ---- one run. What the rows of t and of old messages hold is left to the program; all behind them is as it was.
 pub record RunMade (n p lanes : ℕ) (o : ℤ) (index : List ℕ) (first q m : ℕ) (a a′ : List ℤ) : Type 0 where
-  pub fulls : (i : ℕ) → i < lanes → full n (edgesIn p index) lanes a′ i ≡ runFull o (codeIn p index) (stepped first q) m (full n (edgesIn p index) lanes a i)
+  pub words : (i : ℕ) → i < lanes → word n (edgesIn p index) lanes a′ i ≡ run o (codeIn p index) (stepped first q) m (word n (edgesIn p index) lanes a i)
   pub rest : (i : ℕ) → i < lanes → (u : ℕ) → n + 3 * edgesIn p index ≤ u → column lanes a′ i u ≡ column lanes a i u
 
 pub run-offset : {n p lanes : ℕ} {o o′ : ℤ} {index : List ℕ} {first q m : ℕ} {a a′ : List ℤ} → o ≡ o′ → RunMade n p lanes o index first q m a a′ → RunMade n p lanes o′ index first q m a a′
@@ -30,12 +28,12 @@ run-offset {n} {p} {lanes} {o} {o′} {index} {first} {q} {m} {a} {a′} e v = s
 
 -- ---- the first j runs of layer l
 pub record RunsMade (n p lanes : ℕ) (o : ℤ) (index : List ℕ) (q s l : ℕ) (a : List ℤ) (j : ℕ) (a′ : List ℤ) : Type 0 where
-  pub fulls : (i : ℕ) → i < lanes → full n (edgesIn p index) lanes a′ i ≡ runsFull o (codeIn p index) q s l j (full n (edgesIn p index) lanes a i)
+  pub words : (i : ℕ) → i < lanes → word n (edgesIn p index) lanes a′ i ≡ runs o (codeIn p index) q s l j (word n (edgesIn p index) lanes a i)
   pub rest : (i : ℕ) → i < lanes → (u : ℕ) → n + 3 * edgesIn p index ≤ u → column lanes a′ i u ≡ column lanes a i u
 
 pub runs-start : (n p lanes : ℕ) (o : ℤ) (index : List ℕ) (q s l : ℕ) (a : List ℤ) → RunsMade n p lanes o index q s l a 0 a
-unfolding runsFull
-runs-start n p lanes o index q s l a = record { fulls = λ i h. refl; rest = λ i h u k. refl }
+unfolding runs
+runs-start n p lanes o index q s l a = record { words = λ i h. refl; rest = λ i h u k. refl }
 
 same-checks : (q s l j at : ℕ) → at ≡ j * s → stepped (l + at * q) q ≡ inRun q s l j
 same-checks q s l j at e =
@@ -43,11 +41,11 @@ same-checks q s l j at e =
 
 pub runs-again : {n p lanes : ℕ} {o : ℤ} {index : List ℕ} {q s l : ℕ} {a a′ a″ : List ℤ} {j at m : ℕ} → at ≡ j * s → m ≡ min s (374 - at) → RunsMade n p lanes o index q s l a j a′
     → RunMade n p lanes o index (l + at * q) q m a′ a″ → RunsMade n p lanes o index q s l a (j + 1) a″
-unfolding runsFull
+unfolding runs
 runs-again {n} {p} {lanes} {o} {index} {q} {s} {l} {a} {a′} {a″} {j} {at} {m} e f v k =
     subst (λ (y : ℕ). RunsMade n p lanes o index q s l a y a″) (sym (add-one j))
     (record {
-      fulls = λ i h. k .fulls i h ∙ (λ y. runFull o (codeIn p index) (same-checks q s l j at e y) ((f ∙ ap (λ (z : ℕ). min s (374 - z)) e) y) (v .fulls i h y));
+      words = λ i h. k .words i h ∙ (λ y. run o (codeIn p index) (same-checks q s l j at e y) ((f ∙ ap (λ (z : ℕ). min s (374 - z)) e) y) (v .words i h y));
       rest = λ i h u r. k .rest i h u r ∙ v .rest i h u r;
     })
 
@@ -65,20 +63,20 @@ runs-end {n} {p} {lanes} {o} {o′} {index} {q} {s} {l} {a} {a′} {j} {at} g h 
 
 -- ---- the first l layers
 pub record LayersMade (n p lanes : ℕ) (o : ℤ) (index : List ℕ) (q s : ℕ) (a : List ℤ) (l : ℕ) (a′ : List ℤ) : Type 0 where
-  pub fulls : (i : ℕ) → i < lanes → full n (edgesIn p index) lanes a′ i ≡ layersFull o (codeIn p index) q s l (full n (edgesIn p index) lanes a i)
+  pub words : (i : ℕ) → i < lanes → word n (edgesIn p index) lanes a′ i ≡ layers o (codeIn p index) q s l (word n (edgesIn p index) lanes a i)
   pub rest : (i : ℕ) → i < lanes → (u : ℕ) → n + 3 * edgesIn p index ≤ u → column lanes a′ i u ≡ column lanes a i u
 
 pub layers-start : (n p lanes : ℕ) (o : ℤ) (index : List ℕ) (q s : ℕ) (a : List ℤ) → LayersMade n p lanes o index q s a 0 a
-unfolding layersFull
-layers-start n p lanes o index q s a = record { fulls = λ i h. refl; rest = λ i h u k. refl }
+unfolding layers
+layers-start n p lanes o index q s a = record { words = λ i h. refl; rest = λ i h u k. refl }
 
 pub layers-again : {n p lanes : ℕ} {o : ℤ} {index : List ℕ} {q s : ℕ} {a a′ a″ : List ℤ} {l : ℕ} → LayersMade n p lanes o index q s a l a′ → RunsMade n p lanes o index q s l a′ (runCount s) a″
     → LayersMade n p lanes o index q s a (l + 1) a″
-unfolding layersFull
+unfolding layers
 layers-again {n} {p} {lanes} {o} {index} {q} {s} {a} {a′} {a″} {l} v k =
     subst (λ (y : ℕ). LayersMade n p lanes o index q s a y a″) (sym (add-one l))
     (record {
-      fulls = λ i h. k .fulls i h ∙ ap (runsFull o (codeIn p index) q s l (runCount s)) (v .fulls i h);
+      words = λ i h. k .words i h ∙ ap (runs o (codeIn p index) q s l (runCount s)) (v .words i h);
       rest = λ i h u r. k .rest i h u r ∙ v .rest i h u r;
     })
 

@@ -11,11 +11,11 @@ ghost use Rattle.lane_math.specs.Iteration.{runCount};
 ghost use Rattle.ldpc_shape.specs.Shape.{eOf, refusalOf};
 ghost use Rattle.ldpc_edges.specs.Code.{edgeLists};
 ghost use Rattle.lane_memory.specs.Column.{column};
-ghost use Rattle.lane_memory.specs.Room.{var, Room};
+ghost use Rattle.lane_memory.specs.Room.{var, sharedIn, Room};
 ghost use Rattle.fixed_code.specs.Lists.{rowsIn, edgesIn, codeIn};
-ghost use Rattle.fixed_conflicts.specs.Table.{Once, Shares, sharedOf};
+ghost use Rattle.fixed_conflicts.specs.Table.{Once, Shares};
 ghost use Rattle.fixed_layered.specs.Full.{placeOf};
-ghost use Rattle.fixed_layered.specs.Order.{stepped};
+ghost use Rattle.fixed.specs.Sequential.{stepped};
 ghost use Rattle.fixed_layered.specs.Gather.{gatherAt};
 ghost use Rattle.fixed_layered.specs.Run.{InRun};
 ghost use Rattle.fixed_layered.specs.Rows.{InRow, Grouped, Smalls, EdgeDone, Gathers, sumAt, runSum, CheckSettled, RowSettled, FlagWritten, Written};
@@ -303,9 +303,9 @@ fn shared_run(
     m: usize,
 )
     requires { ⌜ InRun n p lanes first q m (now index) (now work) × (now rows ≡ rowsIn p (now index)) ⌝ }
-    requires { ⌜ ((v : ℕ) → sharedOf (now flags) v ≡ false → Once (codeIn p (now index)) (stepped first q) m v) ⌝ }
+    requires { ⌜ ((v : ℕ) → sharedIn (now flags) v ≡ false → Once (codeIn p (now index)) (stepped first q) m v) ⌝ }
     requires { ⌜ (2048 ≤ length (now t)) × (2048 ≤ length (now u)) ⌝ }
-    ensures { λ _. ⌜ PartMade (sharedOf (now (flags .entry))) n p lanes offset (now (index .entry)) first q m (now (work .entry)) (now (work .exit)) ⌝ }
+    ensures { λ _. ⌜ PartMade (sharedIn (now (flags .entry))) n p lanes offset (now (index .entry)) first q m (now (work .entry)) (now (work .exit)) ⌝ }
 {
     let mut place: usize = 0;
     let mut x: usize = 0;
@@ -319,39 +319,7 @@ fn shared_run(
     }
 }
 
-// A run in which no variable has several edges: check after check, each with its values. t and u are work of 128 times 16.
-fn alone_run(
-    index: &[u32],
-    rows: &[u32],
-    work: &mut [i8],
-    t: &mut [i8],
-    u: &mut [i8],
-    n: usize,
-    p: usize,
-    lanes: usize,
-    offset: i8,
-    first: usize,
-    q: usize,
-    m: usize,
-)
-    requires { ⌜ InRun n p lanes first q m (now index) (now work) × (now rows ≡ rowsIn p (now index)) ⌝ }
-    requires { ⌜ ((v : ℕ) → Once (codeIn p (now index)) (stepped first q) m v) ⌝ }
-    requires { ⌜ (2048 ≤ length (now t)) × (2048 ≤ length (now u)) ⌝ }
-    ensures { λ _. ⌜ RunMade n p lanes offset (now (index .entry)) first q m (now (work .entry)) (now (work .exit)) ⌝ }
-{
-    let mut place: usize = 0;
-    let mut x: usize = 0;
-    while x < m {
-        let c = first + x * q;
-        let s = fixed_code::start(index, c);
-        let d = fixed_code::degree(index, n, p, c);
-        simd_layered::check_alone(rows, s, d, work, t, u, n, lanes, place, offset);
-        place += d;
-        x += 1;
-    }
-}
-
-// One run: in a layer without such rows check after check; else their values at the end.
+// One run: in a layer without such rows its checks in turn; else their values at the end.
 fn run(
     index: &[u32],
     rows: &[u32],
@@ -378,7 +346,7 @@ fn run(
     ensures { λ _. ⌜ RunMade n p lanes offset (now (index .entry)) first q m (now (work .entry)) (now (work .exit)) ⌝ }
 {
     if !any {
-        alone_run(index, rows, work, t, u, n, p, lanes, offset, first, q, m);
+        fixed::checks(index, rows, work, t, u, n, p, lanes, offset, first, q, m);
         return;
     }
     shared_run(

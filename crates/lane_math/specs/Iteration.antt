@@ -15,10 +15,14 @@ pub record Code : Type 0 where
 abbrev pub degree : Code → ℕ → ℕ
 degree code c = code .row-start (suc c) - code .row-start c
 
+-- The checks c 0, .., c (m − 1), each reading what the ones before it wrote.
+unfoldable pub inTurn : ℤ → Code → (ℕ → ℕ) → ℕ → Word → Word
+inTurn offset code c zero w = w
+inTurn offset code c (suc m) w = check offset (code .rows) (code .row-start (c m)) (degree code (c m)) (inTurn offset code c m w)
+
 -- Sequential: the checks 0 to p − 1.
-unfoldable pub sequential : ℤ → Code → ℕ → Word → Word
-sequential offset code zero w = w
-sequential offset code (suc p) w = check offset (code .rows) (code .row-start p) (degree code p) (sequential offset code p w)
+abbrev pub sequential : ℤ → Code → ℕ → Word → Word
+sequential offset code p w = inTurn offset code (λ c. c) p w
 
 -- ---- Layered. A run: the checks c 0, .., c (m − 1), all reading the run's starting L. Their messages:
 unfoldable pub runR : ℤ → Code → (ℕ → ℕ) → (ℕ → ℤ) → (ℕ → ℤ) → ℕ → ℕ → ℤ

@@ -1,7 +1,8 @@
 -- What a call on the memory may count on: one slice of n + 3E rows, E edges, each of a variable below n.
 use mathlib.Core.Path.{_≡_}
+use mathlib.Core.Bool.{Bool, false}
 use mathlib.Core.List.{List}
-use Prim.Native.Nat.{ℕ, _+_, _*_, _≤_, _<_}
+use Prim.Native.Nat.{ℕ, _+_, _*_, _/_, _≤_, _<_}
 use native.Mathlib.Omega.{arith}
 use native.Mathlib.Nat.{mul-le-mul-right}
 use lib.ListN.{getD, length}
@@ -11,6 +12,10 @@ use Rattle.lane_memory.specs.Column.{row-ends}
 -- the variable of edge e
 abbrev pub var : List ℕ → ℕ → ℕ
 var rows e = getD rows e 0
+
+-- whether variable v's row of 374 is flagged: its variables can have several edges in a run of checks
+abbrev pub sharedIn : List Bool → ℕ → Bool
+sharedIn flags v = getD flags (v / 374) false
 
 -- A check of d edges from edge s, at most 128. A code has 747 edges or more; from 16 on, the rows of the old messages alone are more
 -- than the 15 bytes that a load of 16 reaches behind a row of values, messages or t.

@@ -17,10 +17,6 @@ use Rattle.lane_memory.specs.Room.{var, Room}
 use Rattle.simd.specs.Pass.{tAt, Scan, answer, answer-is, prepared, least-reduced, halves, scan-to}
 use Rattle.simd.specs.Words.{wordOf, word, within-at, shifted-put, value-put, message-put, behind-put, t-same, message-is, inside}
 
--- whether variable v's row of 374 is flagged
-abbrev pub sharedIn : List Bool → ℕ → Bool
-sharedIn flags v = getD flags (v / 374) false
-
 -- f with x at u, unless b
 abbrev pub putUnless : Bool → (ℕ → ℤ) → ℕ → ℤ → ℕ → ℤ
 putUnless b f u x = cond b f (put f u x)

@@ -3,7 +3,7 @@ use borrow.Author.Needs.{needs}
 use mathlib.Core.Path.{refl}
 use Rattle.laws.specs.Signed.{plain}
 use Rattle.fixed_code.specs.Lists.{rows-part}
-use Rattle.fixed.specs.Sequential.{upto-end}
+use Rattle.fixed.specs.Sequential.{iterated}
 use Rattle.fixed.proofs.iteration.Statement.{statement}
 use Rattle.fixed.proofs.iteration.Tie as tie
 
@@ -31,7 +31,7 @@ slice-aggregate-checks-2 c = search needs
 checks-requires : tie.Need-checks-requires
 checks-requires c κs =
     let s = c .before .before .before .before .before in
-    ((s .pre, rows-part (s .args .p) (s .args .index .now)), (omega arith, omega arith))
+    ((s .pre, rows-part (s .args .p) (s .args .index .now)), (λ x h. omega (arith, h), (omega arith, omega arith)))
 
 same-length : tie.Need-same-length
 same-length c = search needs
@@ -39,7 +39,7 @@ same-length c = search needs
 returns : tie.Need-returns
 returns c =
     let s = c .before .before .before .before .before .before .before .before .before in
-    upto-end (plain (s .args .offset) (s .fits .offset)) refl (c .before .before .before .checks .ensures)
+    iterated (plain (s .args .offset) (s .fits .offset)) (c .before .before .before .checks .ensures)
 
 pub iteration-spec : {M : Type 1} → statement M
 iteration-spec =

@@ -8,14 +8,12 @@ use lib.ListN.{length}
 use Rattle.laws.specs.Signed.{plain}
 use Rattle.fixed_layered.specs.Run.{in-run-to}
 use Rattle.fixed_layered.specs.Runs.{run-offset}
-use Rattle.fixed_layered.specs.Checks.{run-law}
+use Rattle.fixed_layered.specs.Checks.{turn-made, run-law}
 use Rattle.fixed_layered.proofs.run.Statement.{statement}
 use Rattle.fixed_layered.proofs.run.Tie as tie
 
-alone-run-requires : tie.Need-alone-run-requires
-alone-run-requires c κs = let s = c .before .before .before .before .before .before .before in
-    let none = s .pre .1 .1 .0 (not-true (s .args .any) (c .before .before .before .if1 .taken)) in
-    (s .pre .0, (λ v. s .pre .1 .0 .0 .once v (none (v / 374)), (s .pre .1 .1 .1 .0, s .pre .1 .1 .1 .1 .0)))
+checks-requires : tie.Need-checks-requires
+checks-requires c κs = let s = c .before .before .before .before .before .before .before in ((s .pre .0 .0 .memory, s .pre .0 .1), (s .pre .0 .0 .inside, (s .pre .1 .1 .1 .0, s .pre .1 .1 .1 .1 .0)))
 
 same-length : tie.Need-same-length
 same-length c = search needs
@@ -27,7 +25,10 @@ same-length-3 : tie.Need-same-length-3
 same-length-3 c = search needs
 
 returns : tie.Need-returns
-returns c = let s = c .before .before .before .before .before .before .before .before .before .before .before in run-offset (plain (s .args .offset) (s .fits .offset)) (c .before .before .before .alone-run .ensures)
+returns c =
+    let s = c .before .before .before .before .before .before .before .before .before .before .before in
+    let none = s .pre .1 .1 .0 (not-true (s .args .any) (c .before .before .before .before .before .before .before .if1 .taken)) in
+    run-offset (plain (s .args .offset) (s .fits .offset)) (turn-made (s .pre .0 .0) (λ v. s .pre .1 .0 .0 .once v (none (v / 374))) (c .before .before .before .checks .ensures))
 
 shared-run-requires : tie.Need-shared-run-requires
 shared-run-requires c κs = let s = c .before .before .before .before .before .before .before in (s .pre .0, (s .pre .1 .0 .0 .once, (s .pre .1 .1 .1 .0, s .pre .1 .1 .1 .1 .0)))
@@ -57,7 +58,7 @@ pub run-spec : {M : Type 1} → statement M
 run-spec =
     tie.close
     (tie.spec
-    alone-run-requires
+    checks-requires
     same-length
     same-length-2
     same-length-3

@@ -10,7 +10,7 @@ use Rattle.lane_memory.specs.Column.{column}
 use Rattle.lane_memory.specs.Room.{var, Room}
 use Rattle.fixed_code.specs.Lists.{rowsIn, edgesIn, codeIn, memory-to}
 use Rattle.fixed_layered.specs.Full.{placeOf}
-use Rattle.fixed_layered.specs.Order.{stepped}
+use Rattle.fixed.specs.Sequential.{stepped}
 use Rattle.fixed_layered.specs.Gather.{gatherAt}
 use Rattle.fixed_layered.specs.Run.{in-run-to, place-first, place-next, place-room}
 use Rattle.fixed_layered.specs.Runs.{row-part}

@@ -8,12 +8,11 @@ use lib.ListN.{length, getD}
 use mir.Syntax.{w8}
 use mir.Val.{toZ, ofZ}
 use Rattle.laws.specs.Signed.{plain}
-use Rattle.lane_memory.specs.Room.{Room}
+use Rattle.lane_memory.specs.Room.{sharedIn, Room}
 use Rattle.simd_layered.specs.Checked.{Checked}
-use Rattle.fixed_conflicts.specs.Table.{sharedOf}
 use Rattle.fixed_code.specs.Lists.{rowsIn, codeIn, room, memory-to}
 use Rattle.fixed_layered.specs.Full.{placeOf}
-use Rattle.fixed_layered.specs.Order.{stepped}
+use Rattle.fixed.specs.Sequential.{stepped}
 use Rattle.fixed_layered.specs.Run.{place-first, place-next, place-room}
 use Rattle.fixed_layered.specs.Checks.{ChecksMade, checks-start, checks-again, checks-end}
 use Rattle.fixed_layered.proofs.shared_run.Statement.{statement}
@@ -21,7 +20,7 @@ use Rattle.fixed_layered.proofs.shared_run.Tie as tie
 
 abbrev Inv-loop : tie.InvT-loop
 Inv-loop index rows work₀ t₀ u₀ flags n p lanes offset first q m place₀ x₀ work t u place x =
-    (x ≤ m) × ((length work ≡ length work₀) × (((length t ≡ length t₀) × (length u ≡ length u₀)) × ((place ≡ placeOf (codeIn p index) (stepped first q) x) × ChecksMade (sharedOf flags) n p lanes (toZ w8 offset) index first q work₀ x work)))
+    (x ≤ m) × ((length work ≡ length work₀) × (((length t ≡ length t₀) × (length u ≡ length u₀)) × ((place ≡ placeOf (codeIn p index) (stepped first q) x) × ChecksMade (sharedIn flags) n p lanes (toZ w8 offset) index first q work₀ x work)))
 
 abbrev μ-loop : tie.MeasureT-loop
 μ-loop index rows work₀ t₀ u₀ flags n p lanes offset first q m place₀ x₀ work t u place x = m - x
@@ -29,7 +28,7 @@ abbrev μ-loop : tie.MeasureT-loop
 loop-holds : tie.Need-loop-holds Inv-loop μ-loop
 loop-holds c =
     let a = c .before .before .args in
-    (search needs, (refl, ((refl, refl), (place-first (a .p) (a .index .now) (a .first) (a .q), checks-start (sharedOf (a .flags .now)) (a .n) (a .p) (a .lanes) (toZ w8 (ofZ w8 (a .offset))) (a .index .now) (a .first) (a .q) (a .work .now)))))
+    (search needs, (refl, ((refl, refl), (place-first (a .p) (a .index .now) (a .first) (a .q), checks-start (sharedIn (a .flags .now)) (a .n) (a .p) (a .lanes) (toZ w8 (ofZ w8 (a .offset))) (a .index .now) (a .first) (a .q) (a .work .now)))))
 
 mul-c : tie.Need-mul-c Inv-loop μ-loop
 mul-c c = let s = c .before .before .before .before in record { fits = omega (arith, s .pre .0 .0 .inside (c .before .loop .x) (c .loop-test .taken), s .pre .0 .0 .few-checks) }
@@ -96,7 +95,7 @@ loop-again c =
           (
             place-next (a .p) (a .index .now) (a .first) (a .q) (h .loop .x) (h .loop .place) (r .result) (d .result) inside e f g,
             checks-again inside e f g (place-room (h .loop .x) (h .loop .place) (r .result) (d .result) (s .pre .0 .0) y e f g) (h .loop .inv .1 .1 .1 .1)
-                (subst (λ (l : List ℕ). Checked (sharedOf (s .args .flags .now)) l (r .result) (d .result) (a .n) (a .lanes) (h .loop .place) (toZ w8 (ofZ w8 (a .offset))) (h .loop .work) (k .last .1 .1 .1 .0)) (s .pre .0 .1) (k .ensures)),
+                (subst (λ (l : List ℕ). Checked (sharedIn (s .args .flags .now)) l (r .result) (d .result) (a .n) (a .lanes) (h .loop .place) (toZ w8 (ofZ w8 (a .offset))) (h .loop .work) (k .last .1 .1 .1 .0)) (s .pre .0 .1) (k .ensures)),
           ),
         ),
       ),

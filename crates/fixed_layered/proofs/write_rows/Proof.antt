@@ -4,7 +4,7 @@ use mathlib.Core.Path.{_≡_, refl, sym, ap, subst, _∙_}
 use Prim.Native.Nat.{ℕ, _+_, _*_, _-_, _≤_, _<_}
 use lib.ListN.{length}
 use Rattle.fixed_code.specs.Lists.{edgesIn, codeIn}
-use Rattle.fixed_layered.specs.Order.{stepped}
+use Rattle.fixed.specs.Sequential.{stepped}
 use Rattle.fixed_layered.specs.Run.{in-run-to}
 use Rattle.fixed_layered.specs.Rows.{Written, written-start, written-again, written-end}
 use Rattle.fixed_layered.proofs.write_rows.Statement.{statement}

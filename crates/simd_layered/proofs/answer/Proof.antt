@@ -4,20 +4,20 @@ use mathlib.Core.Path.{_≡_, refl}
 use mathlib.Core.Bool.{Bool, false}
 use Prim.Native.Nat.{ℕ, _+_, _*_, _-_, _≤_, _<_}
 use lib.ListN.{length}
-use Rattle.lane_memory.specs.Room.{var, row-room, load-room, row-fits, value-row}
-use Rattle.simd_layered.specs.Checked.{Told, told-start, told-again, told-end, stored-all}
+use Rattle.lane_memory.specs.Room.{var, sharedIn, row-room, load-room, row-fits, value-row}
+use Rattle.simd_layered.specs.Checked.{Told, told-start, told-again, told-end}
 use Rattle.simd_layered.proofs.answer.Statement.{statement}
 use Rattle.simd_layered.proofs.answer.Tie as tie
 
 abbrev Inv-loop : tie.InvT-loop
-Inv-loop rows s d a₀ t n lanes at w place sign least m1 m2 edges k₀ a k = (k ≤ d) × ((length a ≡ length a₀) × Told (λ v. false) w (var rows) s n (length rows) place lanes at t sign least m1 m2 a₀ k a)
+Inv-loop rows s d a₀ t n lanes at w place flags sign least m1 m2 edges k₀ a k = (k ≤ d) × ((length a ≡ length a₀) × Told (sharedIn flags) w (var rows) s n (length rows) place lanes at t sign least m1 m2 a₀ k a)
 
 abbrev μ-loop : tie.MeasureT-loop
-μ-loop rows s d a₀ t n lanes at w place sign least m1 m2 edges k₀ a k = d - k
+μ-loop rows s d a₀ t n lanes at w place flags sign least m1 m2 edges k₀ a k = d - k
 
 -- every row's number fits
 rows-fit : (s : tie.Start Inv-loop μ-loop) → s .args .n + 3 * length (s .args .rows .now) ≤ length (s .args .a .now)
-rows-fit s = row-fits (s .pre .0) (s .args .n + 3 * length (s .args .rows .now)) (omega arith)
+rows-fit s = row-fits (s .pre .0 .0) (s .args .n + 3 * length (s .args .rows .now)) (omega arith)
 
 loop-holds : tie.Need-loop-holds Inv-loop μ-loop
 loop-holds c =
@@ -25,7 +25,7 @@ loop-holds c =
       search needs,
       (
         refl,
-        told-start (λ v. false) (a .w) (var (a .rows .now)) (a .s) (a .n) (length (a .rows .now)) (a .place) (a .lanes) (a .at) (a .t .now) (a .sign) (a .least) (a .m1) (a .m2) (a .a .now),
+        told-start (sharedIn (a .flags .now)) (a .w) (var (a .rows .now)) (a .s) (a .n) (length (a .rows .now)) (a .place) (a .lanes) (a .at) (a .t .now) (a .sign) (a .least) (a .m1) (a .m2) (a .a .now),
       ),
     )
 
@@ -39,10 +39,10 @@ add-u : tie.Need-add-u Inv-loop μ-loop
 add-u c =
     let s = c .before .before .before .before in
     let q : c .before .before .loop .k < s .args .d = c .before .loop-test .taken in
-    record { fits = omega (arith, rows-fit s, s .pre .0 .edges, s .pre .1 .1 .0, q, s .good) }
+    record { fits = omega (arith, rows-fit s, s .pre .0 .0 .edges, s .pre .1 .1 .0, q, s .good) }
 
 load-requires : tie.Need-load-requires Inv-loop μ-loop
-load-requires c κs = let s = c .before .before .before .before in omega (arith, s .pre .1 .0 .1 .1, s .pre .0 .degree, c .before .loop-test .taken)
+load-requires c κs = let s = c .before .before .before .before in omega (arith, s .pre .1 .0 .1 .1, s .pre .0 .0 .degree, c .before .loop-test .taken)
 
 load-requires-2 : tie.Need-load-requires-2 Inv-loop μ-loop
 load-requires-2 c κs =
@@ -50,7 +50,7 @@ load-requires-2 c κs =
     let h = c .before .before .before .before in
     let q : h .loop .k < s .args .d = c .before .before .before .loop-test .taken in
     let r : s .args .at < s .args .lanes = omega (arith, s .pre .1 .0 .0, s .pre .1 .0 .1 .0 .some) in
-    omega (arith, load-room (s .pre .0) (s .args .n + (s .args .s + h .loop .k)) (s .args .at) (omega (arith, s .pre .0 .edges, q)) r, h .loop .inv .1 .0)
+    omega (arith, load-room (s .pre .0 .0) (s .args .n + (s .args .s + h .loop .k)) (s .args .at) (omega (arith, s .pre .0 .0 .edges, q)) r, h .loop .inv .1 .0)
 
 reply-requires : tie.Need-reply-requires Inv-loop μ-loop
 reply-requires c κs = c .before .before .before .before .before .before .before .pre .1 .1 .1
@@ -59,26 +59,26 @@ add-f : tie.Need-add-f Inv-loop μ-loop
 add-f c =
     let s = c .before .before .before .before .before .before .before .before .before .before in
     let q : c .before .before .before .before .before .before .before .before .loop .k < s .args .d = c .before .before .before .before .before .before .before .loop-test .taken in
-    record { fits = omega (arith, rows-fit s, s .pre .0 .edges, s .pre .1 .1 .0, q, s .good) }
+    record { fits = omega (arith, rows-fit s, s .pre .0 .0 .edges, s .pre .1 .1 .0, q, s .good) }
 
 add-tu : tie.Need-add-tu Inv-loop μ-loop
 add-tu c =
     let s = c .before .before .before .before .before .before .before .before .before .before in
     let q : c .before .before .before .before .before .before .before .before .loop .k < s .args .d = c .before .before .before .before .before .before .before .loop-test .taken in
-    record { fits = omega (arith, rows-fit s, s .pre .0 .edges, s .pre .1 .1 .0, q, s .good) }
+    record { fits = omega (arith, rows-fit s, s .pre .0 .0 .edges, s .pre .1 .1 .0, q, s .good) }
 
 add-tu-2 : tie.Need-add-tu-2 Inv-loop μ-loop
 add-tu-2 c =
     let s = c .before .before .before .before .before .before .before .before .before .before in
     let q : c .before .before .before .before .before .before .before .before .loop .k < s .args .d = c .before .before .before .before .before .before .before .loop-test .taken in
-    record { fits = omega (arith, rows-fit s, s .pre .0 .edges, s .pre .1 .1 .0, q, s .good) }
+    record { fits = omega (arith, rows-fit s, s .pre .0 .0 .edges, s .pre .1 .1 .0, q, s .good) }
 
 store-lanes-requires : tie.Need-store-lanes-requires Inv-loop μ-loop
 store-lanes-requires c κs =
     let s = c .before .before .before .before .before .before .before .before .before .before .before in
     let h = c .before .before .before .before .before .before .before .before .before in
     let q : h .loop .k < s .args .d = c .before .before .before .before .before .before .before .before .loop-test .taken in (
-      omega (arith, row-room (s .pre .0) (s .args .n + length (s .args .rows .now) + (s .args .place + h .loop .k)) (omega (arith, s .pre .0 .edges, s .pre .1 .1 .0, q)), h .loop .inv .1 .0),
+      omega (arith, row-room (s .pre .0 .0) (s .args .n + length (s .args .rows .now) + (s .args .place + h .loop .k)) (omega (arith, s .pre .0 .0 .edges, s .pre .1 .1 .0, q)), h .loop .inv .1 .0),
       (s .pre .1 .0 .0, s .pre .1 .0 .1 .0),
     )
 
@@ -86,26 +86,26 @@ mul-ou : tie.Need-mul-ou Inv-loop μ-loop
 mul-ou c =
     let s = c .before .before .before .before .before .before .before .before .before .before .before .before .before in
     let q : c .before .before .before .before .before .before .before .before .before .before .before .loop .k < s .args .d = c .before .before .before .before .before .before .before .before .before .before .loop-test .taken in
-    record { fits = omega (arith, rows-fit s, s .pre .0 .edges, s .pre .1 .1 .0, q, s .good) }
+    record { fits = omega (arith, rows-fit s, s .pre .0 .0 .edges, s .pre .1 .1 .0, q, s .good) }
 
 add-ou : tie.Need-add-ou Inv-loop μ-loop
 add-ou c =
     let s = c .before .before .before .before .before .before .before .before .before .before .before .before .before in
     let q : c .before .before .before .before .before .before .before .before .before .before .before .loop .k < s .args .d = c .before .before .before .before .before .before .before .before .before .before .loop-test .taken in
-    record { fits = omega (arith, rows-fit s, s .pre .0 .edges, s .pre .1 .1 .0, q, s .good) }
+    record { fits = omega (arith, rows-fit s, s .pre .0 .0 .edges, s .pre .1 .1 .0, q, s .good) }
 
 add-ou-2 : tie.Need-add-ou-2 Inv-loop μ-loop
 add-ou-2 c =
     let s = c .before .before .before .before .before .before .before .before .before .before .before .before .before in
     let q : c .before .before .before .before .before .before .before .before .before .before .before .loop .k < s .args .d = c .before .before .before .before .before .before .before .before .before .before .loop-test .taken in
-    record { fits = omega (arith, rows-fit s, s .pre .0 .edges, s .pre .1 .1 .0, q, s .good) }
+    record { fits = omega (arith, rows-fit s, s .pre .0 .0 .edges, s .pre .1 .1 .0, q, s .good) }
 
 store-lanes-requires-2 : tie.Need-store-lanes-requires-2 Inv-loop μ-loop
 store-lanes-requires-2 c κs =
     let s = c .before .before .before .before .before .before .before .before .before .before .before .before .before .before in
     let h = c .before .before .before .before .before .before .before .before .before .before .before .before in
     let q : h .loop .k < s .args .d = c .before .before .before .before .before .before .before .before .before .before .before .loop-test .taken in (
-      omega (arith, row-room (s .pre .0) (s .args .n + 2 * length (s .args .rows .now) + (s .args .place + h .loop .k)) (omega (arith, s .pre .0 .edges, s .pre .1 .1 .0, q)), c .before .before .store-lanes .kept, h .loop .inv .1 .0),
+      omega (arith, row-room (s .pre .0 .0) (s .args .n + 2 * length (s .args .rows .now) + (s .args .place + h .loop .k)) (omega (arith, s .pre .0 .0 .edges, s .pre .1 .1 .0, q)), c .before .before .store-lanes .kept, h .loop .inv .1 .0),
       (s .pre .1 .0 .0, s .pre .1 .0 .1 .0),
     )
 
@@ -114,17 +114,17 @@ store-lanes-requires-3 c κs =
     let s = c .before .before .before .before .before .before .before .before .before .before .before .before .before .before .before .before .before in
     let h = c .before .before .before .before .before .before .before .before .before .before .before .before .before .before .before in
     let q : h .loop .k < s .args .d = c .before .before .before .before .before .before .before .before .before .before .before .before .before .before .loop-test .taken in (
-      omega (arith, row-room (s .pre .0) (s .args .n + (s .args .s + h .loop .k)) (omega (arith, s .pre .0 .edges, s .pre .1 .1 .0, q)), c .before .before .before .before .before .store-lanes .kept, c .before .before .store-lanes2 .kept, h .loop .inv .1 .0),
+      omega (arith, row-room (s .pre .0 .0) (s .args .n + (s .args .s + h .loop .k)) (omega (arith, s .pre .0 .0 .edges, s .pre .1 .1 .0, q)), c .before .before .before .before .before .store-lanes .kept, c .before .before .store-lanes2 .kept, h .loop .inv .1 .0),
       (s .pre .1 .0 .0, s .pre .1 .0 .1 .0),
     )
 
-store-lanes-requires-4 : tie.Need-store-lanes-requires-4 Inv-loop μ-loop
-store-lanes-requires-4 c κs =
+store-value-requires : tie.Need-store-value-requires Inv-loop μ-loop
+store-value-requires c κs =
     let s = c .before .before .before .before .before .before .before .before .before .before .before .before .before .before .before .before .before .before .before .before in
     let h = c .before .before .before .before .before .before .before .before .before .before .before .before .before .before .before .before .before .before in
     let v = c .before .before .before .before .before .before .before .before .before .before .before .before .before .before .before .before .variable in
-    let q : v .result < s .args .n = omega (arith, v .ensures, value-row (s .pre .0) (h .loop .k) (c .before .before .before .before .before .before .before .before .before .before .before .before .before .before .before .before .before .loop-test .taken)) in
-    (omega (arith, row-room (s .pre .0) (v .result) (omega arith), c .before .before .before .before .before .before .before .before .store-lanes .kept, c .before .before .before .before .before .store-lanes2 .kept, c .before .before .store-lanes3 .kept, h .loop .inv .1 .0), (s .pre .1 .0 .0, s .pre .1 .0 .1 .0))
+    let q : v .result < s .args .n = omega (arith, v .ensures, value-row (s .pre .0 .0) (h .loop .k) (c .before .before .before .before .before .before .before .before .before .before .before .before .before .before .before .before .before .loop-test .taken)) in
+    ((omega (arith, row-room (s .pre .0 .0) (v .result) (omega arith), c .before .before .before .before .before .before .before .before .store-lanes .kept, c .before .before .before .before .before .store-lanes2 .kept, c .before .before .store-lanes3 .kept, h .loop .inv .1 .0), omega (arith, q, s .pre .0 .1)), (s .pre .1 .0 .0, s .pre .1 .0 .1 .0))
 
 add-k : tie.Need-add-k Inv-loop μ-loop
 add-k c = record { fits = omega (arith, c .before .before .before .before .before .before .before .before .before .before .before .before .before .before .before .before .before .before .before .loop-test .taken, c .before .before .before .before .before .before .before .before .before .before .before .before .before .before .before .before .before .before .before .before .before .before .fits .d .fits) }
@@ -139,10 +139,10 @@ loop-again c =
     let q : h .loop .k < s .args .d = c .before .before .before .before .before .before .before .before .before .before .before .before .before .before .before .before .before .before .before .loop-test .taken in (
       omega (arith, q),
       (
-        omega (arith, c .before .before .before .before .before .before .before .before .before .before .store-lanes .kept, c .before .before .before .before .before .before .before .store-lanes2 .kept, c .before .before .before .before .store-lanes3 .kept, c .before .store-lanes4 .kept, h .loop .inv .1 .0),
-        told-again (s .pre .1 .0 .1 .0 .few) (omega (arith, s .pre .0 .edges, q)) (λ k l. value-row (s .pre .0) k (omega (arith, l, q)), (omega (arith, s .pre .0 .edges, q), omega (arith, s .pre .1 .1 .0, q)))
+        omega (arith, c .before .before .before .before .before .before .before .before .before .before .store-lanes .kept, c .before .before .before .before .before .before .before .store-lanes2 .kept, c .before .before .before .before .store-lanes3 .kept, c .before .store-value .kept, h .loop .inv .1 .0),
+        told-again (s .pre .1 .0 .1 .0 .few) (omega (arith, s .pre .0 .0 .edges, q)) (λ k l. value-row (s .pre .0 .0) k (omega (arith, l, q)), (omega (arith, s .pre .0 .0 .edges, q), omega (arith, s .pre .1 .1 .0, q)))
             (h .loop .inv .1 .1) (c .before .before .before .before .before .before .before .before .before .before .before .before .before .before .before .before .before .before .variable .ensures) (c .before .before .before .before .before .before .before .before .before .before .before .before .before .before .before .before .before .load .ensures) (c .before .before .before .before .before .before .before .before .before .before .before .before .before .before .before .load2 .ensures) (c .before .before .before .before .before .before .before .before .before .before .before .before .before .before .reply .ensures)
-            (c .before .before .before .before .before .before .before .before .before .before .store-lanes .ensures) (c .before .before .before .before .before .before .before .store-lanes2 .ensures) (c .before .before .before .before .store-lanes3 .ensures) (stored-all (c .before .store-lanes4 .ensures)),
+            (c .before .before .before .before .before .before .before .before .before .before .store-lanes .ensures) (c .before .before .before .before .before .before .before .store-lanes2 .ensures) (c .before .before .before .before .store-lanes3 .ensures) (c .before .store-value .ensures),
       ),
     )
 
@@ -174,7 +174,7 @@ answer-spec =
     add-ou-2
     store-lanes-requires-2
     store-lanes-requires-3
-    store-lanes-requires-4
+    store-value-requires
     add-k
     loop-less
     loop-again

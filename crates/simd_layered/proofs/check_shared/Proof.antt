@@ -9,8 +9,8 @@ use mir.Syntax.{w8}
 use mir.Val.{toZ, ofZ}
 use Rattle.laws.specs.Signed.{plain}
 use Rattle.lane_memory.specs.Column.{Upto, upto-start, upto-again, upto-end}
-use Rattle.lane_memory.specs.Room.{var, room-to}
-use Rattle.simd_layered.specs.Checked.{sharedIn, runColumn, Checked, checked}
+use Rattle.lane_memory.specs.Room.{var, sharedIn, room-to}
+use Rattle.simd_layered.specs.Checked.{runColumn, Checked, checked}
 use Rattle.simd_layered.proofs.check_shared.Statement.{statement}
 use Rattle.simd_layered.proofs.check_shared.Tie as tie
 
@@ -31,8 +31,8 @@ loop-holds c =
       ),
     )
 
-shared-chunk-requires : tie.Need-shared-chunk-requires Inv-loop μ-loop
-shared-chunk-requires c κs =
+chunk-requires : tie.Need-chunk-requires Inv-loop μ-loop
+chunk-requires c κs =
     let s = c .before .before .before .before .before .before in
     let h = c .before .before .before .before in (
       (room-to (h .loop .inv .1 .0) (s .pre .0 .0), s .pre .0 .1),
@@ -40,15 +40,15 @@ shared-chunk-requires c κs =
     )
 
 add-at : tie.Need-add-at Inv-loop μ-loop
-add-at c = let w = c .before .before .before .shared-chunk .ensures .0 in record { fits = omega (arith, w .1, c .before .before .before .before .before .before .before .before .before .before .fits .lanes .fits) }
+add-at c = let w = c .before .before .before .chunk .ensures .0 in record { fits = omega (arith, w .1, c .before .before .before .before .before .before .before .before .before .before .fits .lanes .fits) }
 
 loop-less : tie.Need-loop-less Inv-loop μ-loop
-loop-less c = let w = c .before .before .before .shared-chunk .ensures .0 in omega (arith, w .0, w .1, c .before .before .before .before .before .before .before .loop-test .taken)
+loop-less c = let w = c .before .before .before .chunk .ensures .0 in omega (arith, w .0, w .1, c .before .before .before .before .before .before .before .loop-test .taken)
 
 loop-again : tie.Need-loop-again Inv-loop μ-loop
 loop-again c =
     let h = c .before .before .before .before .before .before .before .before in
-    let k = c .before .before .before .shared-chunk in (
+    let k = c .before .before .before .chunk in (
       omega (arith, k .ensures .0 .1),
       (
         omega (arith, k .kept, h .loop .inv .1 .0),
@@ -79,7 +79,7 @@ check-shared-spec =
     Inv-loop
     μ-loop
     loop-holds
-    shared-chunk-requires
+    chunk-requires
     add-at
     loop-less
     loop-again

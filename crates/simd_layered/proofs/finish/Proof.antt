@@ -9,7 +9,7 @@ use lib.IntN.{ℤ}
 use Rattle.laws.specs.Signed.{plain}
 use Rattle.lane16.specs.Lanes.{readied-to, reduced-none-negative}
 use Rattle.lane_memory.specs.Column.{Part}
-use Rattle.lane_memory.specs.Room.{var, room-to, Width}
+use Rattle.lane_memory.specs.Room.{var, sharedIn, room-to, Width}
 use Rattle.simd.specs.Pass.{scan-to}
 use Rattle.simd_layered.specs.Checked.{runColumn, told-is, two-parts}
 use Rattle.simd_layered.proofs.finish.Statement.{statement}

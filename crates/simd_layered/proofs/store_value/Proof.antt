@@ -1,6 +1,7 @@
 use native.Mathlib.Omega.{arith}
 use borrow.Author.Needs.{needs}
-use Rattle.simd_layered.specs.Checked.{sharedIn, stored-none, stored-unless}
+use Rattle.lane_memory.specs.Room.{sharedIn}
+use Rattle.simd_layered.specs.Checked.{stored-none, stored-unless}
 use Rattle.simd_layered.proofs.store_value.Statement.{statement}
 use Rattle.simd_layered.proofs.store_value.Tie as tie
 

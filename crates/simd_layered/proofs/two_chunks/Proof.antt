@@ -9,7 +9,7 @@ use lib.IntN.{ℤ}
 use Rattle.laws.specs.Signed.{plain}
 use Rattle.lane16.specs.Lanes.{readied-to, reduced-none-negative}
 use Rattle.lane_memory.specs.Column.{Part}
-use Rattle.lane_memory.specs.Room.{var, room-to, Width}
+use Rattle.lane_memory.specs.Room.{var, sharedIn, room-to, Width}
 use Rattle.simd.specs.Pass.{scan-to}
 use Rattle.simd_layered.specs.Checked.{runColumn, told-is, two-parts}
 use Rattle.simd_layered.proofs.two_chunks.Statement.{statement}
@@ -22,7 +22,7 @@ sixteen : Width 16
 sixteen = record { some = omega arith; few = omega arith; one-of = λ no eight four. absurd (no refl) }
 
 scan-two-requires : tie.Need-scan-two-requires
-scan-two-requires c κs = let s = c .before .before .before .before in (s .pre .0, s .pre .1 .0)
+scan-two-requires c κs = let s = c .before .before .before .before in (s .pre .0 .0, s .pre .1 .0)
 
 finish-requires : tie.Need-finish-requires
 finish-requires c κs =
@@ -40,7 +40,7 @@ finish-requires-2 c κs =
     let s = c .before .before .before .before .before .before .before .before .before .before .before .before .before .before .before in
     let k = c .before .before .before .before .before .before .before .before .before .before .scan-two in
     let f = c .before .before .before .finish in (
-      room-to (f .kept .1 .1 .1 .0) (s .pre .0),
+      (room-to (f .kept .1 .1 .1 .0) (s .pre .0 .0), s .pre .0 .1),
       (
         (omega (arith, s .pre .1 .0 .0), (sixteen, omega (arith, k .kept, s .pre .1 .0 .1 .1))),
         (s .pre .1 .1, scan-to _ (λ j q. sym (f .ensures .outside (s .args .at + 16 + j) (omega (arith, s .pre .1 .0 .0, q)) (λ l h e. omega (arith, h, e)))) (k .ensures .1)),
@@ -59,7 +59,7 @@ same-length-3 c = search needs
 returns : tie.Need-returns
 returns c =
     let s = c .before .before .before .before .before .before .before .before .before .before .before .before .before .before .before .before .before in
-    offset-to (λ v. false) (var (s .args .rows .now)) (s .args .s) (s .args .d) (s .args .n) (length (s .args .rows .now)) (s .args .place) (plain (s .args .offset) (s .fits .offset)) (two-parts (s .pre .1 .0 .0) (c .before .before .before .before .before .finish .ensures) (c .before .finish2 .ensures))
+    offset-to (sharedIn (s .args .flags .now)) (var (s .args .rows .now)) (s .args .s) (s .args .d) (s .args .n) (length (s .args .rows .now)) (s .args .place) (plain (s .args .offset) (s .fits .offset)) (two-parts (s .pre .1 .0 .0) (c .before .before .before .before .before .finish .ensures) (c .before .finish2 .ensures))
 
 pub two-chunks-spec : {M : Type 1} → statement M
 two-chunks-spec =
