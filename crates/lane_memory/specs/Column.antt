@@ -34,6 +34,9 @@ pub record Part (F : (ℕ → ℤ) → ℕ → ℤ) (w lanes at : ℕ) (old new 
   pub inside : (k : ℕ) → k < w → column lanes new (at + k) ≡ F (column lanes old (at + k))
   pub outside : (i : ℕ) → i < lanes → Off at w i → column lanes new i ≡ column lanes old i
 
+pub part-offset : (F : ℤ → (ℕ → ℤ) → ℕ → ℤ) {o o′ : ℤ} {w lanes at : ℕ} {a a′ : List ℤ} → o ≡ o′ → Part (F o) w lanes at a a′ → Part (F o′) w lanes at a a′
+part-offset F {o} {o′} {w} {lanes} {at} {a} {a′} e c = subst (λ (y : ℤ). Part (F y) w lanes at a a′) e c
+
 -- the columns of the lanes below at are mapped by F, and the others are as they were
 pub record Upto (F : (ℕ → ℤ) → ℕ → ℤ) (lanes at : ℕ) (old new : List ℤ) : Type 0 where
   pub done : (i : ℕ) → i < at → i < lanes → column lanes new i ≡ F (column lanes old i)

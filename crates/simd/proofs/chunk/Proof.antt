@@ -6,14 +6,11 @@ use Prim.Native.Nat.{ℕ, _-_, _≤_, _<_}
 use lib.IntN.{ℤ}
 use Rattle.laws.specs.Signed.{plain}
 use Rattle.lane16.specs.Lanes.{readied-to, reduced-none-negative}
-use Rattle.lane_memory.specs.Column.{Part}
+use Rattle.lane_memory.specs.Column.{part-offset}
 use Rattle.lane_memory.specs.Room.{var}
 use Rattle.simd.specs.Pass.{checkColumn, chunk-is}
 use Rattle.simd.proofs.chunk.Statement.{statement}
 use Rattle.simd.proofs.chunk.Tie as tie
-
-offset-to : (v : ℕ → ℕ) (s d base : ℕ) {o o′ : ℤ} {w lanes at : ℕ} {a a′ : List ℤ} → o ≡ o′ → Part (checkColumn o v s d base) w lanes at a a′ → Part (checkColumn o′ v s d base) w lanes at a a′
-offset-to v s d base {o} {o′} {w} {lanes} {at} {a} {a′} e p = subst (λ (x : ℤ). Part (checkColumn x v s d base) w lanes at a a′) e p
 
 sub-if1 : tie.Need-sub-if1
 sub-if1 c = search needs
@@ -35,7 +32,7 @@ same-length-3 c = search needs
 returns : tie.Need-returns
 returns c =
     let s = c .before .before .before .before .before .before .before .before .before in
-    ((omega arith, omega (arith, s .pre .1 .0, c .before .before .before .before .before .before .before .if1 .taken)), offset-to (var (s .args .rows .now)) (s .args .s) (s .args .d) (s .args .n) (plain (s .args .offset) (s .fits .offset)) (c .before .before .before .two-chunks .ensures))
+    ((omega arith, omega (arith, s .pre .1 .0, c .before .before .before .before .before .before .before .if1 .taken)), part-offset (λ o. checkColumn o (var (s .args .rows .now)) (s .args .s) (s .args .d) (s .args .n)) (plain (s .args .offset) (s .fits .offset)) (c .before .before .before .two-chunks .ensures))
 
 sub-width : tie.Need-sub-width
 sub-width c = search needs

@@ -8,15 +8,12 @@ use lib.ListN.{length}
 use lib.IntN.{ℤ}
 use Rattle.laws.specs.Signed.{plain}
 use Rattle.lane16.specs.Lanes.{readied-to, reduced-none-negative}
-use Rattle.lane_memory.specs.Column.{Part}
+use Rattle.lane_memory.specs.Column.{part-offset}
 use Rattle.lane_memory.specs.Room.{var, sharedIn, room-to, Width}
 use Rattle.simd.specs.Pass.{scan-to}
 use Rattle.simd_layered.specs.Checked.{runColumn, told-is, two-parts}
 use Rattle.simd_layered.proofs.two_chunks.Statement.{statement}
 use Rattle.simd_layered.proofs.two_chunks.Tie as tie
-
-offset-to : (sh : ℕ → Bool) (v : ℕ → ℕ) (s d base E p : ℕ) {o o′ : ℤ} {w lanes at : ℕ} {a a′ : List ℤ} → o ≡ o′ → Part (runColumn sh o v s d base E p) w lanes at a a′ → Part (runColumn sh o′ v s d base E p) w lanes at a a′
-offset-to sh v s d base E p {o} {o′} {w} {lanes} {at} {a} {a′} e x = subst (λ (y : ℤ). Part (runColumn sh y v s d base E p) w lanes at a a′) e x
 
 sixteen : Width 16
 sixteen = record { some = omega arith; few = omega arith; one-of = λ no eight four. absurd (no refl) }
@@ -59,7 +56,7 @@ same-length-3 c = search needs
 returns : tie.Need-returns
 returns c =
     let s = c .before .before .before .before .before .before .before .before .before .before .before .before .before .before .before .before .before in
-    offset-to (sharedIn (s .args .flags .now)) (var (s .args .rows .now)) (s .args .s) (s .args .d) (s .args .n) (length (s .args .rows .now)) (s .args .place) (plain (s .args .offset) (s .fits .offset)) (two-parts (s .pre .1 .0 .0) (c .before .before .before .before .before .finish .ensures) (c .before .finish2 .ensures))
+    part-offset (λ o. runColumn (sharedIn (s .args .flags .now)) o (var (s .args .rows .now)) (s .args .s) (s .args .d) (s .args .n) (length (s .args .rows .now)) (s .args .place)) (plain (s .args .offset) (s .fits .offset)) (two-parts (s .pre .1 .0 .0) (c .before .before .before .before .before .finish .ensures) (c .before .finish2 .ensures))
 
 pub two-chunks-spec : {M : Type 1} → statement M
 two-chunks-spec =
