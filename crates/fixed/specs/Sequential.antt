@@ -1,12 +1,12 @@
 -- THE COLUMN LAW of checks in turn, stated once for any lane count: of all checks it is the sequential iteration.
-use mathlib.Core.Path.{_≡_, refl, sym, ap, _∙_, subst}
+use mathlib.Core.Path.{_≡_, refl, sym, _∙_, subst}
 use mathlib.Core.List.{List}
 use Prim.Native.Nat.{ℕ, _+_, _*_, _≤_, _<_}
 use native.Mathlib.Omega.{arith}
 use native.Mathlib.Numerals.{add-one}
 use lib.ListN.{getD}
 use lib.IntN.{ℤ}
-use Rattle.lane_math.specs.Check.{Word, check}
+use Rattle.lane_math.specs.Check.{check}
 use Rattle.lane_math.specs.Iteration.{degree, inTurn, sequential}
 use Rattle.lane_memory.specs.Column.{column}
 use Rattle.lane_memory.specs.Room.{var}

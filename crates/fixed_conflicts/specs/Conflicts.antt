@@ -1,6 +1,6 @@
 -- What is worked out of an accepted code's addresses, and what it says of the code's lists.
-use mathlib.Core.Path.{_≡_, refl, sym, ap, ap₂, _∙_, subst}
-use mathlib.Core.Bool.{Bool, true, false, cond}
+use mathlib.Core.Path.{_≡_, refl, sym, ap, _∙_, subst}
+use mathlib.Core.Bool.{Bool, true, false}
 use mathlib.Core.List.{List, [], _∷_, _++_, append-nil}
 use Prim.Native.Nat.{ℕ, zero, suc, _+_, _*_, _-_, _/_, _%_, _≤_, _<_}
 use native.Mathlib.Omega.{arith}
@@ -8,22 +8,21 @@ use native.Mathlib.Nat.{mod-eq-of-lt, mul-le-mul-right, add-mul-mod-self-right}
 use native.Mathlib.Numerals.{add-one}
 use native.Mathlib.Decide.{ℕ-discrete, decLt}
 use borrow.Author.Tests.{ltb-false, eq-eqb, eqb-true}
-use lib.Dec.{eqb, ltb}
 use lib.ListN.{length, take, drop, getD, length-append, List·getD-append}
 use lib.Seq.{getD-take, getD-drop, getD-append-add}
 use Rattle.laws.specs.Lists.{true-false}
-use Rattle.lane_math.specs.Iteration.{Code, degree}
+use Rattle.lane_math.specs.Iteration.{degree}
 use Rattle.lane_memory.specs.Room.{sharedIn}
-use Rattle.ldpc_shape.specs.Shape.{kOf, pOf, qOf, eOf, rowsOf, total, countMod}
-use Rattle.ldpc_shape.specs.Accepted.{Accepted, p-is, p-pos, q-pos, p-le, q-le, n-is}
+use Rattle.ldpc_shape.specs.Shape.{kOf, pOf, qOf, rowsOf, total, countMod}
+use Rattle.ldpc_shape.specs.Accepted.{Accepted, p-is, p-pos, q-pos, n-is}
 use Rattle.ldpc_edges.specs.Code.{only, meets, ofRows, stairs, check, edgeLists}
 use Rattle.ldpc_edges.specs.Degree.{met-by}
 use Rattle.ldpc_edges.specs.Layout.{Laid, laid}
-use Rattle.fixed_code.specs.Lists.{Lists, rowsIn, edgesIn, codeIn, start-in, degree-in}
+use Rattle.fixed_code.specs.Lists.{Lists, edgesIn, codeIn, start-in, degree-in}
 use Rattle.fixed_code.specs.Code.{lists-in}
 use Rattle.fixed_conflicts.specs.Table.{Once, Split, Shares, Flagged, spanAt}
 use Rattle.fixed_conflicts.specs.Edges.{rowOf, parity-without, parity-once, stairs-below, stairs-from, check-length}
-use Rattle.fixed_conflicts.specs.Count.{occurs, occurs-one, occurs-two, sumUp, sum-one, sum-two, inLayer, layer-occurs, rows-own}
+use Rattle.fixed_conflicts.specs.Count.{occurs, occurs-one, occurs-two, sumUp, sum-one, sum-two, layer-occurs, rows-own}
 use Rattle.fixed_conflicts.specs.Spans.{spanOf, span-next, span-within, span-all, groups-below, groups-from}
 
 -- where each row's edges begin in the checks of each layer; behind the last row the parity bits, two or one

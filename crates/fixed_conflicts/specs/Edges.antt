@@ -1,16 +1,15 @@
 -- A check's list and its parity bits: each is in two checks, once.
-use mathlib.Core.Path.{_≡_, refl, sym, ap, ap₂, _∙_, subst}
+use mathlib.Core.Path.{_≡_, refl, sym, ap, _∙_}
 use mathlib.Core.Bool.{Bool, true, false, cond}
 use mathlib.Core.List.{List, [], _∷_, _++_}
-use Prim.Native.Nat.{ℕ, zero, suc, _+_, _*_, _-_, _/_, _%_, _≤_, _<_}
+use Prim.Native.Nat.{ℕ, zero, suc, _+_, _-_, _≤_, _<_}
 use native.Mathlib.Omega.{arith}
-use native.Mathlib.Numerals.{add-one}
-use native.Mathlib.Decide.{ℕ-discrete, decLt}
-use borrow.Author.Tests.{eqb-true, eqb-false, eq-eqb, ne-eqb}
+use native.Mathlib.Decide.{decLt}
+use borrow.Author.Tests.{eqb-true}
 use lib.Dec.{eqb}
 use lib.ListN.{length, take, drop, getD, length-append, List·getD-append}
 use lib.Seq.{getD-append-add, drop-drop}
-use Rattle.ldpc_shape.specs.Shape.{kOf, pOf, qOf, rowsOf, total}
+use Rattle.ldpc_shape.specs.Shape.{kOf, pOf, total}
 use Rattle.ldpc_edges.specs.Code.{Edge, edge, meets, only, stairs, check}
 use Rattle.ldpc_edges.specs.Inside.{Inside, meets-inside}
 
@@ -31,10 +30,6 @@ without-append u xs ys h g k q e = go (decLt k (length xs))
 abbrev pub Free : ℕ → ℕ → List Edge → Type 0
 Free c u [] = Unit {0}
 Free c u (edge p m ∷ es) = (p ≡ c → m ≡ u → ⊥) × Free c u es
-
-free-append : (c u : ℕ) (xs ys : List Edge) → Free c u xs → Free c u ys → Free c u (xs ++ ys)
-free-append c u [] ys h g = g
-free-append c u (edge p m ∷ xs) ys h g = (h .0, free-append c u xs ys (h .1) g)
 
 only-without : (c u : ℕ) (es : List Edge) → Free c u es → Without u (only c es)
 unfolding only

@@ -1,7 +1,7 @@
 -- A row's edges stand together in a check's list, at the same place in every check of a layer: as many as the row has addresses equal to l modulo q.
 use mathlib.Core.Path.{_≡_, refl, sym, ap, _∙_, subst}
 use mathlib.Core.Bool.{Bool, true, false, cond}
-use mathlib.Core.List.{List, [], _∷_, _++_, append-nil}
+use mathlib.Core.List.{List, [], _∷_, _++_}
 use Prim.Native.Nat.{ℕ, zero, suc, _+_, _*_, _-_, _%_, _≤_, _<_}
 use native.Mathlib.Omega.{arith}
 use native.Mathlib.Decide.{decLt}
@@ -11,7 +11,7 @@ use lib.Seq.{getD-append-add}
 use Rattle.ldpc_shape.specs.Shape.{rowsOf, total, countMod}
 use Rattle.ldpc_edges.specs.Code.{Edge, edge, ofBits, ofRows, only}
 use Rattle.ldpc_edges.specs.Inside.{Inside, bits-inside, only-append}
-use Rattle.ldpc_edges.specs.Insert.{Rising, rising-from}
+use Rattle.ldpc_edges.specs.Insert.{Rising}
 use Rattle.ldpc_edges.specs.Degree.{bits-count, count-split, rows-rising}
 use Rattle.fixed_conflicts.specs.Edges.{rowOf, row-next}
 
@@ -68,10 +68,6 @@ module _ (q c : ℕ) (pos : 0 < q) (h : c < 374 * q) where
   parts : (m n : ℕ) (lens addrs : List ℕ) → list m (n ∷ lens) addrs ≡ first m (take n addrs) ++ list (m + 374) lens (drop n addrs)
   unfolding ofRows rowsOf
   parts m n lens addrs = only-append c (ofBits (374 * q) q 374 m 0 (take n addrs)) (ofRows (374 * q) q (m + 374) (rowsOf lens (drop n addrs)))
-
-  none-in : (m : ℕ) (addrs : List ℕ) → length (list m [] addrs) ≡ 0
-  unfolding ofRows rowsOf only
-  none-in m addrs = refl
 
   first-below : (m : ℕ) (row : List ℕ) (k : ℕ) → k < length (first m row) → getD (first m row) k 0 < m + 374
   first-below m row k r = only-below (374 * q) (m + 374) c (ofBits (374 * q) q 374 m 0 row) (bits-inside (374 * q) q (m + 374) 374 m 0 row (omega arith) (omega arith)) k r

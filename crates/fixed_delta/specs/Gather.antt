@@ -2,11 +2,11 @@
 use mathlib.Core.Path.{_≡_, refl, sym, ap, _∙_, subst}
 use mathlib.Core.Bool.{Bool, true, false, cond}
 use mathlib.Core.List.{List}
-use Prim.Native.Nat.{ℕ, zero, suc, _+_, _-_, _*_, _≤_, _<_}
+use Prim.Native.Nat.{ℕ, _+_, _*_, _≤_, _<_}
 use native.Mathlib.Omega.{arith}
 use native.Mathlib.Decide.{ℕ-discrete}
 use borrow.Author.Count.{below-more}
-use lib.ListN.{getD, set, length, length-set}
+use lib.ListN.{set, length, length-set}
 use lib.Seq.{getD-set-same, getD-set-other}
 use lib.IntN.{ℤ, pos, natAbs, _+ℤ_, _-ℤ_}
 use Rattle.lane_math.specs.Value.{satZ}

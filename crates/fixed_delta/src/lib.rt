@@ -1,7 +1,7 @@
 // The values at the end of a run of the layered schedule, of variables with several edges in it. A variable's sums, one of each lane, stand from `at` on.
 ghost use mathlib.Core.Path.{_≡_};
 ghost use mathlib.Core.Bool.{cond, true};
-ghost use Prim.Native.Nat.{ℕ, _<_, _≤_, _+_, _*_};
+ghost use Prim.Native.Nat.{_≤_, _+_, _*_};
 ghost use lib.ListN.{length};
 ghost use lib.IntN.{natAbs, _+ℤ_, _-ℤ_};
 ghost use Rattle.laws.specs.Signed.{minZ, maxZ};

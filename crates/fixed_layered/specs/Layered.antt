@@ -1,20 +1,20 @@
 -- The layered iteration of an accepted code.
-use mathlib.Core.Path.{_≡_, refl, sym, ap, _∙_, subst}
+use mathlib.Core.Path.{_≡_, sym, subst}
 use mathlib.Core.List.{List}
-use Prim.Native.Nat.{ℕ, zero, suc, _+_, _*_, _-_, _/_, _≤_, _<_}
+use Prim.Native.Nat.{ℕ, _+_, _*_, _≤_, _<_}
 use native.Mathlib.Omega.{arith}
-use lib.ListN.{getD, length}
+use lib.ListN.{length}
 use lib.IntN.{ℤ}
 use Rattle.lane_math.specs.Iteration.{Code, layered}
 use Rattle.lane_memory.specs.Column.{column}
 use Rattle.simd.specs.Words.{word}
-use Rattle.ldpc_shape.specs.Shape.{pOf, qOf, eOf, refusalOf}
-use Rattle.ldpc_shape.specs.Accepted.{Accepted, accepted, p-is, p-le, q-le, rows-le, addrs-le}
+use Rattle.ldpc_shape.specs.Shape.{pOf, qOf, eOf}
+use Rattle.ldpc_shape.specs.Accepted.{Accepted, p-is, p-le, q-le, rows-le, addrs-le}
 use Rattle.ldpc_edges.specs.Code.{edgeLists}
-use Rattle.fixed_code.specs.Lists.{edgesIn, codeIn, Memory}
+use Rattle.fixed_code.specs.Lists.{codeIn}
 use Rattle.fixed_code.specs.Code.{codeOf, code-in, edges-are, lists-in}
 use Rattle.fixed_conflicts.specs.Conflicts.{Spanned, shares}
-use Rattle.fixed_layered.specs.Runs.{LayersMade, InLayer, AllLayers}
+use Rattle.fixed_layered.specs.Runs.{LayersMade, AllLayers}
 
 -- THE COLUMN LAW: every lane's word is iterated as that word alone. What the rows of t and of old messages hold is left to the program; all behind
 -- the n + 3E rows is as it was.

@@ -1,15 +1,13 @@
 -- The checks of a run in ascending order: their edges do not overlap, and all lie among the code's E.
 use mathlib.Core.Path.{_≡_, refl, sym, ap, _∙_, subst}
-use mathlib.Core.Bool.{Bool, true, false}
 use mathlib.Core.List.{List}
 use Prim.Native.Nat.{ℕ, zero, suc, _+_, _*_, _-_, _≤_, _<_}
 use native.Mathlib.Omega.{arith}
 use native.Mathlib.Nat.{mul-le-mul-right}
-use native.Mathlib.Numerals.{add-one}
-use native.Mathlib.Decide.{ℕ-discrete, decLt}
+use native.Mathlib.Decide.{ℕ-discrete}
 use lib.ListN.{getD}
 use lib.IntN.{ℤ}
-use Rattle.lane_math.specs.Check.{put, wrote, message, tOf, newR}
+use Rattle.lane_math.specs.Check.{put, wrote, newR}
 use Rattle.lane_math.specs.Iteration.{Code, degree, runR}
 use Rattle.lane_math.specs.Laws.{wrote-other, put-same, put-other}
 use Rattle.fixed_code.specs.Lists.{Lists, edgesIn, codeIn, start-in, degree-in}

@@ -1,14 +1,13 @@
 -- What a column holds of each of the run's edges once their messages are sent.
-use mathlib.Core.Path.{_≡_, refl, sym, ap, _∙_, subst}
+use mathlib.Core.Path.{_≡_, refl, sym, ap, _∙_}
 use mathlib.Core.Bool.{Bool, true, false, cond}
-use mathlib.Core.List.{List}
-use Prim.Native.Nat.{ℕ, zero, suc, _+_, _*_, _-_, _≤_, _<_}
+use Prim.Native.Nat.{ℕ, zero, suc, _+_, _*_, _≤_, _<_}
 use native.Mathlib.Omega.{arith}
 use borrow.Author.Tests.{ltb-true, ltb-false}
 use lib.Dec.{eqb, ltb}
 use lib.IntN.{ℤ, pos, _-ℤ_}
 use Rattle.lane_math.specs.Value.{satZ}
-use Rattle.lane_math.specs.Check.{Word, put, wrote, tOf}
+use Rattle.lane_math.specs.Check.{put, wrote, tOf}
 use Rattle.lane_math.specs.Iteration.{Code, degree, Run, runOf}
 use Rattle.lane_math.specs.Laws.{wrote-other}
 use Rattle.simd.specs.Words.{within, wordOf, within-at}

@@ -7,25 +7,22 @@ use native.Mathlib.Omega.{arith}
 use native.Mathlib.Nat.{mul-le-mul-right}
 use native.Mathlib.Numerals.{add-one}
 use native.Mathlib.Decide.{ℕ-discrete, decLt}
-use borrow.Author.Tests.{eqb-true, eqb-false, eq-eqb, ne-eqb}
+use borrow.Author.Tests.{eqb-true, eq-eqb, ne-eqb}
 use lib.Dec.{eqb}
-use lib.ListN.{getD, set, length, length-set}
+use lib.ListN.{getD, set, length}
 use lib.Seq.{getD-set-same, getD-set-other}
-use lib.IntN.{ℤ, pos, natAbs, _+ℤ_, _-ℤ_}
+use lib.IntN.{ℤ, natAbs}
 use Rattle.laws.specs.Lists.{true-false}
 use Rattle.laws.specs.Choice.{eqb-sym}
 use Rattle.lane_math.specs.Value.{satZ}
 use Rattle.lane_math.specs.Check.{put, wrote}
-use Rattle.lane_math.specs.Iteration.{Code, degree, Sum, nothing, gather}
+use Rattle.lane_math.specs.Iteration.{Code, degree, Sum, gather}
 use Rattle.lane_math.specs.Laws.{wrote-other}
 use Rattle.lane16.specs.Lanes.{z}
 use Rattle.lane_memory.specs.Column.{column}
-use Rattle.lane_memory.specs.Room.{var}
-use Rattle.fixed_code.specs.Lists.{rowsIn, edgesIn, codeIn}
 use Rattle.fixed_delta.specs.Gather.{Small, EdgeGathered, Settled, plus}
 use Rattle.fixed_conflicts.specs.Table.{Split}
 use Rattle.fixed_layered.specs.Full.{placeOf}
-use Rattle.fixed.specs.Sequential.{stepped}
 use Rattle.fixed_layered.specs.Gather.{gatherAt, gatherRunAt, run-same, at-part, Alike, alike-same, alike-more, alike-gather, alike-at}
 
 -- the d edges from s are of the row of 374 variables from base on

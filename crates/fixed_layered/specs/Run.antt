@@ -1,18 +1,17 @@
 -- A run on the memory: what its calls may count on.
-use mathlib.Core.Path.{_≡_, refl, sym, ap, _∙_, subst}
+use mathlib.Core.Path.{_≡_, refl, ap}
 use mathlib.Core.List.{List}
-use Prim.Native.Nat.{ℕ, zero, suc, _+_, _*_, _-_, _≤_, _<_}
+use Prim.Native.Nat.{ℕ, _+_, _≤_, _<_}
 use native.Mathlib.Omega.{arith}
 use native.Mathlib.Numerals.{add-one}
 use lib.ListN.{getD, length}
 use lib.IntN.{ℤ}
-use Rattle.lane_math.specs.Iteration.{Code, degree}
-use Rattle.lane_memory.specs.Column.{column, row-ends}
-use Rattle.lane_memory.specs.Room.{var, Room}
-use Rattle.fixed_code.specs.Lists.{rowsIn, edgesIn, codeIn, Memory, memory-to, start-in, degree-in}
+use Rattle.lane_math.specs.Iteration.{degree}
+use Rattle.lane_memory.specs.Room.{Room}
+use Rattle.fixed_code.specs.Lists.{edgesIn, codeIn, Memory, memory-to, degree-in}
 use Rattle.fixed_layered.specs.Full.{placeOf}
 use Rattle.fixed.specs.Sequential.{stepped}
-use Rattle.fixed_layered.specs.Order.{Order, order, place-ends}
+use Rattle.fixed_layered.specs.Order.{order, place-ends}
 
 -- the run's checks are checks; E is small enough for sums of 32 bits
 pub record InRun (n p lanes first q m : ℕ) (index : List ℕ) (a : List ℤ) : Type 0 where

@@ -4,7 +4,7 @@
 // In a layer in which variables can have several edges (fixed_conflicts), a run first leaves their values. Then row after row of 374 variables
 // is gathered into `sums`, 374 times `lanes` of them, and settled.
 ghost use mathlib.Core.Path.{_≡_};
-ghost use mathlib.Core.Bool.{Bool, true, false};
+ghost use mathlib.Core.Bool.{false};
 ghost use Prim.Native.Nat.{ℕ, _<_, _≤_, _+_, _*_, _-_, min};
 ghost use lib.ListN.{getD, length};
 ghost use Rattle.lane_math.specs.Iteration.{runCount};

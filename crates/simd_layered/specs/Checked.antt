@@ -2,19 +2,19 @@
 use mathlib.Core.Path.{_≡_, refl, sym, ap, subst, _∙_}
 use mathlib.Core.Bool.{Bool, true, false, cond}
 use mathlib.Core.List.{List}
-use Prim.Native.Nat.{ℕ, zero, suc, _+_, _*_, _/_, _≤_, _<_}
+use Prim.Native.Nat.{ℕ, zero, suc, _+_, _*_, _≤_, _<_}
 use native.Mathlib.Omega.{arith}
 use native.Mathlib.Numerals.{add-one}
 use lib.Dec.{eqb}
-use lib.ListN.{getD, length}
+use lib.ListN.{length}
 use lib.IntN.{ℤ, _+ℤ_}
 use Rattle.lane_math.specs.Value.{satZ, replied}
-use Rattle.lane_math.specs.Check.{Word, check, message, put, wrote, tOf, newL, newR}
+use Rattle.lane_math.specs.Check.{Word, message, put, wrote, tOf, newL, newR}
 use Rattle.lane_math.specs.Laws.{wrote-same, put-other}
 use Rattle.lane16.specs.Lanes.{z, n, Readied, Answered}
 use Rattle.lane_memory.specs.Column.{column, Off, Stored, Part, Mapped}
 use Rattle.lane_memory.specs.Room.{var, Room}
-use Rattle.simd.specs.Pass.{tAt, Scan, answer, answer-is, prepared, least-reduced, halves, scan-to}
+use Rattle.simd.specs.Pass.{tAt, Scan, answer, answer-is, prepared, least-reduced, halves}
 use Rattle.simd.specs.Words.{wordOf, word, within-at, shifted-put, value-put, message-put, behind-put, t-same, message-is, inside}
 
 -- f with x at u, unless b

@@ -1,6 +1,5 @@
 use native.Mathlib.Omega.{arith}
 use borrow.Author.Needs.{needs}
-use mathlib.Core.Path.{refl}
 use Rattle.laws.specs.Signed.{plain}
 use Rattle.fixed_code.specs.Lists.{rows-part}
 use Rattle.fixed.specs.Sequential.{iterated}

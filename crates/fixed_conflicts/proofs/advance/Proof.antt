@@ -1,8 +1,8 @@
 use borrow.Author.Needs.{needs}
 use native.Mathlib.Omega.{arith}
-use mathlib.Core.Path.{_≡_, refl, sym, ap, _∙_}
-use Prim.Native.Nat.{ℕ, _+_, _*_, _-_, _≤_, _<_}
-use lib.ListN.{length, length-set, getD}
+use mathlib.Core.Path.{ap}
+use Prim.Native.Nat.{ℕ, _+_, _*_, _-_, _≤_}
+use lib.ListN.{getD}
 use Rattle.fixed_conflicts.specs.Marks.{Advanced, advanced-start, advanced-again, advanced-end}
 use Rattle.fixed_conflicts.proofs.advance.Statement.{statement}
 use Rattle.fixed_conflicts.proofs.advance.Tie as tie

@@ -1,10 +1,10 @@
 use borrow.Author.Needs.{needs}
 use native.Mathlib.Omega.{arith}
-use mathlib.Core.Path.{_≡_, refl, sym, ap, _∙_}
-use mathlib.Core.Bool.{Bool, false}
-use Prim.Native.Nat.{ℕ, zero, suc, _+_, _*_, _-_, _≤_, _<_}
+use mathlib.Core.Path.{refl}
+use mathlib.Core.Bool.{false}
+use Prim.Native.Nat.{_+_, _-_, _≤_}
 use lib.Dec.{ltb}
-use lib.ListN.{length, length-set, getD, replicate, length-replicate}
+use lib.ListN.{replicate, length-replicate}
 use Rattle.fixed_conflicts.specs.Table.{Flagged, flagged-start, flagged-again, flagged-end, zeros}
 use Rattle.fixed_conflicts.proofs.shared.Statement.{statement}
 use Rattle.fixed_conflicts.proofs.shared.Tie as tie

@@ -1,10 +1,10 @@
 use borrow.Author.Needs.{needs}
 use native.Mathlib.Omega.{arith}
-use mathlib.Core.Path.{_≡_, refl, sym, ap, subst, _∙_}
-use Prim.Native.Nat.{ℕ, suc, _+_, _*_, _-_, _/_, _≤_, _<_}
-use lib.ListN.{length, take, drop, length-set}
-use Rattle.ldpc_shape.specs.Shape.{kOf, pOf, qOf, total}
-use Rattle.ldpc_shape.specs.Accepted.{Accepted, accepted, rows-le, addrs-le, q-pos, q-le}
+use mathlib.Core.Path.{ap, subst}
+use Prim.Native.Nat.{ℕ, suc, _+_, _-_, _≤_, _<_}
+use lib.ListN.{length, drop}
+use Rattle.ldpc_shape.specs.Shape.{kOf, pOf, qOf}
+use Rattle.ldpc_shape.specs.Accepted.{accepted, rows-le, addrs-le, q-pos, q-le}
 use Rattle.fixed_conflicts.specs.Conflicts.{total-within, total-next}
 use Rattle.fixed_conflicts.specs.Marks.{Advanced, Working, working-start, working-again, working-few, working-small, working-end}
 use lib.ListN.{length-take, length-drop, getD-replicate, replicate}

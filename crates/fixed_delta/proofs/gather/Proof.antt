@@ -1,13 +1,13 @@
 use borrow.Author.Needs.{needs}
 use native.Mathlib.Omega.{arith}
-use mathlib.Core.Path.{_≡_, refl, ap, _∙_, subst}
-use mathlib.Core.Bool.{Bool, cond}
-use Prim.Native.Nat.{ℕ, _+_, _*_, _-_, _≤_, _<_}
-use lib.ListN.{length, getD, length-set}
-use lib.IntN.{ℤ, pos, natAbs, _+ℤ_, _-ℤ_}
+use mathlib.Core.Path.{_≡_, _∙_, subst}
+use mathlib.Core.Bool.{cond}
+use Prim.Native.Nat.{_+_, _-_, _≤_, _<_}
+use lib.ListN.{length}
+use lib.IntN.{ℤ, natAbs, _+ℤ_, _-ℤ_}
 use borrow.Author.Needs.{sfits-of}
 use lib.Signed.{mag}
-use mir.Syntax.{w8, w32}
+use mir.Syntax.{w32}
 use mir.Val.{toZ, ofZ}
 use mir.ValLaws.{toZ-ofZ}
 use Rattle.laws.specs.Signed.{plain}

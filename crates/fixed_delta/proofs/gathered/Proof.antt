@@ -1,10 +1,7 @@
-use borrow.Author.Needs.{needs}
-use native.Mathlib.Omega.{arith}
-use mathlib.Core.Path.{_≡_, refl, sym, ap, _∙_}
+use mathlib.Core.Path.{sym, ap, _∙_}
 use mathlib.Core.Bool.{Bool, cond}
-use lib.IntN.{ℤ, _+ℤ_, _-ℤ_}
-use mir.Syntax.{w8, w32}
-use mir.Val.{toZ, ofZ}
+use lib.IntN.{_+ℤ_, _-ℤ_}
+use mir.Syntax.{w32}
 use mir.ValLaws.{toZ-ofZ}
 use Rattle.laws.specs.Signed.{plain}
 use Rattle.fixed_delta.specs.Bounds.{widen32, wide32, diff-fits32, sum-fits32, more-fits32}

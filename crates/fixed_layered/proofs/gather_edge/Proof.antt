@@ -1,11 +1,11 @@
 use native.Mathlib.Omega.{arith}
 use borrow.Author.Needs.{needs}
-use mathlib.Core.Path.{_≡_, refl, sym, ap, subst, _∙_}
+use mathlib.Core.Path.{refl, subst}
 use Prim.Native.Nat.{ℕ, _+_, _*_, _-_, _≤_, _<_}
 use native.Mathlib.Nat.{mul-le-mul-right}
 use mathlib.Core.Bool.{true}
-use lib.ListN.{length, length-set, getD, set}
-use Rattle.lane_memory.specs.Room.{var, row-room, row-fits}
+use lib.ListN.{length, set}
+use Rattle.lane_memory.specs.Room.{row-room, row-fits}
 use Rattle.fixed_layered.specs.Rows.{EdgeDone}
 use Rattle.fixed_layered.proofs.gather_edge.Statement.{statement}
 use Rattle.fixed_layered.proofs.gather_edge.Tie as tie

@@ -1,12 +1,12 @@
 use native.Mathlib.Omega.{arith}
 use borrow.Author.Needs.{needs}
-use mathlib.Core.Path.{_≡_, refl, sym, ap, subst, _∙_}
-use Prim.Native.Nat.{ℕ, _+_, _*_, _-_, _/_, _≤_, _<_}
+use mathlib.Core.Path.{ap, subst}
+use Prim.Native.Nat.{ℕ}
 use lib.ListN.{length, getD-replicate, length-replicate}
 use lib.IntN.{ℤ}
 use Rattle.laws.specs.Signed.{plain}
 use Rattle.ldpc_shape.specs.Shape.{kOf, pOf, qOf}
-use Rattle.ldpc_shape.specs.Accepted.{Accepted, accepted, rows-le, p-le}
+use Rattle.ldpc_shape.specs.Accepted.{accepted, rows-le}
 use Rattle.ldpc_edges.specs.Layout.{lists-length}
 use Rattle.fixed_code.specs.Lists.{rows-part}
 use Rattle.fixed_layered.specs.Layered.{Layered, all-layers, layered-law}

@@ -1,10 +1,6 @@
-use native.Mathlib.Omega.{arith}
 use borrow.Author.Needs.{needs}
-use mathlib.Core.Path.{_≡_, refl, sym, ap, subst, _∙_}
-use mathlib.Core.Bool.{Bool}
-use Prim.Native.Nat.{ℕ, _+_, _*_, _-_, _/_, _≤_, _<_}
+use Prim.Native.Nat.{_/_}
 use borrow.Author.Tests.{not-true}
-use lib.ListN.{length}
 use Rattle.laws.specs.Signed.{plain}
 use Rattle.fixed_layered.specs.Run.{in-run-to}
 use Rattle.fixed_layered.specs.Runs.{run-offset}

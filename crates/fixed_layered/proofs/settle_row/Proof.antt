@@ -1,18 +1,13 @@
 use native.Mathlib.Omega.{arith}
 use borrow.Author.Needs.{needs}
-use mathlib.Core.Path.{_≡_, refl, sym, ap, subst, _∙_}
+use mathlib.Core.Path.{_≡_, refl, ap, subst}
 use mathlib.Core.List.{List}
-use mathlib.Core.Bool.{Bool}
-use Prim.Native.Nat.{ℕ, _+_, _*_, _-_, _≤_, _<_}
+use Prim.Native.Nat.{ℕ, _+_, _-_, _≤_}
 use lib.ListN.{length, getD}
-use lib.IntN.{ℤ}
-use Rattle.lane_memory.specs.Column.{column}
-use Rattle.lane_memory.specs.Room.{var, Room}
-use Rattle.fixed_code.specs.Lists.{rowsIn, edgesIn, codeIn, memory-to}
-use Rattle.fixed_layered.specs.Full.{placeOf}
+use Rattle.lane_memory.specs.Room.{var}
+use Rattle.fixed_code.specs.Lists.{edgesIn, codeIn}
 use Rattle.fixed.specs.Sequential.{stepped}
-use Rattle.fixed_layered.specs.Gather.{gatherAt}
-use Rattle.fixed_layered.specs.Run.{in-run-to, place-first, place-next, place-room}
+use Rattle.fixed_layered.specs.Run.{in-run-to}
 use Rattle.fixed_layered.specs.Runs.{row-part}
 use Rattle.fixed_layered.specs.Rows.{CheckSettled, RowSettled, settled-row-start, settled-row-again, settled-row-end}
 use Rattle.fixed_layered.proofs.settle_row.Statement.{statement}

@@ -1,16 +1,15 @@
 use borrow.Author.Needs.{needs}
 use native.Mathlib.Omega.{arith}
-use mathlib.Core.Path.{_≡_, refl, sym, ap, subst, _∙_}
-use mathlib.Core.Bool.{false}
+use mathlib.Core.Path.{_≡_, refl, sym, ap, subst}
 use mathlib.Core.List.{List}
-use Prim.Native.Nat.{ℕ, _+_, _*_, _-_, _≤_, _<_}
+use Prim.Native.Nat.{ℕ, _+_, _-_, _≤_}
 use lib.ListN.{length, getD}
 use mir.Syntax.{w8}
 use mir.Val.{toZ, ofZ}
 use Rattle.laws.specs.Signed.{plain}
 use Rattle.lane_memory.specs.Room.{sharedIn, Room}
 use Rattle.simd_layered.specs.Checked.{Checked}
-use Rattle.fixed_code.specs.Lists.{rowsIn, codeIn, room, memory-to}
+use Rattle.fixed_code.specs.Lists.{codeIn, room, memory-to}
 use Rattle.fixed_layered.specs.Full.{placeOf}
 use Rattle.fixed.specs.Sequential.{stepped}
 use Rattle.fixed_layered.specs.Run.{place-first, place-next, place-room}

@@ -1,13 +1,12 @@
 use native.Mathlib.Omega.{arith}
 use borrow.Author.Needs.{needs}
-use mathlib.Core.Path.{_≡_, refl, sym, ap, subst, _∙_}
-use mathlib.Core.Bool.{Bool, true, false}
-use Prim.Native.Nat.{ℕ, _+_, _*_, _-_, _≤_, _<_}
+use mathlib.Core.Path.{_≡_, refl, sym, _∙_}
+use mathlib.Core.Bool.{true, false}
 use borrow.Author.Tests.{not-true, not-false}
-use lib.ListN.{length, getD, length-replicate}
+use lib.ListN.{getD, length-replicate}
 use Rattle.laws.specs.Lists.{true-false}
 use Rattle.fixed_conflicts.specs.Table.{zeros}
-use Rattle.fixed_layered.specs.Rows.{FlagWritten, row-written}
+use Rattle.fixed_layered.specs.Rows.{row-written}
 use Rattle.fixed_layered.specs.Runs.{grouped}
 use Rattle.fixed_layered.proofs.write_row.Statement.{statement}
 use Rattle.fixed_layered.proofs.write_row.Tie as tie

@@ -1,17 +1,7 @@
-use native.Mathlib.Omega.{arith}
 use borrow.Author.Needs.{needs}
-use mathlib.Core.Path.{_≡_, refl, sym, subst}
-use mathlib.Core.Bool.{Bool, false}
-use mathlib.Core.List.{List}
-use Prim.Native.Nat.{ℕ, _+_, _-_, _≤_, _<_}
-use lib.ListN.{length}
-use lib.IntN.{ℤ}
 use Rattle.laws.specs.Signed.{plain}
 use Rattle.lane16.specs.Lanes.{readied-to, reduced-none-negative}
-use Rattle.lane_memory.specs.Column.{Part}
-use Rattle.lane_memory.specs.Room.{var, sharedIn, room-to, Width}
-use Rattle.simd.specs.Pass.{scan-to}
-use Rattle.simd_layered.specs.Checked.{runColumn, told-is, two-parts}
+use Rattle.simd_layered.specs.Checked.{told-is}
 use Rattle.simd_layered.proofs.finish.Statement.{statement}
 use Rattle.simd_layered.proofs.finish.Tie as tie
 

@@ -1,4 +1,3 @@
-use native.Mathlib.Omega.{arith}
 use borrow.Author.Needs.{needs}
 use Rattle.lane_memory.specs.Room.{sharedIn}
 use Rattle.simd_layered.specs.Checked.{stored-none, stored-unless}
