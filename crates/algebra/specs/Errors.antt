@@ -13,7 +13,7 @@ use Rattle.algebra.specs.Massey.{Gen, Shortest, gen-ext}
 use Rattle.algebra.specs.Locator.{syndrome, locator, locator-gen, all-roots, only-roots, length-is}
 
 module _ {F : Type 0} (K : Field F) where
-  open Ring (K .ring) using (𝟘, 𝟙, _⊞_, _⊠_, ⊞-zero, ⊞-self, ⊠-assoc)
+  open Ring (K .ring) using (𝟘, _⊞_, _⊠_, ⊞-zero, ⊠-assoc)
 
   infixl 60 _⊞_
   infixl 70 _⊠_
@@ -81,26 +81,6 @@ module _ {F : Type 0} (K : Field F) where
       pick (no ne) (yes y) (no y′) r = omega (arith, r (omega arith) z nz, weight-same n ε y, weight-more n η y′)
       pick (no ne) (no y) (yes y′) r = absurd (h n (le-refl (suc n)) y y′)
       pick (no ne) (no y) (no y′) r = omega (arith, r (omega arith) z nz, weight-more n ε y, weight-more n η y′)
-
-  pub weight-add : (n : ℕ) (ε η : ℕ → F) → weight n (λ p. ε p ⊞ η p) ≤ weight n ε + weight n η
-  weight-add zero ε η = omega (arith, weight-none (λ p. ε p ⊞ η p))
-  weight-add (suc n) ε η = pick (weight-add n ε η) (K .dec (ε n) 𝟘) (K .dec (η n) 𝟘)
-    where
-      both : ℕ → F
-      both p = ε p ⊞ η p
-
-      at-most : weight (suc n) both ≤ suc (weight n both)
-      at-most = pick (K .dec (both n) 𝟘)
-        where
-          pick : Dec (both n ≡ 𝟘) → weight (suc n) both ≤ suc (weight n both)
-          pick (yes z) = omega (arith, weight-same n both z)
-          pick (no nz) = omega (arith, weight-more n both nz)
-
-      pick : weight n both ≤ weight n ε + weight n η → Dec (ε n ≡ 𝟘) → Dec (η n ≡ 𝟘) → weight (suc n) both ≤ weight (suc n) ε + weight (suc n) η
-      pick r (yes z) (yes z′) = omega (arith, r, weight-same n both (ap₂ _⊞_ z z′ ∙ ⊞-zero 𝟘), weight-same n ε z, weight-same n η z′)
-      pick r (yes z) (no nz) = omega (arith, r, at-most, weight-same n ε z, weight-more n η nz)
-      pick r (no nz) (yes z) = omega (arith, r, at-most, weight-more n ε nz, weight-same n η z)
-      pick r (no nz) (no nz′) = omega (arith, r, at-most, weight-more n ε nz, weight-more n η nz′)
 
   -- ---- the e places below n where ε is not zero, in order: a sum over the n is one over them
   pub record Listing (n : ℕ) (ε : ℕ → F) (e : ℕ) : Type 0 where

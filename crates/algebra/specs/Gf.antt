@@ -25,11 +25,11 @@ module _ (n poly : ℕ) (hp : poly < 2 ^ suc n) where
   private-bit : (d : ℕ) → d < 2 → (p k : ℕ) → p < 2 ^ k → d * p < 2 ^ k
   private-bit d h p k hp = two-cases (λ d. d * p < 2 ^ k) (rw zero-mul (pow-pos k)) (rw one-mul hp) d h
 
-  pub xt-lt : (b : ℕ) → xt n poly b < 2 ^ suc n
+  xt-lt : (b : ℕ) → xt n poly b < 2 ^ suc n
   unfolding xt
   xt-lt b = ⊕-lt (suc n) (mod-lt (b * 2) (pow-pos (suc n))) (private-bit (b / 2 ^ n % 2) (mod-lt (b / 2 ^ n) two-pos) poly (suc n) hp)
 
-  pub xt-add : (a b : ℕ) → xt n poly (a ⊕ b) ≡ xt n poly a ⊕ xt n poly b
+  xt-add : (a b : ℕ) → xt n poly (a ⊕ b) ≡ xt n poly a ⊕ xt n poly b
   unfolding xt
   xt-add a b =
       rw (⊕-double, ⊕-mod, ⊕-div, ⊕-odd (a / 2 ^ n) (b / 2 ^ n), bit-mul (a / 2 ^ n % 2) (b / 2 ^ n % 2) poly (mod-lt (a / 2 ^ n) two-pos) (mod-lt (b / 2 ^ n) two-pos))
@@ -102,7 +102,7 @@ module _ (n poly : ℕ) (hp : poly < 2 ^ suc n) where
   unfolding mul
   mul-lt a b h = mulN-lt (suc n) a b h
 
-  pub mul-add-l : (a b c : ℕ) → mul n poly (a ⊕ b) c ≡ mul n poly a c ⊕ mul n poly b c
+  mul-add-l : (a b c : ℕ) → mul n poly (a ⊕ b) c ≡ mul n poly a c ⊕ mul n poly b c
   unfolding mul
   mul-add-l a b c = mulN-add-l (suc n) a b c
 

@@ -21,13 +21,13 @@ unfoldable pub lin : List ℕ → ℕ → ℕ
 lin [] x = 0
 lin (v ∷ vs) x = (x % 2 * v) ⊕ lin vs (x / 2)
 
-pub lin-add : (vs : List ℕ) (a b : ℕ) → lin vs (a ⊕ b) ≡ lin vs a ⊕ lin vs b
+lin-add : (vs : List ℕ) (a b : ℕ) → lin vs (a ⊕ b) ≡ lin vs a ⊕ lin vs b
 unfolding lin
 lin-add [] a b = sym (⊕-zero 0)
 lin-add (v ∷ vs) a b =
     rw (⊕-odd, ⊕-half, bit-mul (a % 2) (b % 2) v (mod-lt a two-pos) (mod-lt b two-pos), lin-add vs (a / 2) (b / 2)) (⊕-swap _ _ _ _)
 
-pub lin-zero : (vs : List ℕ) → lin vs 0 ≡ 0
+lin-zero : (vs : List ℕ) → lin vs 0 ≡ 0
 lin-zero vs = ap (lin vs) (sym (⊕-zero 0)) ∙ lin-add vs 0 0 ∙ ⊕-self (lin vs 0)
 
 -- the check of idempotents: `vs` undoes x + x², but for the lowest digit
@@ -67,7 +67,7 @@ module _ (n poly : ℕ) (hp : poly < 2 ^ suc n) where
       }
 
   -- induction on elements
-  pub el-span : (P : El n → Type 0) → P (gf-ring .𝟘) → ((a b : El n) → P a → P b → P (gf-ring ._⊞_ a b))
+  el-span : (P : El n → Type 0) → P (gf-ring .𝟘) → ((a b : El n) → P a → P b → P (gf-ring ._⊞_ a b))
       → ((i : ℕ) (h : i < suc n) → P (2 ^ i, pow-lt h)) → (a : El n) → P a
   unfolding gf-ring
   el-span P z add base a =

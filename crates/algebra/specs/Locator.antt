@@ -11,7 +11,7 @@ use Rattle.algebra.specs.Roots.{Distinct, domain, pow-nz, inv-inj, roots
 use Rattle.algebra.specs.Massey.{Gen}
 
 module _ {F : Type 0} (R : Ring F) where
-  open Ring R using (𝟘, 𝟙, _⊞_, _⊠_, ⊞-assoc, ⊞-comm, ⊞-zero, ⊞-self, ⊠-assoc, ⊠-comm, ⊠-one, ⊠-dist)
+  open Ring R using (𝟘, 𝟙, _⊞_, _⊠_, ⊞-zero, ⊞-self, ⊠-assoc, ⊠-one, ⊠-dist)
 
   infixl 60 _⊞_
   infixl 70 _⊠_
@@ -21,20 +21,20 @@ module _ {F : Type 0} (R : Ring F) where
   conv-zero : (n : ℕ) (c : ℕ → F) → conv R c (λ i. 𝟘) n ≡ 𝟘
   conv-zero n c = conv-vanish R n c (λ i. 𝟘) (λ i j e. ⊠-zero R (c i))
 
-  pub conv-syndrome : (e : ℕ) (y x : ℕ → F) (c : ℕ → F) (n : ℕ) → conv R c (syndrome e y x) n ≡ sum R e (λ p. y p ⊠ conv R c (pow R (x p)) n)
+  conv-syndrome : (e : ℕ) (y x : ℕ → F) (c : ℕ → F) (n : ℕ) → conv R c (syndrome e y x) n ≡ sum R e (λ p. y p ⊠ conv R c (pow R (x p)) n)
   unfolding syndrome sum
   conv-syndrome zero y x c n = conv-zero n c
   conv-syndrome (suc e) y x c n =
       conv-add-r R n c (syndrome e y x) (λ m. y e ⊠ pow R (x e) m) ∙ ap₂ _⊞_ (conv-syndrome e y x c n) (conv-mul-r R n (y e) c (pow R (x e)))
 
   -- ---- evaluation of sums and shifts
-  pub eval-add : (n : ℕ) (c d : ℕ → F) (z : F) → eval R n (λ i. c i ⊞ d i) z ≡ eval R n c z ⊞ eval R n d z
+  eval-add : (n : ℕ) (c d : ℕ → F) (z : F) → eval R n (λ i. c i ⊞ d i) z ≡ eval R n c z ⊞ eval R n d z
   unfolding eval
   eval-add zero c d z = sym (⊞-zero 𝟘)
   eval-add (suc n) c d z =
       ap (λ y. (c 0 ⊞ d 0) ⊞ z ⊠ y) (eval-add n (λ i. c (suc i)) (λ i. d (suc i)) z) ∙ ap (λ y. (c 0 ⊞ d 0) ⊞ y) (⊠-dist z _ _) ∙ ⊞-swap R _ _ _ _
 
-  pub eval-mul : (n : ℕ) (k : F) (c : ℕ → F) (z : F) → eval R n (λ i. k ⊠ c i) z ≡ k ⊠ eval R n c z
+  eval-mul : (n : ℕ) (k : F) (c : ℕ → F) (z : F) → eval R n (λ i. k ⊠ c i) z ≡ k ⊠ eval R n c z
   unfolding eval
   eval-mul zero k c z = sym (⊠-zero R k)
   eval-mul (suc n) k c z = ap (λ y. k ⊠ c 0 ⊞ z ⊠ y) (eval-mul n k (λ i. c (suc i)) z) ∙ ap (λ y. k ⊠ c 0 ⊞ y) (⊠-lc R z k _) ∙ sym (⊠-dist k _ _)
@@ -47,7 +47,7 @@ module _ {F : Type 0} (R : Ring F) where
       ∙ ap₂ _⊞_ (sym (⊠-one (c 0))) (sym (sum-mul R n z _) ∙ sum-ext R n _ _ (λ p h. ⊠-lc R z (c (suc p)) (pow R z p)))
       ∙ sym (sum-front R n (λ p. c p ⊠ pow R z p))
 
-  pub eval-up : (n : ℕ) (c : ℕ → F) (z : F) → eval R (suc n) (up R c) z ≡ z ⊠ eval R n c z
+  eval-up : (n : ℕ) (c : ℕ → F) (z : F) → eval R (suc n) (up R c) z ≡ z ⊠ eval R n c z
   unfolding eval up
   eval-up n c z = zero-⊞ R _
 
@@ -95,9 +95,8 @@ module _ {F : Type 0} (R : Ring F) where
           ap (λ y. y ⊞ x p ⊠ (z ⊠ y)) (r (omega arith)) ∙ ap (λ y. 𝟘 ⊞ x p ⊠ y) (⊠-zero R z) ∙ ap (λ y. 𝟘 ⊞ y) (⊠-zero R (x p)) ∙ ⊞-zero 𝟘
 
 module _ {F : Type 0} (K : Field F) (e : ℕ) (y x : ℕ → F) where
-  open Ring (K .ring) using (𝟘, 𝟙, _⊞_, _⊠_, ⊞-assoc, ⊞-comm, ⊞-zero, ⊞-self, ⊠-assoc, ⊠-comm, ⊠-one, ⊠-dist)
+  open Ring (K .ring) using (𝟘, _⊠_, ⊠-assoc, ⊠-comm)
 
-  infixl 60 _⊞_
   infixl 70 _⊠_
   abbrev R₁ : Ring F
   R₁ = K .ring

@@ -39,7 +39,7 @@ module _ {F : Type 0} (R : Ring F) where
       }
 
 module _ {F : Type 0} (K : Field F) where
-  open Ring (K .ring) using (𝟘, 𝟙, _⊞_, _⊠_, ⊞-assoc, ⊞-comm, ⊞-zero, ⊞-self, ⊠-assoc, ⊠-comm, ⊠-one, ⊠-dist)
+  open Ring (K .ring) using (𝟘, 𝟙, _⊞_, _⊠_, ⊞-zero, ⊞-self, ⊠-assoc, ⊠-comm, ⊠-one)
 
   infixl 60 _⊞_
   infixl 70 _⊠_

@@ -1,7 +1,7 @@
 -- Counting the places where a value is zero, as a search does; and an error put together from values at listed places.
 use mathlib.Core.Path.{_≡_, refl, sym, ap, _∙_}
 use mathlib.Core.Logic.{_≢_, ite, if-pos, if-neg}
-use Prim.Native.Nat.{ℕ, zero, suc, _≤_, _<_}
+use Prim.Native.Nat.{ℕ, zero, suc, _<_}
 use native.Mathlib.Nat.{not-suc-le-zero, le-refl}
 use native.Mathlib.Decide.{ℕ-discrete}
 use native.Mathlib.Omega.{arith}
@@ -84,36 +84,3 @@ module _ {F : Type 0} (K : Field F) where
       let a = weight-mono K n ε (mark v) (λ p h ne. mark-zero v p (wrong p h ne)) in
       let b = weight-mono K n (mark v) ε (λ p h ne. right p h (zero-mark v p ne)) in
       omega (arith, zeros-mark n v)
-
-  -- l different places that are zeros, in order, as a program lists them: there are at least l
-  pub zeros-listed : (n : ℕ) (v : ℕ → F) (place : ℕ → ℕ) (l : ℕ) → ((i j : ℕ) → i < j → j < l → place i < place j)
-      → ((i : ℕ) → i < l → place i < n) → ((i : ℕ) → i < l → v (place i) ≡ 𝟘) → l ≤ zeros n v
-  zeros-listed n v place zero order inside zero-at = omega arith
-  zeros-listed zero v place (suc l) order inside zero-at = absurd (not-suc-le-zero (inside 0 (omega arith)))
-  zeros-listed (suc n) v place (suc l) order inside zero-at =
-      pick (ℕ-discrete (place l) n) (zeros-listed n v place l (λ i j a b. order i j a (omega arith)) before (λ i h. zero-at i (omega arith)))
-      (zeros-listed n v place (suc l) order)
-    where
-      before : (i : ℕ) → i < l → place i < n
-      before i h =
-          let t = order i l h (le-refl (suc l)) in
-          let u = inside l (le-refl (suc l)) in
-          omega arith
-
-      all-before : place l ≢ n → (i : ℕ) → i < suc l → place i < n
-      all-before ne i h = here (ℕ-discrete i l)
-        where
-          here : Dec (i ≡ l) → place i < n
-          here (yes e) =
-              let u = inside l (le-refl (suc l)) in
-              omega (arith, ap place e)
-          here (no q) = before i (omega arith)
-
-      more : Dec (v n ≡ 𝟘) → zeros n v ≤ zeros (suc n) v
-      more (yes z) = omega (arith, zeros-more n v z)
-      more (no nz) = omega (arith, zeros-same n v nz)
-
-      pick : Dec (place l ≡ n) → l ≤ zeros n v → (((i : ℕ) → i < suc l → place i < n) → ((i : ℕ) → i < suc l → v (place i) ≡ 𝟘) → suc l ≤ zeros n v)
-          → suc l ≤ zeros (suc n) v
-      pick (yes e) r r′ = omega (arith, r, zeros-more n v (ap v (sym e) ∙ zero-at l (le-refl (suc l))))
-      pick (no ne) r r′ = omega (arith, r′ (all-before ne) zero-at, more (K .dec (v n) 𝟘))

@@ -1,22 +1,22 @@
 -- Powers of an element of a ring: by squaring, and what its order is a multiple of.
 use mathlib.Core.Path.{_≡_, refl, sym, ap, ap₂, _∙_, subst}
 use mathlib.Core.Logic.{_≢_}
-use mathlib.Core.Bool.{Bool, true, not}
+use mathlib.Core.Bool.{Bool, true, not, _&&_}
 use Prim.Native.Nat.{ℕ, zero, suc, _+_, _*_, _/_, _%_, _^_, _<_}
 use native.Mathlib.Nat.{not-suc-le-zero, le-of-suc-le-suc, mul-suc, mul-zero, div-add-mod', mul-comm, mod-lt, zero-lt-suc, pow-suc}
 use native.Mathlib.Omega.{arith}
 use lib.Arith.{lt-one}
 use lib.Dec.{T, T-not}
-use Rattle.laws.specs.Tests.{both, both-l, both-r}
+use lib.Ieee.Fits.{and-l, and-r}
 use Rattle.laws.specs.Xor.{two-cases, two-pos}
-use Rattle.algebra.specs.Ring.{Ring, one-⊠, ⊠-swap}
+use Rattle.algebra.specs.Ring.{Ring, one-⊠}
 use Rattle.algebra.specs.Series.{pow, pow-add}
 
 module _ {F : Type 0} (R : Ring F) where
-  open Ring R using (𝟘, 𝟙, _⊞_, _⊠_, ⊠-assoc, ⊠-comm, ⊠-one, ⊠-dist)
+  open Ring R using (𝟙, _⊠_, ⊠-assoc, ⊠-comm, ⊠-one)
 
   infixl 70 _⊠_
-  pub pow-one : (n : ℕ) → pow R 𝟙 n ≡ 𝟙
+  pow-one : (n : ℕ) → pow R 𝟙 n ≡ 𝟙
   unfolding pow
   pow-one zero = refl
   pow-one (suc n) = one-⊠ R _ ∙ pow-one n
@@ -29,11 +29,6 @@ module _ {F : Type 0} (R : Ring F) where
   unfolding pow
   pow-mul a i zero = ap (pow R a) (mul-zero i)
   pow-mul a i (suc j) = ap (pow R a) (mul-suc i j) ∙ pow-add R a (i * j) i ∙ ap (λ z. z ⊠ pow R a i) (pow-mul a i j) ∙ ⊠-comm _ _
-
-  pub pow-prod : (a b : F) (n : ℕ) → pow R a n ⊠ pow R b n ≡ pow R (a ⊠ b) n
-  unfolding pow
-  pow-prod a b zero = ⊠-one 𝟙
-  pow-prod a b (suc n) = ⊠-swap R a (pow R a n) b (pow R b n) ∙ ap (λ z. (a ⊠ b) ⊠ z) (pow-prod a b n)
 
   pub pow-mod : (u : F) (p i : ℕ) → pow R u p ≡ 𝟙 → pow R u i ≡ pow R u (i % p)
   pow-mod u p i e =
@@ -71,15 +66,15 @@ module _ {F : Type 0} (R : Ring F) where
   -- none of the first k of x, w x, w² x, .. is 1
   unfoldable pub misses : (F → Bool) → ℕ → F → F → Bool
   misses isOne zero w x = true
-  misses isOne (suc k) w x = both (not (isOne x)) (misses isOne k w (w ⊠ x))
+  misses isOne (suc k) w x = not (isOne x) && misses isOne k w (w ⊠ x)
 
   module _ (isOne : F → Bool) (isOne-law : (a : F) → a ≡ 𝟙 → T (isOne a)) where
     misses-at : (k : ℕ) (w x : F) → T (misses isOne k w x) → (j : ℕ) → j < k → pow R w j ⊠ x ≢ 𝟙
     unfolding misses pow
     misses-at zero w x t j h e = absurd (not-suc-le-zero h)
-    misses-at (suc k) w x t zero h e = T-not (isOne x) (both-l (not (isOne x)) (misses isOne k w (w ⊠ x)) t) (isOne-law x (sym (one-⊠ R x) ∙ e))
+    misses-at (suc k) w x t zero h e = T-not (isOne x) (and-l (not (isOne x)) (misses isOne k w (w ⊠ x)) t) (isOne-law x (sym (one-⊠ R x) ∙ e))
     misses-at (suc k) w x t (suc j) h e =
-        misses-at k w (w ⊠ x) (both-r (not (isOne x)) (misses isOne k w (w ⊠ x)) t) j (le-of-suc-le-suc h)
+        misses-at k w (w ⊠ x) (and-r (not (isOne x)) (misses isOne k w (w ⊠ x)) t) j (le-of-suc-le-suc h)
         (sym (⊠-assoc (pow R w j) w x) ∙ ap (λ z. z ⊠ x) (⊠-comm (pow R w j) w) ∙ e)
 
     -- u to the q * suc k is 1, and w = u ^ q has none of its first k powers at 1: then what takes u to 1 is a multiple of suc k

@@ -7,7 +7,7 @@ use native.Mathlib.Omega.{arith}
 use Rattle.algebra.specs.Ring.{Ring, ⊠-lc, zero-⊞, one-⊠, dist-⊠, ⊠-zero, zero-⊠, ⊞-swap, ⊠-swap, square-add}
 
 module _ {F : Type 0} (R : Ring F) where
-  open Ring R using (𝟘, 𝟙, _⊞_, _⊠_, ⊞-assoc, ⊞-comm, ⊞-zero, ⊞-self, ⊠-assoc, ⊠-comm, ⊠-one, ⊠-dist)
+  open Ring R using (𝟘, 𝟙, _⊞_, _⊠_, ⊞-assoc, ⊞-comm, ⊞-zero, ⊠-assoc, ⊠-comm, ⊠-dist)
 
   infixl 60 _⊞_
   infixl 70 _⊠_
@@ -69,11 +69,6 @@ module _ {F : Type 0} (R : Ring F) where
   eval-zero zero c x h = refl
   eval-zero (suc n) c x h =
       ap₂ (λ y z. y ⊞ x ⊠ z) (h 0 (omega arith)) (eval-zero n (λ i. c (suc i)) x (λ i k. h (suc i) (omega arith))) ∙ ap (λ y. 𝟘 ⊞ y) (⊠-zero R x) ∙ ⊞-zero 𝟘
-
-  pub eval-ext : (n : ℕ) (c d : ℕ → F) (x : F) → ((i : ℕ) → i < n → c i ≡ d i) → eval n c x ≡ eval n d x
-  unfolding eval
-  eval-ext zero c d x h = refl
-  eval-ext (suc n) c d x h = ap₂ (λ y z. y ⊞ x ⊠ z) (h 0 (omega arith)) (eval-ext n (λ i. c (suc i)) (λ i. d (suc i)) x (λ i k. h (suc i) (omega arith)))
 
   -- coefficients past the degree count for nothing
   pub eval-more : (n k : ℕ) (c : ℕ → F) (x : F) → n ≤ k → ((i : ℕ) → n ≤ i → c i ≡ 𝟘) → eval k c x ≡ eval n c x
@@ -141,7 +136,7 @@ module _ {F : Type 0} (R : Ring F) where
   conv-split zero c s = sym (⊞-zero (c 0 ⊠ s 0))
   conv-split (suc n) c s = refl
 
-  pub conv-up-r : (n : ℕ) (c g : ℕ → F) → conv c (up g) n ≡ up (conv c g) n
+  conv-up-r : (n : ℕ) (c g : ℕ → F) → conv c (up g) n ≡ up (conv c g) n
   unfolding conv up
   conv-up-r zero c g = ⊠-zero R (c 0)
   conv-up-r (suc n) c g = ap (λ y. c 0 ⊠ g n ⊞ y) (conv-up-r n (λ i. c (suc i)) g) ∙ sym (conv-split n c g)

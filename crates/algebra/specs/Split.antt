@@ -12,7 +12,7 @@ use Rattle.algebra.specs.Massey.{Gen}
 use Rattle.algebra.specs.Locator.{syndrome, at-roots}
 
 module _ {F : Type 0} (K : Field F) where
-  open Ring (K .ring) using (𝟘, 𝟙, _⊞_, _⊠_, ⊞-comm, ⊞-zero, ⊞-self, ⊠-assoc, ⊠-comm, ⊠-one, ⊠-dist)
+  open Ring (K .ring) using (𝟘, _⊞_, _⊠_, ⊞-comm, ⊞-zero, ⊞-self, ⊠-assoc, ⊠-comm, ⊠-one, ⊠-dist)
 
   infixl 60 _⊞_
   infixl 70 _⊠_
@@ -63,7 +63,7 @@ module _ {F : Type 0} (K : Field F) where
         (ap (λ y. y ⊠ pow R (x n) j) (sym (if-neg (decLt n n) (λ g. omega arith) (w n) (left 0))))
         ∙ sym (sum-last R n (λ p. more p ⊠ pow R (x p) j))
 
-  pub interpolate : (n : ℕ) (x : ℕ → F) → Distinct n x → (s : ℕ → F) → (y : ℕ → F) × ((j : ℕ) → j < n → s j ≡ syndrome R n y x j)
+  interpolate : (n : ℕ) (x : ℕ → F) → Distinct n x → (s : ℕ → F) → (y : ℕ → F) × ((j : ℕ) → j < n → s j ≡ syndrome R n y x j)
   interpolate zero x d s = (s, λ j h. absurd (not-suc-le-zero h))
   interpolate (suc n) x d s =
       let r = interpolate n x (λ i j h h′. d i j h (omega arith)) (λ j. s (suc j) ⊞ x n ⊠ s j) in

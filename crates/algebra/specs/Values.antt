@@ -12,7 +12,7 @@ use Rattle.algebra.specs.Series.{eval}
 use Rattle.algebra.specs.Roots.{Distinct, roots}
 
 module _ {F : Type 0} (R : Ring F) where
-  open Ring R using (𝟘, 𝟙, _⊞_, _⊠_, ⊞-assoc, ⊞-comm, ⊞-zero, ⊞-self, ⊠-assoc, ⊠-comm, ⊠-one, ⊠-dist)
+  open Ring R using (𝟘, 𝟙, _⊞_, _⊠_, ⊞-zero, ⊞-self, ⊠-assoc, ⊠-one, ⊠-dist)
 
   infixl 60 _⊞_
   infixl 70 _⊠_
@@ -97,7 +97,7 @@ module _ {F : Type 0} (R : Ring F) where
       step n = shr-shr w 1 n ∙ ap (λ (m : ℕ). w / 2 ^ m) (omega arith)
 
 module _ {F : Type 0} (K : Field F) where
-  open Ring (K .ring) using (𝟘, 𝟙, _⊞_, _⊠_, ⊞-zero)
+  open Ring (K .ring) using (𝟘, _⊞_, _⊠_)
 
   infixl 60 _⊞_
   infixl 70 _⊠_

@@ -2,18 +2,19 @@
 use mathlib.Core.Path.{_≡_, refl, sym, ap, _∙_, subst}
 use mathlib.Core.Bool.{Bool, true, false, cond}
 use mathlib.Core.List.{List}
-use Prim.Native.Nat.{ℕ, zero, suc, _+_, _*_, _≤_, _<_}
+use Prim.Native.Nat.{ℕ, zero, suc, _+_, _≤_, _<_}
 use native.Mathlib.Omega.{arith}
 use native.Mathlib.Numerals.{add-one}
 use native.Mathlib.Decide.{ℕ-discrete}
-use borrow.Author.Tests.{eqb-true, eqb-false, eq-eqb, ne-eqb, ltb-true, ltb-false, lt-ltb, le-ltb}
+use borrow.Author.Tests.{eqb-true, ltb-true}
 use lib.Dec.{eqb, ltb}
-use lib.ListN.{getD, length}
+use lib.ListN.{getD}
 use lib.IntN.{ℤ, pos}
-use Rattle.lane_math.specs.Check.{Word, put}
+use Rattle.laws.specs.Choice.{by-cond, by-bool}
+use Rattle.lane_math.specs.Check.{put}
 use Rattle.lane_math.specs.Laws.{put-same, put-other}
 use Rattle.lane_memory.specs.Column.{column}
-use Rattle.simd.specs.Words.{within, wordOf, word, message-put}
+use Rattle.simd.specs.Words.{within, wordOf, word}
 use Rattle.fixed_lanes.specs.Place.{Placed}
 
 abbrev pub on : List Bool → ℕ → Bool
@@ -37,20 +38,12 @@ unfolding someFresh
 some-at fresh i zero h e = absurd (omega (arith, h))
 some-at fresh i (suc k) h e = go (ℕ-discrete i k) (some-at fresh i k)
   where
-    same : (b : Bool) → cond b true true ≡ true
-    same true = refl
-    same false = refl
-
     go : Dec (i ≡ k) → (i < k → on fresh i ≡ true → someFresh fresh k ≡ true) → cond (on fresh k) true (someFresh fresh k) ≡ true
     go (yes z) ih = ap (λ (b : Bool). cond b true (someFresh fresh k)) (ap (on fresh) (sym z) ∙ e)
-    go (no z) ih = ap (λ (b : Bool). cond (on fresh k) true b) (ih (omega arith) e) ∙ same (on fresh k)
+    go (no z) ih = by-cond (λ b. b ≡ true) (on fresh k) true (someFresh fresh k) (λ _. refl) (λ _. ih (omega arith) e)
 
-pub none-at : (fresh : List Bool) (i k : ℕ) → i < k → someFresh fresh k ≡ false → on fresh i ≡ false
-none-at fresh i k h e = go (on fresh i) refl
-  where
-    go : (b : Bool) → on fresh i ≡ b → b ≡ false
-    go true f = sym (some-at fresh i k h f) ∙ e
-    go false f = refl
+none-at : (fresh : List Bool) (i k : ℕ) → i < k → someFresh fresh k ≡ false → on fresh i ≡ false
+none-at fresh i k h e = by-bool (λ b. b ≡ false) (on fresh i) (λ f. sym (some-at fresh i k h f) ∙ e) (λ _. refl)
 
 -- ---- row u, of the first k lanes
 pub record RowCleared (lanes u : ℕ) (fresh : List Bool) (a : List ℤ) (k : ℕ) (a′ : List ℤ) : Type 0 where
@@ -62,11 +55,7 @@ row-start lanes u fresh a = record { done = λ i q h. absurd (omega (arith, q));
 
 put-self : (f : ℕ → ℤ) (u : ℕ) → put f u (f u) ≡ f
 unfolding put
-put-self f u = λ i w. go w (eqb w u) refl i
-  where
-    go : (w : ℕ) (b : Bool) → eqb w u ≡ b → cond b (f u) (f w) ≡ f w
-    go w true e = ap f (sym (eqb-true w u e))
-    go w false e = refl
+put-self f u = λ i w. by-cond (λ x. x ≡ f w) (eqb w u) (f u) (f w) (λ e. ap f (sym (eqb-true w u e))) (λ _. refl) i
 
 put-cond : (b : Bool) (f : ℕ → ℤ) (u : ℕ) → put f u (cond b (pos 0) (f u)) ≡ cond b (put f u (pos 0)) f
 put-cond true f u = refl
@@ -98,7 +87,7 @@ blank n zero f = f
 blank n (suc e) f = put (blank n e f) (n + e) (pos 0)
 
 -- which is to say
-pub blank-in : (n e : ℕ) (f : ℕ → ℤ) (k : ℕ) → k < e → blank n e f (n + k) ≡ pos 0
+blank-in : (n e : ℕ) (f : ℕ → ℤ) (k : ℕ) → k < e → blank n e f (n + k) ≡ pos 0
 unfolding blank
 blank-in n zero f k h = absurd (omega (arith, h))
 blank-in n (suc e) f k h = go (ℕ-discrete k e) (blank-in n e f k)
@@ -107,7 +96,7 @@ blank-in n (suc e) f k h = go (ℕ-discrete k e) (blank-in n e f k)
     go (yes z) ih = ap (λ (j : ℕ). put (blank n e f) (n + e) (pos 0) (n + j)) z ∙ put-same (blank n e f) (n + e) (pos 0)
     go (no z) ih = put-other (blank n e f) (n + e) (pos 0) (n + k) (λ x. omega arith) ∙ ih (omega arith)
 
-pub blank-out : (n e : ℕ) (f : ℕ → ℤ) (u : ℕ) → ((k : ℕ) → k < e → u ≡ n + k → ⊥) → blank n e f u ≡ f u
+blank-out : (n e : ℕ) (f : ℕ → ℤ) (u : ℕ) → ((k : ℕ) → k < e → u ≡ n + k → ⊥) → blank n e f u ≡ f u
 unfolding blank
 blank-out n zero f u off = refl
 blank-out n (suc e) f u off = put-other (blank n e f) (n + e) (pos 0) u (off e (omega arith)) ∙ blank-out n e f u (λ k q. off k (omega arith))
@@ -117,11 +106,7 @@ pub record Cleared (n lanes : ℕ) (fresh : List Bool) (a : List ℤ) (e : ℕ) 
 
 pub clear-start : (n lanes : ℕ) (fresh : List Bool) (a : List ℤ) → Cleared n lanes fresh a 0 a
 unfolding blank
-clear-start n lanes fresh a = record { columns = λ i q. same (on fresh i) (column lanes a i) }
-  where
-    same : (b : Bool) (f : ℕ → ℤ) → f ≡ cond b f f
-    same true f = refl
-    same false f = refl
+clear-start n lanes fresh a = record { columns = λ i q. by-cond (λ f. column lanes a i ≡ f) (on fresh i) (column lanes a i) (column lanes a i) (λ _. refl) (λ _. refl) }
 
 -- no lane is fresh
 pub clear-none : (n lanes : ℕ) (fresh : List Bool) (a : List ℤ) (e : ℕ) → someFresh fresh lanes ≡ false → Cleared n lanes fresh a e a
@@ -142,17 +127,13 @@ pub clear-end : {n lanes : ℕ} {fresh : List Bool} {a a′ : List ℤ} {k e : �
 clear-end {n} {lanes} {fresh} {a} {a′} {k} {e} x v = subst (λ (j : ℕ). Cleared n lanes fresh a j a′) x v
 
 -- ---- a fresh lane's word has every message 0; another lane's is as it was
-pub blank-word : (n E : ℕ) (f : ℕ → ℤ) → wordOf n E (blank n E f) ≡ record { L = wordOf n E f .L; r = λ e. pos 0 }
+blank-word : (n E : ℕ) (f : ℕ → ℤ) → wordOf n E (blank n E f) ≡ record { L = wordOf n E f .L; r = λ e. pos 0 }
 unfolding wordOf within
-blank-word n E f = λ i. record { L = λ u. values u (ltb u n) refl i; r = λ e. messages e (ltb e E) refl i }
-  where
-    values : (u : ℕ) (b : Bool) → ltb u n ≡ b → cond b (blank n E f u) (pos 0) ≡ cond b (f u) (pos 0)
-    values u true e = blank-out n E f u (λ k q x. omega (arith, ltb-true u n e))
-    values u false e = refl
-
-    messages : (e : ℕ) (b : Bool) → ltb e E ≡ b → cond b (blank n E f (n + e)) (pos 0) ≡ pos 0
-    messages e true s = blank-in n E f e (ltb-true e E s)
-    messages e false s = refl
+blank-word n E f =
+    λ i. record {
+      L = λ u. by-bool (λ b. cond b (blank n E f u) (pos 0) ≡ cond b (f u) (pos 0)) (ltb u n) (λ e. blank-out n E f u (λ k q x. omega (arith, ltb-true u n e))) (λ _. refl) i;
+      r = λ e. by-cond (λ x. x ≡ pos 0) (ltb e E) (blank n E f (n + e)) (pos 0) (λ s. blank-in n E f e (ltb-true e E s)) (λ _. refl) i;
+    }
 
 pub cleared-fresh : {n lanes : ℕ} {fresh : List Bool} {a a′ : List ℤ} {E i : ℕ} → Cleared n lanes fresh a E a′ → i < lanes → on fresh i ≡ true
     → word n E lanes a′ i ≡ record { L = word n E lanes a i .L; r = λ e. pos 0 }

@@ -2,16 +2,15 @@
 use mathlib.Core.Path.{_≡_, refl, sym, ap, _∙_, subst}
 use mathlib.Core.Bool.{Bool, true, false, cond}
 use mathlib.Core.List.{List}
-use Prim.Native.Nat.{ℕ, suc, _+_, _*_, _≤_, _<_}
+use Prim.Native.Nat.{ℕ, _+_, _<_}
 use native.Mathlib.Omega.{arith}
 use borrow.Author.Tests.{eqb-true, eqb-false, ltb-true, ltb-false, lt-ltb, le-ltb}
 use lib.Dec.{eqb, ltb}
-use lib.ListN.{getD, length}
+use lib.ListN.{getD}
 use lib.IntN.{ℤ, pos}
-use Rattle.lane_math.specs.Check.{Word, put}
-use Rattle.lane_math.specs.Laws.{put-same, put-other}
+use Rattle.lane_math.specs.Check.{put}
 use Rattle.lane_memory.specs.Column.{column}
-use Rattle.simd.specs.Words.{within, wordOf, word, within-at}
+use Rattle.simd.specs.Words.{within, wordOf, word}
 use Rattle.fixed_lanes.specs.Place.{Placed}
 
 -- the first n rows are xs

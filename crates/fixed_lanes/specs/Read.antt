@@ -1,8 +1,7 @@
 -- The hard decisions of a word, as a list.
-use mathlib.Core.Path.{_≡_, refl, sym, ap, _∙_, subst}
-use mathlib.Core.Bool.{Bool, true, false}
+use mathlib.Core.Path.{_≡_, refl, sym, ap, _∙_}
 use mathlib.Core.List.{List, [], _∷_, _++_}
-use Prim.Native.Nat.{ℕ, zero, suc, _+_, _-_, _*_, _≤_, _<_}
+use Prim.Native.Nat.{ℕ, zero, suc, _+_, _-_, _≤_, _<_}
 use native.Mathlib.Omega.{arith}
 use native.Mathlib.Decide.{decLt}
 use borrow.Author.Count.{below-more}
@@ -16,12 +15,12 @@ unfoldable pub decisions : (ℕ → ℤ) → ℕ → ℕ → List ℕ
 decisions L u zero = []
 decisions L u (suc d) = hard (L u) ∷ decisions L (suc u) d
 
-pub decisions-length : (L : ℕ → ℤ) (u d : ℕ) → length (decisions L u d) ≡ d
+decisions-length : (L : ℕ → ℤ) (u d : ℕ) → length (decisions L u d) ≡ d
 unfolding decisions
 decisions-length L u zero = refl
 decisions-length L u (suc d) = ap suc (decisions-length L (suc u) d)
 
-pub decisions-at : (L : ℕ → ℤ) (u d k : ℕ) → k < d → getD (decisions L u d) k 0 ≡ hard (L (u + k))
+decisions-at : (L : ℕ → ℤ) (u d k : ℕ) → k < d → getD (decisions L u d) k 0 ≡ hard (L (u + k))
 unfolding decisions
 decisions-at L u zero k h = absurd (omega arith)
 decisions-at L u (suc d) zero h = let e : u ≡ u + 0 = omega arith in ap (λ (j : ℕ). hard (L j)) e

@@ -2,7 +2,7 @@
 ghost use mathlib.Core.Path.{_≡_};
 ghost use mathlib.Core.Bool.{cond};
 ghost use mathlib.Core.List.{_++_};
-ghost use Prim.Native.Nat.{ℕ, _<_, _≤_, _+_, _*_};
+ghost use Prim.Native.Nat.{_<_, _≤_, _+_, _*_};
 ghost use lib.ListN.{length, drop};
 ghost use Rattle.lane_memory.specs.Column.{column};
 ghost use Rattle.simd.specs.Words.{within};

@@ -11,7 +11,7 @@ use lib.Dec.{ltb}
 use lib.ListN.{getD, set, length, length-set}
 use lib.Seq.{getD-set-same, getD-set-other}
 use lib.IntN.{ℤ}
-use Rattle.lane_math.specs.Iteration.{Code, degree, unsatisfied}
+use Rattle.lane_math.specs.Iteration.{degree, unsatisfied}
 use Rattle.lane_math.specs.Laws.{last-or}
 use Rattle.lane_memory.specs.Column.{Off}
 use Rattle.lane_memory.specs.Room.{var}

@@ -1,11 +1,11 @@
 -- Which lanes' words meet every check. A lane's verdict is that of its own column.
 use mathlib.Core.Path.{_≡_, refl, sym, ap, _∙_, subst}
-use mathlib.Core.Bool.{Bool, true, false, not, _&&_}
+use mathlib.Core.Bool.{Bool, true, false, not, _&&_, and-true}
 use mathlib.Core.List.{List}
-use Prim.Native.Nat.{ℕ, zero, suc, _+_, _*_, _-_, _≤_, _<_, max}
+use Prim.Native.Nat.{ℕ, zero, suc, _+_, _-_, _≤_, _<_, max}
 use native.Mathlib.Omega.{arith}
 use native.Mathlib.Numerals.{add-one}
-use borrow.Author.Tests.{eqb-true, eqb-false, eq-eqb, ne-eqb, ltb-true, ltb-false, lt-ltb, le-ltb}
+use borrow.Author.Tests.{not-true, eqb-true, eqb-false, eq-eqb, ne-eqb, ltb-true, ltb-false, lt-ltb, le-ltb}
 use lib.Dec.{eqb, ltb}
 use lib.ListN.{getD}
 use lib.IntN.{ℤ}
@@ -65,11 +65,7 @@ pub record Seen (n p lanes : ℕ) (index : List ℕ) (a : List ℤ) (at : ℕ) (
 module _ {n p lanes : ℕ} {index : List ℕ} {a : List ℤ} where
   pub seen-start : (at : ℕ) (first : List ℕ) → Seen n p lanes index a at first 0 first
   unfolding unsatisfiedCount
-  seen-start at first = record { is = λ k q. and-true (eqb (getD first k 0) 0) }
-    where
-      and-true : (b : Bool) → b ≡ (b && true)
-      and-true true = refl
-      and-true false = refl
+  seen-start at first = record { is = λ k q. sym (and-true (eqb (getD first k 0) 0)) }
 
   pub seen-again : {first v v′ bits : List ℕ} {c s d at : ℕ} → Memory n p lanes index a → c < p → s ≡ getD index c 0 → s + d ≡ getD index (c + 1) 0
       → Seen n p lanes index a at first c v → SignParity (rowsIn p index) s d lanes at a bits → Larger v bits 16 v′ → Seen n p lanes index a at first (c + 1) v′
@@ -93,12 +89,8 @@ module _ {n p lanes : ℕ} {index : List ℕ} {a : List ℤ} where
   seen-none {c} {at} {first} {v} h none u =
       record { is = λ k q. zero-no k q ∙ still (eqb (getD first k 0) 0) (word n (edgesIn p index) lanes a (at + k) .L) (sym (u .is k q) ∙ zero-no k q) }
     where
-      some : (b : Bool) → not b ≡ true → b ≡ false
-      some true e = sym e
-      some false e = refl
-
       zero-no : (k : ℕ) → k < 16 → eqb (getD v k 0) 0 ≡ false
-      zero-no k q = ne-eqb (getD v k 0) 0 (λ z. eqb-false (least v 16) 0 (some (eqb (least v 16) 0) none) (omega (arith, least-le v 16 k q)))
+      zero-no k q = ne-eqb (getD v k 0) 0 (λ z. eqb-false (least v 16) 0 (not-true (eqb (least v 16) 0) none) (omega (arith, least-le v 16 k q)))
 
       still : (b : Bool) (L : ℕ → ℤ) → (b && eqb (unsatisfiedCount (codeIn p index) c L) 0) ≡ false → false ≡ (b && eqb (unsatisfiedCount (codeIn p index) p L) 0)
       still false L e = refl

@@ -1,7 +1,7 @@
 // Which lanes' words meet every check, and how many checks each lane's word leaves unsatisfied. Sixteen lanes are gone through at a time.
 // `index` holds the code's lists (fixed_code); `work` n + 3E rows with stride `lanes` (simd).
 ghost use mathlib.Core.Path.{_≡_};
-ghost use mathlib.Core.Bool.{Bool, false, not, cond, _&&_};
+ghost use mathlib.Core.Bool.{false, not, cond, _&&_};
 ghost use Prim.Native.Nat.{ℕ, _+_, _%_, _<_, _≤_};
 ghost use lib.Dec.{eqb, ltb};
 ghost use lib.ListN.{getD, length};

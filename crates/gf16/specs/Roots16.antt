@@ -1,16 +1,17 @@
 -- The generator's roots: the powers alpha^1 to alpha^24 and their conjugates, 192 in all. A binary polynomial is a multiple of the
 -- generator exactly when it vanishes at alpha, alpha^3, .. alpha^23.
 use mathlib.Core.Path.{_≡_, sym, ap, ap₂, _∙_, subst}
-use mathlib.Core.Bool.{not}
+use mathlib.Core.Bool.{not, _&&_}
 use mathlib.Core.List.{List, [], _∷_}
 use Prim.Native.Nat.{ℕ, zero, suc, _+_, _*_, _/_, _%_, _^_, _≤_, _<_}
 use native.Mathlib.Nat.{not-suc-le-zero, le-of-suc-le-suc, mod-lt, pow-suc, mul-one, le-refl}
 use native.Mathlib.Decide.{decLe}
 use native.Mathlib.Omega.{arith}
 use lib.Dec.{T, ltb, ltb→lt, eqb, eqb→eq, eqb-refl, T-not, lit<}
+use lib.Ieee.Fits.{and-l, and-r}
 use lib.ListN.{getD, length}
 use Rattle.laws.specs.Xor.{_⊕_}
-use Rattle.laws.specs.Tests.{below, below-at, both, both-l, both-r}
+use Rattle.laws.specs.Tests.{below, below-at}
 use Rattle.laws.specs.Poly.{clmul, clmul-lt, rem, quo, division, rem-lt}
 use Rattle.bch_table.specs.Generator.{masks, product, generator, generator-lt, generator-top}
 use Rattle.algebra.specs.Gf.{mul, mulN, xt}
@@ -118,15 +119,15 @@ odds = 0 ∷ 0 ∷ 1 ∷ 0 ∷ 2 ∷ 1 ∷ 3 ∷ 0 ∷ 4 ∷ 2 ∷ 5 ∷ 1 ∷ 6
 twos : List ℕ
 twos = 0 ∷ 1 ∷ 0 ∷ 2 ∷ 0 ∷ 1 ∷ 0 ∷ 3 ∷ 0 ∷ 1 ∷ 0 ∷ 2 ∷ 0 ∷ 1 ∷ 0 ∷ 4 ∷ 0 ∷ 1 ∷ 0 ∷ 2 ∷ 0 ∷ 1 ∷ 0 ∷ 3 ∷ []
 
-parts : T (below 24 (λ i. both (eqb ((2 * getD odds i 0 + 1) * 2 ^ getD twos i 0) (i + 1)) (ltb (getD odds i 0) 12)))
+parts : T (below 24 (λ i. eqb ((2 * getD odds i 0 + 1) * 2 ^ getD twos i 0) (i + 1) && ltb (getD odds i 0) 12))
 unfolding below odds twos
 parts = tt
 
 pub first-24 : (k w : ℕ) → ((i : ℕ) → i < 12 → ev R16 k w (pow R16 α (2 * i + 1)) ≡ R16 .𝟘) → (i : ℕ) → i < 24 → ev R16 k w (pow R16 α (i + 1)) ≡ R16 .𝟘
 first-24 k w z i h =
     let t = below-at 24 _ parts i h in
-    let e = eqb→eq ((2 * getD odds i 0 + 1) * 2 ^ getD twos i 0) (i + 1) (both-l (eqb ((2 * getD odds i 0 + 1) * 2 ^ getD twos i 0) (i + 1)) (ltb (getD odds i 0) 12) t) in
-    let l = ltb→lt (getD odds i 0) 12 (both-r (eqb ((2 * getD odds i 0 + 1) * 2 ^ getD twos i 0) (i + 1)) (ltb (getD odds i 0) 12) t) in
+    let e = eqb→eq ((2 * getD odds i 0 + 1) * 2 ^ getD twos i 0) (i + 1) (and-l (eqb ((2 * getD odds i 0 + 1) * 2 ^ getD twos i 0) (i + 1)) (ltb (getD odds i 0) 12) t) in
+    let l = ltb→lt (getD odds i 0) 12 (and-r (eqb ((2 * getD odds i 0 + 1) * 2 ^ getD twos i 0) (i + 1)) (ltb (getD odds i 0) 12) t) in
     ap (λ (m : ℕ). ev R16 k w (pow R16 α m)) (sym e) ∙ conjugates k w (2 * getD odds i 0 + 1) (z (getD odds i 0) l) (getD twos i 0)
 
 -- what vanishes at alpha^1 to alpha^24 is a multiple of the generator

@@ -3,11 +3,14 @@ use mathlib.Core.Path.{_≡_, refl, sym, ap, subst, _∙_}
 use mathlib.Core.Bool.{Bool, true, false, cond}
 use Prim.Native.Nat.{ℕ, zero, suc, _+_, _%_, _≤_, _<_, min, max}
 use native.Mathlib.Omega.{arith}
+use native.Mathlib.Numerals.{add-one}
+use borrow.Author.Count.{below-more}
 use borrow.Author.Tests.{ltb-true, ltb-false, eqb-true, eqb-false, eq-eqb, ne-eqb}
 use lib.Dec.{ltb, eqb}
 use lib.IntN.{ℤ, pos, _-ℤ_}
 use lib.Signed.{ltZ}
 use Rattle.laws.specs.Signed.{negative, times, times-swap, times-twice, max-nonneg}
+use Rattle.laws.specs.Choice.{by-cond}
 use Rattle.lane_math.specs.Value.{satZ, magnitude, signed, reduced, replied}
 use Rattle.lane_math.specs.Check.{min1, min2, first, others, message, put, wrote}
 use Rattle.lane_math.specs.Iteration.{negatives, unsatisfied}
@@ -19,11 +22,7 @@ parity t (suc n) = times (parity t n) (negative (t n))
 
 -- e below n + 1 is n or below n
 pub last-or : {P : ℕ → Type 0} (n : ℕ) → ((e : ℕ) → e < n → P e) → P n → (e : ℕ) → e < suc n → P e
-last-or {P} n h p e q = go (ltb e n) refl
-  where
-    go : (b : Bool) → ltb e n ≡ b → P e
-    go true s = h e (ltb-true e n s)
-    go false s = let k : e ≡ n = omega (arith, ltb-false e n s) in subst P (sym k) p
+last-or {P} n h p = subst (λ (m : ℕ). (e : ℕ) → e < m → P e) (add-one n) (below-more P n h p)
 
 -- ---- the two smallest, and who reached the smallest
 record Least (t : ℕ → ℤ) (n : ℕ) : Type 0 where
@@ -80,11 +79,9 @@ min2-small t n = least t n .bounded
 -- min2 without a choice
 pub min2-step : (t : ℕ → ℤ) (n : ℕ) → max (min1 t n) (min (min2 t n) (magnitude (t n))) ≡ min2 t (suc n)
 unfolding min1 min2
-min2-step t n = go (ltb (magnitude (t n)) (min1 t n)) refl
-  where
-    go : (b : Bool) → ltb (magnitude (t n)) (min1 t n) ≡ b → max (min1 t n) (min (min2 t n) (magnitude (t n))) ≡ cond b (min1 t n) (min (min2 t n) (magnitude (t n)))
-    go true s = let h : magnitude (t n) < min1 t n = ltb-true _ _ s in omega (arith, least t n .ordered)
-    go false s = let h : min1 t n ≤ magnitude (t n) = ltb-false _ _ s in omega (arith, least t n .ordered)
+min2-step t n =
+    by-cond (λ (m : ℕ). max (min1 t n) (min (min2 t n) (magnitude (t n))) ≡ m) (ltb (magnitude (t n)) (min1 t n)) (min1 t n) (min (min2 t n) (magnitude (t n)))
+    (λ s. omega (arith, least t n .ordered, ltb-true (magnitude (t n)) (min1 t n) s)) (λ s. omega (arith, least t n .ordered, ltb-false (magnitude (t n)) (min1 t n) s))
 
 -- the magnitude that |t| = min1 picks is the one that 'the first edge to reach min1' picks
 same-pick : (t : ℕ → ℤ) (d e : ℕ) → e < d → cond (eqb (magnitude (t e)) (min1 t d)) (min2 t d) (min1 t d) ≡ cond (eqb e (first t d)) (min2 t d) (min1 t d)

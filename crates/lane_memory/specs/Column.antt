@@ -2,12 +2,13 @@
 use mathlib.Core.Path.{_≡_, refl, sym, ap, subst, _∙_}
 use mathlib.Core.Bool.{Bool, true, false, cond}
 use mathlib.Core.List.{List}
-use Prim.Native.Nat.{ℕ, _+_, _*_, _-_, _≤_, _<_}
+use Prim.Native.Nat.{ℕ, _+_, _*_, _-_, _/_, _%_, _≤_, _<_}
 use native.Mathlib.Omega.{arith}
 use native.Mathlib.Nat.{mul-le-mul-right}
 use borrow.Author.Tests.{ltb-true, ltb-false, eqb-true, eqb-false}
 use borrow.Author.Count.{below-more}
 use lib.Dec.{ltb, eqb}
+use lib.Arith.{digits-div, digits-mod}
 use lib.ListN.{getD, set, length}
 use lib.Seq.{getD-set-same, getD-set-other}
 use lib.IntN.{ℤ, pos}
@@ -72,15 +73,10 @@ row-ends v n lanes h = let q : (v + 1) * lanes ≤ n * lanes = mul-le-mul-right 
 
 -- a place has one row and one lane
 pub one-place : (lanes u i v j : ℕ) → i < lanes → j < lanes → u * lanes + i ≡ v * lanes + j → (u ≡ v) × (i ≡ j)
-one-place lanes u i v j p q e = go (ltb u v) (ltb v u) refl refl
-  where
-    go : (a b : Bool) → ltb u v ≡ a → ltb v u ≡ b → (u ≡ v) × (i ≡ j)
-    go true b s r = absurd (omega (arith, row-ends u v lanes (ltb-true u v s)))
-    go false true s r = absurd (omega (arith, row-ends v u lanes (ltb-true v u r)))
-    go false false s r =
-        let k : u ≡ v = omega (arith, ltb-false u v s, ltb-false v u r) in
-        let m : u * lanes ≡ v * lanes = ap (λ (n : ℕ). n * lanes) k in
-        (k, omega arith)
+one-place lanes u i v j p q e = (
+  sym (digits-div u p) ∙ ap (λ (n : ℕ). n / lanes) e ∙ digits-div v q,
+  sym (digits-mod u p) ∙ ap (λ (n : ℕ). n % lanes) e ∙ digits-mod v q,
+)
 
 pub column-at : (lanes : ℕ) (xs : List ℤ) (u at k : ℕ) → getD xs (u * lanes + at + k) (pos 0) ≡ column lanes xs (at + k) u
 unfolding column

@@ -1,6 +1,6 @@
 -- Decimal numbers as bytes, and what makes a text that begins with one readable in one way only.
 use mathlib.Core.Path.{_≡_, refl, sym, ap, ap₂, _∙_, subst}
-use mathlib.Core.Bool.{Bool, false, cond}
+use mathlib.Core.Bool.{Bool, false, cond, _&&_}
 use mathlib.Core.List.{List, [], _∷_, _++_}
 use Prim.Native.Nat.{ℕ, zero, suc, _+_, _-_, _*_, _/_, _%_, _^_, _≤_, _<_}
 use native.Mathlib.Nat.{not-suc-le-zero, mod-lt, div-add-mod', div-lt-iff-lt-mul, pow-suc}
@@ -10,7 +10,6 @@ use borrow.Author.Tests.{lt-ltb, le-ltb, le-leb}
 use lib.Dec.{T, ltb, leb}
 use lib.IntN.{ℤ, pos, negsuc}
 use lib.ListN.{length, getD, length-append}
-use Rattle.laws.specs.Tests.{both}
 
 -- the decimal digits of n as bytes, highest first, for n below k: one digit below ten, otherwise those of n / 10 and then n % 10
 unfoldable pub digits : ℕ → ℕ → List ℕ
@@ -30,7 +29,7 @@ signed (negsuc n) = 45 ∷ decimal (suc n)
 
 -- a byte that is a digit
 abbrev pub digit : ℕ → Bool
-digit b = both (leb 48 b) (leb b 57)
+digit b = leb 48 b && leb b 57
 
 abbrev pub Digits : List ℕ → Type 0
 Digits [] = Unit
@@ -40,9 +39,9 @@ Digits (x ∷ xs) = T (digit x) × Digits xs
 abbrev pub Stops : List ℕ → Type 0
 Stops r = digit (getD r 0 0) ≡ false
 
-pub digit-of : (d : ℕ) → d < 10 → T (digit (48 + d))
+digit-of : (d : ℕ) → d < 10 → T (digit (48 + d))
 digit-of d h =
-    subst (λ (a : Bool). T (both a (leb (48 + d) 57))) (sym (le-leb 48 (48 + d) (omega arith)))
+    subst (λ (a : Bool). T (a && leb (48 + d) 57)) (sym (le-leb 48 (48 + d) (omega arith)))
     (subst T (sym (le-leb (48 + d) 57 (omega arith))) tt)
 
 digits-small : (k n : ℕ) → n < 10 → digits (suc k) n ≡ (48 + n) ∷ []
@@ -93,10 +92,10 @@ by-digits P s m (suc k) n h = go (by-digits P s m k (n / 10)) (decLt n 10)
     go r (yes l) = s n l
     go r (no b) = let l : 10 ≤ n = omega arith in m n l (r (less n k l h))
 
-pub decimal-ind {ℓ} : (P : ℕ → Type ℓ) → ((n : ℕ) → n < 10 → P n) → ((n : ℕ) → 10 ≤ n → P (n / 10) → P n) → (n : ℕ) → P n
+decimal-ind {ℓ} : (P : ℕ → Type ℓ) → ((n : ℕ) → n < 10 → P n) → ((n : ℕ) → 10 ≤ n → P (n / 10) → P n) → (n : ℕ) → P n
 decimal-ind P s m n = by-digits P s m (suc n) n (omega arith)
 
-pub Digits-append : (xs ys : List ℕ) → Digits xs → Digits ys → Digits (xs ++ ys)
+Digits-append : (xs ys : List ℕ) → Digits xs → Digits ys → Digits (xs ++ ys)
 Digits-append [] ys h l = l
 Digits-append (x ∷ xs) ys h l = (h .0, Digits-append xs ys (h .1) l)
 
@@ -118,7 +117,7 @@ spelled-le : (v : ℕ) (xs : List ℕ) → v ≤ spelled v xs
 spelled-le v [] = omega arith
 spelled-le v (x ∷ xs) = omega (arith, spelled-le (v * 10 + (x - 48)) xs)
 
-pub spelled-decimal : (n : ℕ) → spelled 0 (decimal n) ≡ n
+spelled-decimal : (n : ℕ) → spelled 0 (decimal n) ≡ n
 spelled-decimal =
     decimal-ind (λ (n : ℕ). spelled 0 (decimal n) ≡ n) (λ n h. rw (decimal-small n h) (omega arith))
     (λ n h r. ap (spelled 0) (decimal-more n h) ∙ spelled-append 0 (decimal (n / 10)) ((48 + n % 10) ∷ []) ∙ ap (λ (x : ℕ). x * 10 + (48 + n % 10 - 48)) r ∙ whole n)
@@ -176,7 +175,7 @@ span-prefix (x ∷ xs) (y ∷ ys) r s d p e =
     (t, ap (_∷ ys) (sym h) ∙ ap (x ∷_) a, b)
 
 -- the digits with which a text begins, and what stands behind them
-pub span-unique : (xs ys r s : List ℕ) → Digits xs → Digits ys → Stops r → Stops s → xs ++ r ≡ ys ++ s → (xs ≡ ys) × (r ≡ s)
+span-unique : (xs ys r s : List ℕ) → Digits xs → Digits ys → Stops r → Stops s → xs ++ r ≡ ys ++ s → (xs ≡ ys) × (r ≡ s)
 span-unique [] [] r s d f p q e = (refl, e)
 span-unique [] (y ∷ ys) r s d f p q e = absurd (subst T (ap digit (ap (λ (l : List ℕ). getD l 0 0) (sym e)) ∙ p) (f .0))
 span-unique (x ∷ xs) [] r s d f p q e = absurd (subst T (ap digit (ap (λ (l : List ℕ). getD l 0 0) e) ∙ q) (d .0))

@@ -1,6 +1,7 @@
 -- Tests joined by or, parts of lists, and lists of zeros.
 use mathlib.Core.Path.{_≡_, refl, sym, ap, _∙_}
-use mathlib.Core.Bool.{Bool, true, false, cond, _||_}
+use mathlib.Core.Bool.{Bool, true, false, true≢false, _||_}
+use mathlib.Mathlib.Data.Bool.Basic.{or-eq-false-eq-eq-false-and-eq-false}
 use mathlib.Core.List.{List, [], _∷_}
 use Prim.Native.Nat.{ℕ, zero, suc, _-_}
 use native.Mathlib.Omega.{arith}
@@ -8,15 +9,13 @@ use lib.ListN.{getD, take, drop, replicate}
 use lib.Seq.{take-nil}
 
 pub true-false : true ≡ false → ⊥
-true-false e = let z : _≡_ {A = ℕ} 1 0 = ap (λ b. cond b 1 0) e in omega arith
+true-false = true≢false
 
 pub or-left : (a b : Bool) → (a || b) ≡ false → a ≡ false
-or-left true b e = e
-or-left false b e = refl
+or-left a b e = or-eq-false-eq-eq-false-and-eq-false a b .0 e .0
 
 pub or-right : (a b : Bool) → (a || b) ≡ false → b ≡ false
-or-right true b e = absurd (true-false e)
-or-right false b e = e
+or-right a b e = or-eq-false-eq-eq-false-and-eq-false a b .0 e .1
 
 -- a part taken first and dropped from, or dropped from first
 pub drop-take : (f t : ℕ) (l : List ℕ) → drop f (take t l) ≡ take (t - f) (drop f l)

@@ -37,7 +37,7 @@ deeper w n = shr-shr w 1 n ∙ ap (λ (m : ℕ). w / 2 ^ m) one-more
 pub half-down : (w k : ℕ) → w < 2 ^ suc k → w / 2 < 2 ^ k
 half-down w k h = omega (arith, pow-suc 2 k)
 
-pub by-digits : (w : ℕ) → w ≡ (w / 2 * 2) ⊕ (w % 2)
+by-digits : (w : ℕ) → w ≡ (w / 2 * 2) ⊕ (w % 2)
 by-digits w = ⊕-split w 1
 
 pub division : (d g k w : ℕ) → w < 2 ^ k → w ≡ clmul k (quo d g k w) g ⊕ rem d g k w
@@ -72,11 +72,11 @@ division d g (suc k) w h =
     arrange : (a b c : ℕ) → (a ⊕ b) ⊕ (c ⊕ a) ≡ b ⊕ c
     arrange a b c = ap₂ _⊕_ (⊕-comm a b) (⊕-comm c a) ∙ ⊕-assoc b a (a ⊕ c) ∙ ap (λ (z : ℕ). b ⊕ z) (sym (⊕-assoc a a c) ∙ ap (λ (z : ℕ). z ⊕ c) (⊕-self a) ∙ zero-⊕ c)
 
-pub small-of-top : (x d : ℕ) → x / 2 ^ d ≡ 0 → x < 2 ^ d
+small-of-top : (x d : ℕ) → x / 2 ^ d ≡ 0 → x < 2 ^ d
 small-of-top x d e =
     subst (λ (z : ℕ). z < 2 ^ d) (sym (zero-add _) ∙ ap (λ (z : ℕ). z + x % 2 ^ d) (sym (zero-mul (2 ^ d)) ∙ ap (λ (z : ℕ). z * 2 ^ d) (sym e)) ∙ div-add-mod' x (2 ^ d)) (mod-lt x (pow-pos d))
 
-pub into-lt : (d g r b : ℕ) → r < 2 ^ d → b < 2 → g / 2 ^ d ≡ 1 → into d g r b < 2 ^ d
+into-lt : (d g r b : ℕ) → r < 2 ^ d → b < 2 → g / 2 ^ d ≡ 1 → into d g r b < 2 ^ d
 unfolding into shifted
 into-lt d g r b hr hb e = small-of-top _ d (⊕-div v (t * g) d ∙ ap₂ _⊕_ top low ∙ ⊕-self t)
   where
@@ -132,7 +132,7 @@ pub rem-digits : (d g j k w : ℕ) → w < 2 ^ j → w < 2 ^ k → rem d g j w �
 rem-digits d g j k w hj hk = sym (rem-more d g k j w hj) ∙ ap (λ (m : ℕ). rem d g m w) (add-comm j k) ∙ rem-more d g j k w hk
 
 -- ---- it is additive
-pub into-add : (d g r b s c : ℕ) → into d g (r ⊕ s) (b ⊕ c) ≡ into d g r b ⊕ into d g s c
+into-add : (d g r b s c : ℕ) → into d g (r ⊕ s) (b ⊕ c) ≡ into d g r b ⊕ into d g s c
 unfolding into shifted
 into-add d g r b s c =
     ap (λ (x : ℕ). x ⊕ (x / 2 ^ d % 2 * g)) (ap (λ (z : ℕ). z ⊕ (b ⊕ c)) (⊕-double r s) ∙ ⊕-swap (r * 2) (s * 2) b c)
@@ -218,7 +218,7 @@ clmul-degree (suc k) q m g h =
     up : m ≤ suc (k + m)
     up = omega arith
 
-pub rem-multiple : (d g k q : ℕ) → g / 2 ^ d ≡ 1 → rem d g (k + suc d) (clmul k q g) ≡ 0
+rem-multiple : (d g k q : ℕ) → g / 2 ^ d ≡ 1 → rem d g (k + suc d) (clmul k q g) ≡ 0
 unfolding clmul
 rem-multiple d g zero q e = rem-zero d g (0 + suc d)
 rem-multiple d g (suc k) q e =

@@ -11,6 +11,7 @@ use mir.Val.{SFits, toZ, ofZ}
 use mir.ValLaws.{toZ-ofZ}
 use lib.Bits.{bitXor, xor-shr}
 use borrow.Author.Tests.{lt-ltb, le-ltb}
+use Rattle.laws.specs.Choice.{by-cond}
 
 abbrev pub minZ : ℤ → ℤ → ℤ
 minZ a b = cond (ltZ a b) a b
@@ -91,35 +92,18 @@ sign-test (pos n) = le-ltb n 0 (omega arith)
 sign-test (negsuc n) = refl
 
 pub cond-nonneg : (b : Bool) (x y : ℤ) → ltZ x (pos 0) ≡ false → ltZ y (pos 0) ≡ false → ltZ (cond b x y) (pos 0) ≡ false
-cond-nonneg true x y p q = p
-cond-nonneg false x y p q = q
+cond-nonneg b x y p q = by-cond (λ z. ltZ z (pos 0) ≡ false) b x y (λ _. p) (λ _. q)
 
 pub max-nonneg : (z : ℤ) → ltZ (maxZ z (pos 0)) (pos 0) ≡ false
-max-nonneg z = go (ltZ z (pos 0)) refl
-  where
-    go : (b : Bool) → ltZ z (pos 0) ≡ b → ltZ (cond b (pos 0) z) (pos 0) ≡ false
-    go true e = refl
-    go false e = e
+max-nonneg z = by-cond (λ y. ltZ y (pos 0) ≡ false) (ltZ z (pos 0)) (pos 0) z (λ _. refl) (λ e. e)
 
 pub times-swap : (a b c : Bool) → times (times a b) c ≡ times (times a c) b
-times-swap true true true = refl
+times-swap a true true = refl
+times-swap a false false = refl
 times-swap true true false = refl
 times-swap true false true = refl
-times-swap true false false = refl
-times-swap false true true = refl
 times-swap false true false = refl
 times-swap false false true = refl
-times-swap false false false = refl
-
-pub times-assoc : (a b c : Bool) → times (times a b) c ≡ times a (times b c)
-times-assoc true true true = refl
-times-assoc true true false = refl
-times-assoc true false true = refl
-times-assoc true false false = refl
-times-assoc false true true = refl
-times-assoc false true false = refl
-times-assoc false false true = refl
-times-assoc false false false = refl
 
 pub times-twice : (a b : Bool) → times (times a b) b ≡ a
 times-twice true true = refl

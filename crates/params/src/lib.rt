@@ -1,6 +1,6 @@
 // Lengths of ISDB-S3 (ARIB STD-B44 v2.1 sections 3.2 to 3.4): the code, the slot, the frame, and the eleven rates r / 120.
 ghost use mathlib.Core.Path.{_≡_};
-ghost use Prim.Native.Nat.{_+_, _-_, _*_, _<_, _≤_};
+ghost use Prim.Native.Nat.{_<_, _≤_};
 ghost use lib.ListN.{getD};
 ghost use Rattle.params.specs.Lengths.{rates, kOf, pOf, qOf, dataOf};
 

@@ -1,13 +1,13 @@
 -- `sizeOf` in the three ranges of a binary32's bits: below 0.5, above 127.0, and between.
 -- `omega` takes no number of more than 38 digits, so each range is shown over variables first. Assumes nothing.
-use mathlib.Core.Path.{_≡_, refl, sym, _∙_, ap, ap₂, subst}
+use mathlib.Core.Path.{_≡_, refl, sym, _∙_, ap, ap₂}
 use Prim.Native.Nat.{ℕ, zero, suc, _+_, _-_, _*_, _/_, _%_, _^_, _<_, _≤_, min}
 use native.Mathlib.Nat.{min-eq-right, min-eq-left, div-eq-of-lt, le-div-iff-mul-le, mul-div-mul-right, mul-le-mul-left, mul-le-mul-right, le-trans, mul-comm, mod-eq-of-lt}
 use native.Mathlib.Omega.{arith}
 use mathlib.Core.Bool.{Bool, true, false}
 use borrow.Author.Tests.{ltb-true, ltb-false}
 use lib.Dec.{ltb, lit<, lit≤}
-use lib.Pow.{pow-add, pow-pos, pow-mono}
+use lib.Pow.{pow-add, pow-mono}
 use Rattle.quantise.specs.Soft.{nearest}
 use Rattle.quantise.specs.Bits.{unitsAt, sizeOf}
 

@@ -1,6 +1,6 @@
 -- A byte at a place of a text, and what is left of the text there.
 use mathlib.Core.Path.{_≡_, sym, ap, _∙_, subst}
-use mathlib.Core.Bool.{Bool, false}
+use mathlib.Core.Bool.{Bool, false, _&&_}
 use mathlib.Core.List.{List, _∷_}
 use Prim.Native.Nat.{ℕ, suc, _+_, _≤_, _<_}
 use native.Mathlib.Nat.{add-zero}
@@ -12,7 +12,6 @@ use lib.Dec.{leb}
 use lib.ListN.{length, drop, getD, List·getD-eq-default}
 use lib.Seq.{drop-cons, getD-drop}
 use Rattle.laws.specs.Decimal.{digit}
-use Rattle.laws.specs.Tests.{both}
 use Rattle.report_form.specs.Form.{Found, Missing, byte}
 
 pub head-at : (t : List ℕ) (at : ℕ) → getD (drop at t) 0 0 ≡ getD t at 0
@@ -41,7 +40,7 @@ pub byte-missing : (t : List ℕ) (at b : ℕ) → (getD t at 0 ≡ b → ⊥) �
 byte-missing t at b h = record { none = λ a r w f e. h (sym (head-at t at) ∙ ap (λ (l : List ℕ). getD l 0 0) e) }
 
 pub digit-low : (b : ℕ) → b < 48 → digit b ≡ false
-digit-low b h = ap (λ (x : Bool). both x (leb b 57)) (lt-leb 48 b h)
+digit-low b h = ap (λ (x : Bool). x && leb b 57) (lt-leb 48 b h)
 
 pub digit-high : (b : ℕ) → 48 ≤ b → digit b ≡ leb b 57
-digit-high b h = ap (λ (x : Bool). both x (leb b 57)) (le-leb 48 b h)
+digit-high b h = ap (λ (x : Bool). x && leb b 57) (le-leb 48 b h)

@@ -1,6 +1,6 @@
 -- Lists read item by item: whether one more may come.
 use mathlib.Core.Path.{_≡_, refl, sym, _∙_}
-use mathlib.Core.Bool.{Bool, true, false}
+use mathlib.Core.Bool.{Bool, true, false, _&&_, and-eq-true-iff}
 use mathlib.Core.Logic.{_⊎_, inl, inr}
 use mathlib.Core.List.{List, [], _∷_, _++_}
 use Prim.Native.Nat.{ℕ, suc, _+_, _≤_, _<_}
@@ -8,26 +8,20 @@ use native.Mathlib.Omega.{arith}
 use borrow.Author.Tests.{ltb-true, ltb-false, eqb-true, eqb-false}
 use lib.Dec.{ltb, eqb}
 use lib.ListN.{length, drop, getD, length-append}
-use Rattle.laws.specs.Tests.{both}
 use Rattle.report_form.specs.Description.{All}
-use Rattle.report_form.specs.Form.{right-wrong}
 use Rattle.report_form.proofs.Bytes.{head-at}
 
-both-true : (a b : Bool) → both a b ≡ true → (a ≡ true) × (b ≡ true)
-both-true true b e = (refl, e)
-both-true false b e = absurd (right-wrong (sym e))
+and-false-or : (a b : Bool) → (a && b) ≡ false → (a ≡ false) ⊎ (b ≡ false)
+and-false-or true b e = inr e
+and-false-or false b e = inl refl
 
-both-false : (a b : Bool) → both a b ≡ false → (a ≡ false) ⊎ (b ≡ false)
-both-false true b e = inr e
-both-false false b e = inl refl
-
-goes-yes : {r : Bool} (count most b mark : ℕ) → r ≡ both (ltb count most) (eqb b mark) → r ≡ true → (count < most) × (b ≡ mark)
+goes-yes : {r : Bool} (count most b mark : ℕ) → r ≡ (ltb count most && eqb b mark) → r ≡ true → (count < most) × (b ≡ mark)
 goes-yes count most b mark e h =
-    let (p, q) = both-true (ltb count most) (eqb b mark) (sym e ∙ h) in
+    let (p, q) = and-eq-true-iff (ltb count most) (eqb b mark) .0 (sym e ∙ h) in
     (ltb-true count most p, eqb-true b mark q)
 
-goes-no : {r : Bool} (count most b mark : ℕ) → r ≡ both (ltb count most) (eqb b mark) → r ≡ false → (most ≤ count) ⊎ (b ≡ mark → ⊥)
-goes-no count most b mark e h = go (both-false (ltb count most) (eqb b mark) (sym e ∙ h))
+goes-no : {r : Bool} (count most b mark : ℕ) → r ≡ (ltb count most && eqb b mark) → r ≡ false → (most ≤ count) ⊎ (b ≡ mark → ⊥)
+goes-no count most b mark e h = go (and-false-or (ltb count most) (eqb b mark) (sym e ∙ h))
   where
     go : (ltb count most ≡ false) ⊎ (eqb b mark ≡ false) → (most ≤ count) ⊎ (b ≡ mark → ⊥)
     go (inl p) = inl (ltb-false count most p)
@@ -40,13 +34,13 @@ pub length-snoc : {A : Type 0} (xs : List A) (x : A) → length (xs ++ x ∷ [])
 length-snoc xs x = omega (arith, length-append xs (x ∷ []))
 
 -- the same of a place in a text
-pub goes-mark : {r : Bool} (text : List ℕ) (count most i mark : ℕ) → r ≡ both (ltb count most) (eqb (getD text i 0) mark) → r ≡ true → getD (drop i text) 0 0 ≡ mark
+pub goes-mark : {r : Bool} (text : List ℕ) (count most i mark : ℕ) → r ≡ (ltb count most && eqb (getD text i 0) mark) → r ≡ true → getD (drop i text) 0 0 ≡ mark
 goes-mark text count most i mark e h = head-at text i ∙ goes-yes count most (getD text i 0) mark e h .1
 
-pub goes-room : {r : Bool} (text : List ℕ) (count most i mark : ℕ) → r ≡ both (ltb count most) (eqb (getD text i 0) mark) → r ≡ true → count < most
+pub goes-room : {r : Bool} (text : List ℕ) (count most i mark : ℕ) → r ≡ (ltb count most && eqb (getD text i 0) mark) → r ≡ true → count < most
 goes-room text count most i mark e h = goes-yes count most (getD text i 0) mark e h .0
 
-pub goes-end : {r : Bool} (text : List ℕ) (count most i mark : ℕ) → r ≡ both (ltb count most) (eqb (getD text i 0) mark) → r ≡ false → (most ≤ count) ⊎ (getD (drop i text) 0 0 ≡ mark → ⊥)
+pub goes-end : {r : Bool} (text : List ℕ) (count most i mark : ℕ) → r ≡ (ltb count most && eqb (getD text i 0) mark) → r ≡ false → (most ≤ count) ⊎ (getD (drop i text) 0 0 ≡ mark → ⊥)
 goes-end text count most i mark e h = go (goes-no count most (getD text i 0) mark e h)
   where
     go : (most ≤ count) ⊎ (getD text i 0 ≡ mark → ⊥) → (most ≤ count) ⊎ (getD (drop i text) 0 0 ≡ mark → ⊥)

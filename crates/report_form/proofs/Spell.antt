@@ -1,13 +1,13 @@
 -- Digits read one by one: the number that they spell so far.
 use mathlib.Core.Path.{_≡_, refl, sym, ap, ap₂, _∙_, subst}
-use mathlib.Core.Bool.{true, false}
+use mathlib.Core.Bool.{true, false, _&&_}
 use mathlib.Core.List.{List, [], _∷_, _++_, append-assoc}
 use Prim.Native.Nat.{ℕ, _+_, _-_, _*_, _≤_, _<_}
 use native.Mathlib.Omega.{arith}
 use borrow.Author.Tests.{le-leb}
 use lib.Dec.{T, leb, leb→le}
+use lib.Ieee.Fits.{and-l, and-r}
 use lib.ListN.{drop, getD}
-use Rattle.laws.specs.Tests.{both, both-l, both-r}
 use Rattle.laws.specs.Decimal.{decimal, digit, decimal-small, decimal-snoc, decimal-digits, decimal-prefix, decimal-leads, span-prefix}
 use Rattle.report_form.specs.Form.{Found, Missing}
 use Rattle.report_form.specs.Forms.{numbers}
@@ -16,7 +16,7 @@ use Rattle.report_form.proofs.Bytes.{head-at, byte-here}
 pub digit-bounds : (b : ℕ) → digit b ≡ true → (48 ≤ b) × (b ≤ 57)
 digit-bounds b e =
     let h : T (digit b) = subst T (sym e) tt in
-    (leb→le 48 b (both-l (leb 48 b) (leb b 57) h), leb→le b 57 (both-r (leb 48 b) (leb b 57) h))
+    (leb→le 48 b (and-l (leb 48 b) (leb b 57) h), leb→le b 57 (and-r (leb 48 b) (leb b 57) h))
 
 -- value's digits stand from at to i; a number that is not 0, at most one digit longer than a number within the bound
 pub record Spelled (t : List ℕ) (at most value i : ℕ) : Type 0 where
@@ -98,4 +98,4 @@ digit-missing t at most h =
     }
   where
     digit-yes : (b : ℕ) → 48 ≤ b → b ≤ 57 → digit b ≡ true
-    digit-yes b lo hi = ap₂ both (le-leb 48 b lo) (le-leb b 57 hi)
+    digit-yes b lo hi = ap₂ _&&_ (le-leb 48 b lo) (le-leb b 57 hi)

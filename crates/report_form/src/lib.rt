@@ -1,6 +1,6 @@
 // Reads the report's text: a description within the limits, or refusal 1.
 ghost use mathlib.Core.Path.{_≡_};
-ghost use mathlib.Core.Bool.{true, false};
+ghost use mathlib.Core.Bool.{true, _&&_};
 ghost use Prim.Native.Nat.{ℕ, _+_, _-_, _*_, _≤_, _<_};
 ghost use lib.IntN.{negsuc};
 ghost use lib.Dec.{ltb, eqb};
@@ -8,7 +8,6 @@ ghost use mathlib.Core.List.{List};
 ghost use lib.ListN.{length, drop, getD, replicate};
 ghost use lib.Seq.{sets};
 ghost use Rattle.laws.specs.Decimal.{digit};
-ghost use Rattle.laws.specs.Tests.{both};
 ghost use Rattle.report_form.specs.Description.{Pair, Word};
 ghost use Rattle.report_form.specs.Reading.{stored, softWord, softWords, refusedReading, RightReading};
 ghost use Rattle.report_form.specs.Places.{PairsAt, PairsHere, WordAt, WordHere, WordsAt, WordsHere, Filled};
@@ -334,7 +333,7 @@ fn read_pair(text: &[u8], at: usize) -> Entry
 
 // Whether a list of at most `most` items goes on: there is room, and the next item's mark.
 fn goes_on(text: &[u8], at: usize, mark: u8, count: u32, most: u32) -> bool
-    ensures { λ r. ⌜ r ≡ both (ltb count most) (eqb (getD (now (text .entry)) at 0) mark) ⌝ }
+    ensures { λ r. ⌜ r ≡ (ltb count most && eqb (getD (now (text .entry)) at 0) mark) ⌝ }
 {
     if count < most {
         byte_at(text, at) == mark

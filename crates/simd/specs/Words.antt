@@ -1,20 +1,19 @@
 -- Lane i's word: its values are rows 0 to n − 1 of column i, its messages the E rows behind them. The column laws.
-use mathlib.Core.Path.{_≡_, refl, sym, ap, subst, _∙_}
+use mathlib.Core.Path.{_≡_, refl, sym, ap, _∙_}
 use mathlib.Core.Bool.{Bool, true, false, cond}
 use mathlib.Core.List.{List}
-use Prim.Native.Nat.{ℕ, zero, suc, _+_, _*_, _-_, _/_, _%_, _≤_, _<_}
+use Prim.Native.Nat.{ℕ, zero, suc, _+_, _%_, _≤_, _<_}
 use native.Mathlib.Omega.{arith}
-use native.Mathlib.Nat.{div-add-mod', mod-lt, mul-le-mul-right}
-use borrow.Author.Tests.{ltb-true, ltb-false, lt-ltb, le-ltb, eqb-true, eqb-false, eq-eqb, ne-eqb}
+use borrow.Author.Tests.{ltb-true, lt-ltb, eqb-true, eqb-false, eq-eqb, ne-eqb}
 use lib.Dec.{ltb, eqb}
 use lib.ListN.{getD, length}
 use lib.IntN.{ℤ, pos, _+ℤ_, _-ℤ_}
-use Rattle.laws.specs.Signed.{negative, times}
+use Rattle.laws.specs.Choice.{by-bool}
 use Rattle.lane_math.specs.Value.{satZ}
 use Rattle.lane_math.specs.Check.{Word, check, message, put, wrote, tOf, newL, newR}
 use Rattle.lane_math.specs.Iteration.{unsatisfied, negatives, hard}
-use Rattle.lane_math.specs.Laws.{message-same, wrote-same, put-other, parity, unsatisfied-is}
-use Rattle.lane16.specs.Lanes.{z, Decided}
+use Rattle.lane_math.specs.Laws.{message-same, wrote-same, put-other, unsatisfied-is}
+use Rattle.lane16.specs.Lanes.{Decided}
 use Rattle.lane_memory.specs.Column.{column, Mapped}
 use Rattle.lane_memory.specs.Room.{var, Room}
 use Rattle.simd.specs.Pass.{tAt, written, checkColumn, Signs}
@@ -45,20 +44,15 @@ within-at m f u h = ap (λ (b : Bool). cond b (f u) (pos 0)) (lt-ltb u m h)
 
 within-put : (m : ℕ) (f : ℕ → ℤ) (u : ℕ) (x : ℤ) → u < m → within m (put f u x) ≡ put (within m f) u x
 unfolding within put
-within-put m f u x h = λ i w. go w (eqb w u) refl i
-  where
-    go : (w : ℕ) (b : Bool) → eqb w u ≡ b → cond (ltb w m) (cond b x (f w)) (pos 0) ≡ cond b x (cond (ltb w m) (f w) (pos 0))
-    go w true e = let k : w ≡ u = eqb-true w u e in ap (λ (b : Bool). cond b x (pos 0)) (lt-ltb w m (omega arith))
-    go w false e = refl
+within-put m f u x h =
+    λ i w. by-bool (λ b. cond (ltb w m) (cond b x (f w)) (pos 0) ≡ cond b x (cond (ltb w m) (f w) (pos 0))) (eqb w u)
+    (λ e. ap (λ (b : Bool). cond b x (pos 0)) (lt-ltb w m (omega (arith, eqb-true w u e)))) (λ _. refl) i
 
 -- a row that none of the first m is
 within-other : (m : ℕ) (f g : ℕ → ℤ) → ((w : ℕ) → w < m → f w ≡ g w) → within m f ≡ within m g
 unfolding within
-within-other m f g h = λ i w. go w (ltb w m) refl i
-  where
-    go : (w : ℕ) (b : Bool) → ltb w m ≡ b → cond b (f w) (pos 0) ≡ cond b (g w) (pos 0)
-    go w true e = h w (ltb-true w m e)
-    go w false e = refl
+within-other m f g h =
+    λ i w. by-bool (λ b. cond b (f w) (pos 0) ≡ cond b (g w) (pos 0)) (ltb w m) (λ e. h w (ltb-true w m e)) (λ _. refl) i
 
 -- base + e in place of e
 pub shifted-put : (base : ℕ) (f : ℕ → ℤ) (u : ℕ) (x : ℤ) → _≡_ {A = ℕ → ℤ} (λ e. put f (base + u) x (base + e)) (put (λ e. f (base + e)) u x)

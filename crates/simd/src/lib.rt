@@ -4,7 +4,7 @@
 // Sixteen lanes are loaded and worked on at a time, and w of them stored: 16, 8, 4 or 1. Of 32 lanes or more, thirty-two are scanned in
 // one pass, so that each row is fetched once for both halves.
 use lane16::Pass;
-ghost use Prim.Native.Nat.{_<_, _≤_, _+_, _*_};
+ghost use Prim.Native.Nat.{_<_, _≤_, _+_};
 ghost use lib.ListN.{length};
 ghost use Rattle.lane16.specs.Lanes.{NoneNegative};
 ghost use Rattle.lane_memory.specs.Column.{Part};

@@ -1,6 +1,6 @@
 // Replays texts for the report. Standard input has each behind its length, four bytes, lowest first; the file stdout holds
 // their reports by the unchanged Rust's answers and the refusals of the form (compare/oracle/src/bin/report.rs).
-ghost use Prim.Native.Nat.{_+_, _<_, _≤_};
+ghost use Prim.Native.Nat.{_<_, _≤_};
 ghost use lib.ListN.{length};
 
 fn wide(b: u8) -> usize

@@ -3,7 +3,7 @@
 // iterations given, kept, lost), a sum over the whole lent output, and of both work slices how many zeros stand in front and
 // how many numbers behind are as they were. A word prints state, iterations, unsatisfied checks, BCH result, and 1 if the check that it
 // names is one of its unsatisfied checks, or 0 if there is none.
-ghost use Prim.Native.Nat.{_+_, _<_, _≤_};
+ghost use Prim.Native.Nat.{_<_, _≤_};
 use decoder::Ran;
 use decoder::Schedule;
 use decoder::Settings;

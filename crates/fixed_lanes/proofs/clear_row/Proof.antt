@@ -1,12 +1,11 @@
 use borrow.Author.Needs.{needs}
 use native.Mathlib.Omega.{arith}
-use mathlib.Core.Path.{_≡_, refl, ap, sym, _∙_}
+use mathlib.Core.Path.{_≡_, refl, ap, _∙_}
 use mathlib.Core.Bool.{cond}
-use Prim.Native.Nat.{ℕ, _+_, _*_, _-_, _≤_, _<_}
+use Prim.Native.Nat.{_-_, _≤_}
 use lib.ListN.{length}
 use lib.IntN.{ℤ, pos}
 use Rattle.laws.specs.Signed.{plain}
-use Rattle.lane_memory.specs.Column.{column}
 use Rattle.fixed_lanes.specs.Clear.{RowCleared, on, row-start, row-again, row-end}
 use Rattle.fixed_lanes.proofs.clear_row.Statement.{statement}
 use Rattle.fixed_lanes.proofs.clear_row.Tie as tie
@@ -34,9 +33,10 @@ pick-requires c κs = search needs
 
 place-requires : tie.Need-place-requires Inv-loop μ-loop
 place-requires c κs =
-    let s = c .before .before .before .before .before .before .before in
-    let h = c .before .before .before .before .before .before in
-    (omega (arith, s .pre .0, c .before .before .before .before .before .loop-test .taken, h .loop .inv .1 .0), c .before .before .before .before .before .loop-test .taken)
+    let t = c .before .before .before .before .before in
+    let h = t .before in
+    let s = h .before in
+    (omega (arith, s .pre .0, t .loop-test .taken, h .loop .inv .1 .0), t .loop-test .taken)
 
 add-i : tie.Need-add-i Inv-loop μ-loop
 add-i c = search needs

@@ -1,8 +1,8 @@
 use borrow.Author.Needs.{needs}
 use native.Mathlib.Omega.{arith}
-use mathlib.Core.Path.{_≡_, refl, ap, sym, _∙_}
-use Prim.Native.Nat.{ℕ, _+_, _*_, _-_, _≤_, _<_}
-use lib.ListN.{length, length-set}
+use mathlib.Core.Path.{refl, ap, sym, _∙_}
+use Prim.Native.Nat.{_-_, _≤_}
+use lib.ListN.{length-set}
 use lib.IntN.{ℤ}
 use Rattle.lane_math.specs.Iteration.{hard}
 use Rattle.lane_memory.specs.Column.{column}

@@ -1,6 +1,5 @@
-use native.Mathlib.Omega.{arith}
 use borrow.Author.Needs.{needs}
-use mathlib.Core.Path.{_≡_, sym, subst}
+use mathlib.Core.Path.{sym, subst}
 use Prim.Native.Nat.{_+_, _*_}
 use lib.ListN.{set}
 use lib.IntN.{ℤ}

@@ -1,10 +1,10 @@
 -- `fixed_lanes::some_fresh` meets its contract. The loop's invariant: none of the first i lanes is fresh.
-use mathlib.Core.Path.{_≡_, refl, sym, ap, _∙_}
-use mathlib.Core.Bool.{Bool, true, false}
-use Prim.Native.Nat.{ℕ, _-_, _≤_, _<_}
+use mathlib.Core.Path.{_≡_, sym, ap, _∙_}
+use mathlib.Core.Bool.{false}
+use Prim.Native.Nat.{_-_, _≤_}
 use borrow.Author.Needs.{needs}
 use native.Mathlib.Omega.{arith}
-use Rattle.fixed_lanes.specs.Clear.{on, someFresh, none-start, none-again, some-at}
+use Rattle.fixed_lanes.specs.Clear.{someFresh, none-start, none-again, some-at}
 use Rattle.fixed_lanes.proofs.some_fresh.Statement.{statement}
 use Rattle.fixed_lanes.proofs.some_fresh.Tie as tie
 

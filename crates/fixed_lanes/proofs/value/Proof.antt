@@ -1,7 +1,5 @@
-use native.Mathlib.Omega.{arith}
 use borrow.Author.Needs.{needs}
 use Prim.Native.Nat.{_+_, _*_}
-use mathlib.Core.Path.{_≡_, _∙_}
 use lib.ListN.{getD}
 use lib.IntN.{pos}
 use borrow.Author.Needs.{sfits-of}

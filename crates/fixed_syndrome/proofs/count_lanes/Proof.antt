@@ -1,7 +1,7 @@
 use borrow.Author.Needs.{needs}
 use native.Mathlib.Omega.{arith}
 use mathlib.Core.Path.{_≡_, refl}
-use Prim.Native.Nat.{ℕ, _+_, _*_, _-_, _≤_, _<_}
+use Prim.Native.Nat.{_*_, _-_, _≤_, _<_}
 use lib.ListN.{length, getD-replicate}
 use Rattle.fixed_code.specs.Lists.{rows-part}
 use Rattle.fixed_syndrome.specs.Chunk.{Filled, filled-start, filled-again}
@@ -78,12 +78,16 @@ loop-less c = search needs
 
 loop-again : tie.Need-loop-again Inv-loop μ-loop
 loop-again c =
-    let s = c .before .before .before .before .before .before .before .before .before .before .before .before .before in
-    let h = c .before .before .before .before .before .before .before .before .before .before .before in
-    let k = c .before .before .before .before .before .before .before .before .count-rows in
-    let f = c .before .before .before .before .fill in
-    let g = c .before .fill2 in
-    let q : h .loop .j < 4 = omega (arith, c .before .before .before .before .before .before .before .before .before .before .loop-test .taken, s .pre .0 .few-lanes) in (
+    let f2 = c .before in
+    let f′ = f2 .before .before .before in
+    let c′ = f′ .before .before .before .before in
+    let t = c′ .before .before in
+    let h = t .before in
+    let s = h .before .before in
+    let k = c′ .count-rows in
+    let f = f′ .fill in
+    let g = f2 .fill2 in
+    let q : h .loop .j < 4 = omega (arith, t .loop-test .taken, s .pre .0 .few-lanes) in (
       omega (arith, q),
       (
         omega (arith, f .ensures .long, h .loop .inv .1 .0),

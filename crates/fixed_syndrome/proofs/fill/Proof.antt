@@ -1,10 +1,9 @@
 use borrow.Author.Needs.{needs}
 use native.Mathlib.Omega.{arith}
-use mathlib.Core.Path.{_≡_, refl}
 use mathlib.Core.Bool.{cond}
-use Prim.Native.Nat.{ℕ, _+_, _-_, _≤_}
+use Prim.Native.Nat.{_+_, _-_, _≤_}
 use lib.Dec.{ltb}
-use lib.ListN.{length, getD}
+use lib.ListN.{getD}
 use Rattle.fixed_syndrome.specs.Chunk.{Written, written-start, written-again, written-end}
 use Rattle.fixed_syndrome.proofs.fill.Statement.{statement}
 use Rattle.fixed_syndrome.proofs.fill.Tie as tie

@@ -1,10 +1,10 @@
 use borrow.Author.Needs.{needs}
 use native.Mathlib.Omega.{arith}
-use mathlib.Core.Path.{_≡_, refl}
+use mathlib.Core.Path.{refl}
 use mathlib.Core.Bool.{false}
-use Prim.Native.Nat.{ℕ, _+_, _-_, _≤_}
+use Prim.Native.Nat.{_-_, _≤_}
 use lib.Dec.{eqb}
-use lib.ListN.{length, getD}
+use lib.ListN.{getD}
 use Rattle.fixed_syndrome.specs.Chunk.{Written, written-start, written-again, written-end}
 use Rattle.fixed_syndrome.proofs.judge.Statement.{statement}
 use Rattle.fixed_syndrome.proofs.judge.Tie as tie

@@ -2,7 +2,7 @@ use borrow.Author.Needs.{needs}
 use native.Mathlib.Omega.{arith}
 use mathlib.Core.Path.{_≡_, refl}
 use mathlib.Core.Bool.{false}
-use Prim.Native.Nat.{ℕ, _+_, _*_, _-_, _≤_, _<_}
+use Prim.Native.Nat.{_*_, _-_, _≤_, _<_}
 use lib.ListN.{length, getD-replicate}
 use Rattle.fixed_code.specs.Lists.{rows-part}
 use Rattle.fixed_syndrome.specs.Chunk.{Filled, filled-start, filled-again}
@@ -70,14 +70,18 @@ loop-less c = search needs
 
 loop-again : tie.Need-loop-again Inv-loop μ-loop
 loop-again c =
-    let s = c .before .before .before .before .before .before .before .before .before .before .before in
-    let h = c .before .before .before .before .before .before .before .before in
-    let w = c .before .judge in
-    let q : h .loop .j < 4 = omega (arith, c .before .before .before .before .before .before .before .loop-test .taken, s .pre .few-lanes) in (
+    let j′ = c .before in
+    let m = j′ .before .before in
+    let l16 = m .before .before in
+    let t = l16 .before .before in
+    let h = t .before in
+    let s = h .before .before .before in
+    let w = j′ .judge in
+    let q : h .loop .j < 4 = omega (arith, t .loop-test .taken, s .pre .few-lanes) in (
       omega (arith, q),
       (
         omega (arith, w .ensures .long, h .loop .inv .1 .0),
-        filled-again (h .loop .j) (h .loop .inv .1 .1) (w .ensures) (verdicts-in (c .before .before .before .before .before .lanes16 .ensures) (c .before .before .before .met-rows .ensures)),
+        filled-again (h .loop .j) (h .loop .inv .1 .1) (w .ensures) (verdicts-in (l16 .lanes16 .ensures) (m .met-rows .ensures)),
       ),
     )
 

@@ -1,10 +1,10 @@
 use borrow.Author.Needs.{needs}
 use native.Mathlib.Omega.{arith}
-use mathlib.Core.Bool.{Bool, true, false, not, _&&_}
+use mathlib.Core.Bool.{not, and-eq-true-iff}
 use mathlib.Core.Path.{_≡_, sym, _∙_, subst}
 use mathlib.Core.List.{List}
-use Prim.Native.Nat.{ℕ, _+_, _-_, _%_, _≤_, _<_}
-use lib.Dec.{T, eqb}
+use Prim.Native.Nat.{ℕ, _+_, _-_, _%_, _≤_}
+use lib.Dec.{eqb}
 use lib.ListN.{getD}
 use Rattle.lane_memory.specs.Room.{Room}
 use Rattle.simd.specs.Words.{SignParity}
@@ -13,10 +13,6 @@ use Rattle.fixed_syndrome.specs.Chunk.{least}
 use Rattle.fixed_syndrome.specs.Met.{Seen, seen-start, seen-again, seen-none, seen-end}
 use Rattle.fixed_syndrome.proofs.met_rows.Statement.{statement}
 use Rattle.fixed_syndrome.proofs.met_rows.Tie as tie
-
-and-right : (a b : Bool) → (a && b) ≡ true → b ≡ true
-and-right true b e = e
-and-right false b e = absurd (subst T (sym e) tt)
 
 abbrev Inv-loop : tie.InvT-loop
 Inv-loop index rows work n p lanes at v₀ c₀ v c = (c ≤ p) × Seen n p lanes index work at v₀ c v
@@ -52,33 +48,32 @@ add-c c = search needs
 none-left-requires : tie.Need-none-left-requires Inv-loop μ-loop
 none-left-requires c κs = search needs
 
+-- the sixteen lanes after the check that was gone through
+seen-more : (c : tie.After-larger Inv-loop μ-loop) → let h = c .before .before .before .before .before in let a = h .before .before .before .args in
+    Seen (a .n) (a .p) (a .lanes) (a .index .now) (a .work .now) (a .at) (a .first) (h .loop .c + 1) (c .larger .result)
+seen-more c =
+    let g = c .before in
+    let d = g .before in
+    let r = d .before in
+    let t = r .before in
+    let h = t .before in
+    let s = h .before .before .before in
+    let f : r .start .result + d .degree .result ≡ getD (s .args .index .now) (h .loop .c + 1) 0 = omega (arith, r .start .ensures, d .degree .ensures) in
+    seen-again (s .pre .0 .0) (t .loop-test .taken) (r .start .ensures) f (h .loop .inv .1)
+    (subst (λ (l : List ℕ). SignParity l (r .start .result) (d .degree .result) (s .args .lanes) (s .args .at) (s .args .work .now) (g .sign-parity .result)) (s .pre .0 .1) (g .sign-parity .ensures)) (c .larger .ensures)
+
 returns : tie.Need-returns Inv-loop μ-loop
 returns c =
-    let s = c .before .before .before .before .before .before .before .before .before .before in
-    let h = c .before .before .before .before .before .before .before in
-    let l = c .before .before .before .before .before .before .loop-test .taken in
-    let r = c .before .before .before .before .before .start in
-    let d = c .before .before .before .before .degree in
-    let b = c .before .before .before .sign-parity in
-    let f : r .result + d .result ≡ getD (s .args .index .now) (h .loop .c + 1) 0 = omega (arith, r .ensures, d .ensures) in
-    let x = subst (λ (l : List ℕ). SignParity l (r .result) (d .result) (s .args .lanes) (s .args .at) (s .args .work .now) (b .result)) (s .pre .0 .1) (b .ensures) in
-    seen-none (omega (arith, l)) (and-right (eqb ((h .loop .c + 1) % 16) 0) (not (eqb (least (c .before .before .larger .result) 16) 0)) (sym (c .before .none-left .ensures) ∙ c .if1 .taken))
-    (seen-again (s .pre .0 .0) l (r .ensures) f (h .loop .inv .1) x (c .before .before .larger .ensures))
+    let m = c .before .before in
+    let t = m .before .before .before .before in
+    seen-none (omega (arith, t .loop-test .taken)) (and-eq-true-iff (eqb ((t .before .loop .c + 1) % 16) 0) (not (eqb (least (m .larger .result) 16) 0)) .0 (sym (c .before .none-left .ensures) ∙ c .if1 .taken) .1)
+    (seen-more m)
 
 loop-less : tie.Need-loop-less Inv-loop μ-loop
 loop-less c = search needs
 
 loop-again : tie.Need-loop-again Inv-loop μ-loop
-loop-again c =
-    let s = c .before .before .before .before .before .before .before .before .before .before in
-    let h = c .before .before .before .before .before .before .before in
-    let l = c .before .before .before .before .before .before .loop-test .taken in
-    let r = c .before .before .before .before .before .start in
-    let d = c .before .before .before .before .degree in
-    let b = c .before .before .before .sign-parity in
-    let f : r .result + d .result ≡ getD (s .args .index .now) (h .loop .c + 1) 0 = omega (arith, r .ensures, d .ensures) in
-    let x = subst (λ (l : List ℕ). SignParity l (r .result) (d .result) (s .args .lanes) (s .args .at) (s .args .work .now) (b .result)) (s .pre .0 .1) (b .ensures) in
-    (omega (arith, l), seen-again (s .pre .0 .0) l (r .ensures) f (h .loop .inv .1) x (c .before .before .larger .ensures))
+loop-again c = (omega (arith, c .before .before .before .before .before .before .loop-test .taken), seen-more (c .before .before))
 
 returns-2 : tie.Need-returns-2 Inv-loop μ-loop
 returns-2 c = seen-end (omega (arith, c .before .loop .inv .0, c .loop-test .left)) (c .before .loop .inv .1)

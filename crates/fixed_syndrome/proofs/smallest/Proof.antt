@@ -1,7 +1,7 @@
 use borrow.Author.Needs.{needs}
 use native.Mathlib.Omega.{arith}
 use mathlib.Core.Path.{_≡_, ap, _∙_}
-use Prim.Native.Nat.{ℕ, _-_, _≤_}
+use Prim.Native.Nat.{_-_, _≤_}
 use Rattle.fixed_syndrome.specs.Chunk.{least, least-start, least-again}
 use Rattle.fixed_syndrome.proofs.smallest.Statement.{statement}
 use Rattle.fixed_syndrome.proofs.smallest.Tie as tie

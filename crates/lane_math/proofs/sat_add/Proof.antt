@@ -1,5 +1,5 @@
 use borrow.Author.Needs.{needs, sfits-of}
-use mathlib.Core.Path.{_≡_, ap, _∙_}
+use mathlib.Core.Path.{ap, _∙_}
 use lib.IntN.{_+ℤ_}
 use mir.Syntax.{w16}
 use mir.ValLaws.{toZ-ofZ}

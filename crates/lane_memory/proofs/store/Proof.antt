@@ -1,9 +1,8 @@
 use borrow.Author.Needs.{needs}
 use native.Mathlib.Omega.{arith}
-use mathlib.Core.Path.{_≡_, refl}
-use Prim.Native.Nat.{ℕ, _+_, _*_, _-_, _≤_}
-use lib.ListN.{length, length-set}
-use lib.IntN.{pos}
+use mathlib.Core.Path.{refl}
+use Prim.Native.Nat.{_+_, _*_, _-_, _≤_}
+use lib.ListN.{length-set}
 use borrow.Author.Needs.{sfits-of}
 use Rattle.laws.specs.Signed.{plain}
 use Rattle.lane16.specs.Lanes.{z}

@@ -1,7 +1,6 @@
 -- `print_params::rates` meets its contract. Assumes nothing.
 use Prim.Native.Nat.{_≤_, _-_}
 use borrow.Author.Needs.{needs}
-use native.Mathlib.Omega.{arith}
 use Rattle.print_params.proofs.rates.Statement.{statement}
 use Rattle.print_params.proofs.rates.Tie as tie
 

@@ -1,13 +1,12 @@
 -- `report_form::goes_on` meets its contract.
 -- Assumes nothing.
 use mathlib.Core.Path.{sym, ap, _∙_}
-use mathlib.Core.Bool.{Bool}
+use mathlib.Core.Bool.{Bool, _&&_}
 use Prim.Native.Nat.{ℕ}
 use borrow.Author.Needs.{needs}
 use borrow.Author.Tests.{lt-ltb, le-ltb}
 use lib.Dec.{eqb}
 use lib.ListN.{getD}
-use Rattle.laws.specs.Tests.{both}
 use Rattle.report_form.proofs.goes_on.Statement.{statement}
 use Rattle.report_form.proofs.goes_on.Tie as tie
 
@@ -18,12 +17,12 @@ returns : tie.Need-returns
 returns c =
     let a = c .before .before .before .args in
     ap (λ (b : ℕ). eqb b (a .mark)) (c .byte-at .ensures)
-    ∙ sym (ap (λ (b : Bool). both b (eqb (getD (a .text .now) (a .at) 0) (a .mark))) (lt-ltb (a .count) (a .most) (c .before .if1 .taken)))
+    ∙ sym (ap (λ (b : Bool). b && eqb (getD (a .text .now) (a .at) 0) (a .mark)) (lt-ltb (a .count) (a .most) (c .before .if1 .taken)))
 
 returns-2 : tie.Need-returns-2
 returns-2 c =
     let a = c .before .before .args in
-    sym (ap (λ (b : Bool). both b (eqb (getD (a .text .now) (a .at) 0) (a .mark))) (le-ltb (a .count) (a .most) (c .if1 .left)))
+    sym (ap (λ (b : Bool). b && eqb (getD (a .text .now) (a .at) 0) (a .mark)) (le-ltb (a .count) (a .most) (c .if1 .left)))
 
 pub goes-on-spec : {M : Type 1} → statement M
 goes-on-spec = tie.close (tie.spec byte-at-requires returns returns-2)

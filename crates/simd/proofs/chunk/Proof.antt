@@ -2,7 +2,7 @@ use native.Mathlib.Omega.{arith}
 use borrow.Author.Needs.{needs}
 use mathlib.Core.Path.{_≡_, subst}
 use mathlib.Core.List.{List}
-use Prim.Native.Nat.{ℕ, _-_, _≤_, _<_}
+use Prim.Native.Nat.{ℕ}
 use lib.IntN.{ℤ}
 use Rattle.laws.specs.Signed.{plain}
 use Rattle.lane16.specs.Lanes.{readied-to, reduced-none-negative}
@@ -48,12 +48,15 @@ prepare-requires c κs = search needs
 
 reply-lanes-requires : tie.Need-reply-lanes-requires
 reply-lanes-requires c κs =
-    let s = c .before .before .before .before .before .before .before .before .before .before .before .before .before .before in
-    let w = c .before .before .before .before .before .before .before .before .before .before .before .width .ensures in
-    let p = c .before .before .before .before .before .before .prepare .ensures in (
+    let p′ = c .before .before .before .before .before .before in
+    let n = p′ .before .before in
+    let w′ = n .before .before .before in
+    let s = w′ .before .before .before in
+    let w = w′ .width .ensures in
+    let p = p′ .prepare .ensures in (
       s .pre .0,
       (
-        (omega (arith, w .0, s .pre .1 .0), (w .1, omega (arith, c .before .before .before .before .before .before .before .before .scan .kept, s .pre .1 .1 .0))),
+        (omega (arith, w .0, s .pre .1 .0), (w .1, omega (arith, n .scan .kept, s .pre .1 .1 .0))),
         (reduced-none-negative (p .r1), reduced-none-negative (p .r2)),
       ),
     )
@@ -66,10 +69,14 @@ same-length-5 c = search needs
 
 returns-2 : tie.Need-returns-2
 returns-2 c =
-    let s = c .before .before .before .before .before .before .before .before .before .before .before .before .before .before .before .before in
-    let w = c .before .before .before .before .before .before .before .before .before .before .before .before .before .width .ensures in
+    let r = c .before in
+    let p = r .before .before .before .before .before .before .before in
+    let n = p .before .before in
+    let w′ = n .before .before .before in
+    let s = w′ .before .before .before in
+    let w = w′ .width .ensures in
     let o = plain (s .args .offset) (s .fits .offset) in
-    ((w .1 .some, omega (arith, w .0, s .pre .1 .0)), chunk-is (c .before .before .before .before .before .before .before .before .before .before .scan .ensures) (readied-to o (c .before .before .before .before .before .before .before .before .prepare .ensures)) (w .1 .few) (c .before .reply-lanes .ensures))
+    ((w .1 .some, omega (arith, w .0, s .pre .1 .0)), chunk-is (n .scan .ensures) (readied-to o (p .prepare .ensures)) (w .1 .few) (r .reply-lanes .ensures))
 
 pub chunk-spec : {M : Type 1} → statement M
 chunk-spec =

@@ -1,7 +1,7 @@
 use borrow.Author.Needs.{needs}
 use native.Mathlib.Omega.{arith}
 use mathlib.Core.Path.{_≡_, refl}
-use Prim.Native.Nat.{ℕ, _+_, _-_, _≤_, _<_}
+use Prim.Native.Nat.{_+_, _-_, _≤_, _<_}
 use lib.ListN.{length}
 use Rattle.lane_memory.specs.Room.{var, row-room, value-row, row-fits}
 use Rattle.simd.specs.Pass.{Replied, replied-start, replied-again, replied-end}
@@ -45,35 +45,48 @@ add-u c =
 
 store-lanes-requires : tie.Need-store-lanes-requires Inv-loop μ-loop
 store-lanes-requires c κs =
-    let s = c .before .before .before .before .before .before .before .before .before in
-    let h = c .before .before .before .before .before .before .before in (
-      omega (arith, row-room (s .pre .0) (s .args .n + (s .args .s + h .loop .k)) (omega (arith, s .pre .0 .edges, c .before .before .before .before .before .before .loop-test .taken)), h .loop .inv .1 .0),
+    let t = c .before .before .before .before .before .before in
+    let h = t .before in
+    let s = h .before .before in (
+      omega (arith, row-room (s .pre .0) (s .args .n + (s .args .s + h .loop .k)) (omega (arith, s .pre .0 .edges, t .loop-test .taken)), h .loop .inv .1 .0),
       (s .pre .1 .0 .0, s .pre .1 .0 .1 .0),
     )
 
 store-lanes-requires-2 : tie.Need-store-lanes-requires-2 Inv-loop μ-loop
 store-lanes-requires-2 c κs =
-    let s = c .before .before .before .before .before .before .before .before .before .before .before .before in
-    let h = c .before .before .before .before .before .before .before .before .before .before in
-    let v = c .before .before .before .before .before .before .before .before .variable in
-    let q : v .result < s .args .n = omega (arith, v .ensures, value-row (s .pre .0) (h .loop .k) (c .before .before .before .before .before .before .before .before .before .loop-test .taken)) in
-    (omega (arith, row-room (s .pre .0) (v .result) (omega arith), c .before .before .store-lanes .kept, h .loop .inv .1 .0), (s .pre .1 .0 .0, s .pre .1 .0 .1 .0))
+    let w = c .before .before in
+    let v′ = w .before .before .before .before .before .before in
+    let t = v′ .before in
+    let h = t .before in
+    let s = h .before .before in
+    let v = v′ .variable in
+    let q : v .result < s .args .n = omega (arith, v .ensures, value-row (s .pre .0) (h .loop .k) (t .loop-test .taken)) in
+    (omega (arith, row-room (s .pre .0) (v .result) (omega arith), w .store-lanes .kept, h .loop .inv .1 .0), (s .pre .1 .0 .0, s .pre .1 .0 .1 .0))
 
 add-k : tie.Need-add-k Inv-loop μ-loop
-add-k c = record { fits = omega (arith, c .before .before .before .before .before .before .before .before .before .before .before .loop-test .taken, c .before .before .before .before .before .before .before .before .before .before .before .before .before .before .fits .d .fits) }
+add-k c =
+    let t = c .before .before .before .before .before .before .before .before .before .before .before in
+    let s = t .before .before .before in
+    record { fits = omega (arith, t .loop-test .taken, s .fits .d .fits) }
 
 loop-less : tie.Need-loop-less Inv-loop μ-loop
 loop-less c = search needs
 
 loop-again : tie.Need-loop-again Inv-loop μ-loop
 loop-again c =
-    let s = c .before .before .before .before .before .before .before .before .before .before .before .before .before .before in
-    let h = c .before .before .before .before .before .before .before .before .before .before .before .before in (
-      omega (arith, c .before .before .before .before .before .before .before .before .before .before .before .loop-test .taken),
+    let w2 = c .before in
+    let w = w2 .before .before .before in
+    let r = w .before .before .before .before in
+    let l = r .before in
+    let v = l .before in
+    let t = v .before in
+    let h = t .before in
+    let s = h .before .before in (
+      omega (arith, t .loop-test .taken),
       (
-        omega (arith, c .before .store-lanes2 .kept, c .before .before .before .before .store-lanes .kept, h .loop .inv .1 .0),
-        replied-again (s .pre .1 .0 .1 .0 .few) (h .loop .inv .1 .1) (c .before .before .before .before .before .before .before .before .before .before .variable .ensures) (c .before .before .before .before .before .before .before .before .before .load .ensures) (c .before .before .before .before .before .before .before .before .reply .ensures)
-            (c .before .before .before .before .store-lanes .ensures) (c .before .store-lanes2 .ensures),
+        omega (arith, w2 .store-lanes2 .kept, w .store-lanes .kept, h .loop .inv .1 .0),
+        replied-again (s .pre .1 .0 .1 .0 .few) (h .loop .inv .1 .1) (v .variable .ensures) (l .load .ensures) (r .reply .ensures)
+            (w .store-lanes .ensures) (w2 .store-lanes2 .ensures),
       ),
     )
 

@@ -1,7 +1,7 @@
 use borrow.Author.Needs.{needs}
 use native.Mathlib.Omega.{arith}
 use mathlib.Core.Path.{_≡_, refl}
-use Prim.Native.Nat.{ℕ, _+_, _-_, _≤_, _<_}
+use Prim.Native.Nat.{_+_, _-_, _≤_, _<_}
 use lib.ListN.{length}
 use Rattle.lane_memory.specs.Room.{var, row-room, value-row, row-fits}
 use Rattle.simd.specs.Pass.{RepliedTwo, two-start, two-again, two-end}
@@ -44,23 +44,28 @@ reply-requires-2 c κs = c .before .before .before .before .before .before .befo
 
 add-r : tie.Need-add-r Inv-loop μ-loop
 add-r c =
-    let s = c .before .before .before .before .before .before .before .before in
-    let h = c .before .before .before .before .before .before in
-    record { fits = omega (arith, row-fits (s .pre .0) (s .args .n + (s .args .s + h .loop .k)) (omega (arith, s .pre .0 .edges, c .before .before .before .before .before .loop-test .taken)), s .good) }
+    let t = c .before .before .before .before .before in
+    let h = t .before in
+    let s = h .before .before in
+    record { fits = omega (arith, row-fits (s .pre .0) (s .args .n + (s .args .s + h .loop .k)) (omega (arith, s .pre .0 .edges, t .loop-test .taken)), s .good) }
 
 store-requires : tie.Need-store-requires Inv-loop μ-loop
 store-requires c κs =
-    let s = c .before .before .before .before .before .before .before .before .before .before .before in
-    let h = c .before .before .before .before .before .before .before .before .before in
-    (omega (arith, row-room (s .pre .0) (s .args .n + (s .args .s + h .loop .k)) (omega (arith, s .pre .0 .edges, c .before .before .before .before .before .before .before .before .loop-test .taken)), h .loop .inv .1 .0), (omega (arith, s .pre .1 .0 .0), omega arith))
+    let t = c .before .before .before .before .before .before .before .before in
+    let h = t .before in
+    let s = h .before .before in
+    (omega (arith, row-room (s .pre .0) (s .args .n + (s .args .s + h .loop .k)) (omega (arith, s .pre .0 .edges, t .loop-test .taken)), h .loop .inv .1 .0), (omega (arith, s .pre .1 .0 .0), omega arith))
 
 store-requires-2 : tie.Need-store-requires-2 Inv-loop μ-loop
 store-requires-2 c κs =
-    let s = c .before .before .before .before .before .before .before .before .before .before .before .before .before .before in
-    let h = c .before .before .before .before .before .before .before .before .before .before .before .before in
-    let v = c .before .before .before .before .before .before .before .before .before .before .variable in
-    let q : v .result < s .args .n = omega (arith, v .ensures, value-row (s .pre .0) (h .loop .k) (c .before .before .before .before .before .before .before .before .before .before .before .loop-test .taken)) in
-    (omega (arith, row-room (s .pre .0) (v .result) (omega arith), c .before .before .store .kept, h .loop .inv .1 .0), (omega (arith, s .pre .1 .0 .0), omega arith))
+    let w = c .before .before in
+    let v′ = w .before .before .before .before .before .before .before .before in
+    let t = v′ .before in
+    let h = t .before in
+    let s = h .before .before in
+    let v = v′ .variable in
+    let q : v .result < s .args .n = omega (arith, v .ensures, value-row (s .pre .0) (h .loop .k) (t .loop-test .taken)) in
+    (omega (arith, row-room (s .pre .0) (v .result) (omega arith), w .store .kept, h .loop .inv .1 .0), (omega (arith, s .pre .1 .0 .0), omega arith))
 
 add-store : tie.Need-add-store Inv-loop μ-loop
 add-store c =
@@ -69,9 +74,12 @@ add-store c =
 
 store-requires-3 : tie.Need-store-requires-3 Inv-loop μ-loop
 store-requires-3 c κs =
-    let s = c .before .before .before .before .before .before .before .before .before .before .before .before .before .before .before .before .before .before .before in
-    let h = c .before .before .before .before .before .before .before .before .before .before .before .before .before .before .before .before .before in
-    (omega (arith, row-room (s .pre .0) (s .args .n + (s .args .s + h .loop .k)) (omega (arith, s .pre .0 .edges, c .before .before .before .before .before .before .before .before .before .before .before .before .before .before .before .before .loop-test .taken)), c .before .before .before .before .before .before .before .store .kept, c .before .before .before .before .store2 .kept, h .loop .inv .1 .0), (omega (arith, s .pre .1 .0 .0), omega arith))
+    let w2 = c .before .before .before .before in
+    let w = w2 .before .before .before in
+    let t = w .before .before .before .before .before .before .before .before .before in
+    let h = t .before in
+    let s = h .before .before in
+    (omega (arith, row-room (s .pre .0) (s .args .n + (s .args .s + h .loop .k)) (omega (arith, s .pre .0 .edges, t .loop-test .taken)), w .store .kept, w2 .store2 .kept, h .loop .inv .1 .0), (omega (arith, s .pre .1 .0 .0), omega arith))
 
 add-store-2 : tie.Need-add-store-2 Inv-loop μ-loop
 add-store-2 c =
@@ -80,27 +88,45 @@ add-store-2 c =
 
 store-requires-4 : tie.Need-store-requires-4 Inv-loop μ-loop
 store-requires-4 c κs =
-    let s = c .before .before .before .before .before .before .before .before .before .before .before .before .before .before .before .before .before .before .before .before .before .before in
-    let h = c .before .before .before .before .before .before .before .before .before .before .before .before .before .before .before .before .before .before .before .before in
-    let v = c .before .before .before .before .before .before .before .before .before .before .before .before .before .before .before .before .before .before .variable in
-    let q : v .result < s .args .n = omega (arith, v .ensures, value-row (s .pre .0) (h .loop .k) (c .before .before .before .before .before .before .before .before .before .before .before .before .before .before .before .before .before .before .before .loop-test .taken)) in
-    (omega (arith, row-room (s .pre .0) (v .result) (omega arith), c .before .before .before .before .before .before .before .before .before .before .store .kept, c .before .before .before .before .before .before .before .store2 .kept, c .before .before .store3 .kept, h .loop .inv .1 .0), (omega (arith, s .pre .1 .0 .0), omega arith))
+    let w3 = c .before .before in
+    let w2 = w3 .before .before .before .before .before in
+    let w = w2 .before .before .before in
+    let v′ = w .before .before .before .before .before .before .before .before in
+    let t = v′ .before in
+    let h = t .before in
+    let s = h .before .before in
+    let v = v′ .variable in
+    let q : v .result < s .args .n = omega (arith, v .ensures, value-row (s .pre .0) (h .loop .k) (t .loop-test .taken)) in
+    (omega (arith, row-room (s .pre .0) (v .result) (omega arith), w .store .kept, w2 .store2 .kept, w3 .store3 .kept, h .loop .inv .1 .0), (omega (arith, s .pre .1 .0 .0), omega arith))
 
 add-k : tie.Need-add-k Inv-loop μ-loop
-add-k c = record { fits = omega (arith, c .before .before .before .before .before .before .before .before .before .before .before .before .before .before .before .before .before .before .before .before .before .loop-test .taken, c .before .before .before .before .before .before .before .before .before .before .before .before .before .before .before .before .before .before .before .before .before .before .before .before .fits .d .fits) }
+add-k c =
+    let t = c .before .before .before .before .before .before .before .before .before .before .before .before .before .before .before .before .before .before .before .before .before in
+    let s = t .before .before .before in
+    record { fits = omega (arith, t .loop-test .taken, s .fits .d .fits) }
 
 loop-less : tie.Need-loop-less Inv-loop μ-loop
 loop-less c = omega (arith, c .before .before .before .before .before .before .before .before .before .before .before .before .before .before .before .before .before .before .before .before .before .loop-test .taken)
 
 loop-again : tie.Need-loop-again Inv-loop μ-loop
 loop-again c =
-    let s = c .before .before .before .before .before .before .before .before .before .before .before .before .before .before .before .before .before .before .before .before .before .before .before .before in
-    let h = c .before .before .before .before .before .before .before .before .before .before .before .before .before .before .before .before .before .before .before .before .before .before in (
-      omega (arith, c .before .before .before .before .before .before .before .before .before .before .before .before .before .before .before .before .before .before .before .before .before .loop-test .taken),
+    let w4 = c .before in
+    let w3 = w4 .before .before .before in
+    let w2 = w3 .before .before .before .before .before in
+    let w = w2 .before .before .before in
+    let r2 = w .before .before .before .before in
+    let r = r2 .before in
+    let l2 = r .before in
+    let l = l2 .before in
+    let v = l .before in
+    let t = v .before in
+    let h = t .before in
+    let s = h .before .before in (
+      omega (arith, t .loop-test .taken),
       (
-        omega (arith, c .before .before .before .before .before .before .before .before .before .before .before .before .store .kept, c .before .before .before .before .before .before .before .before .before .store2 .kept, c .before .before .before .before .store3 .kept, c .before .store4 .kept, h .loop .inv .1 .0),
-        two-again (s .pre .1 .0 .0) (h .loop .inv .1 .1) (c .before .before .before .before .before .before .before .before .before .before .before .before .before .before .before .before .before .before .before .before .variable .ensures) (c .before .before .before .before .before .before .before .before .before .before .before .before .before .before .before .before .before .before .before .load .ensures) (c .before .before .before .before .before .before .before .before .before .before .before .before .before .before .before .before .before .reply .ensures) (c .before .before .before .before .before .before .before .before .before .before .before .before .before .before .before .before .before .before .load2 .ensures) (c .before .before .before .before .before .before .before .before .before .before .before .before .before .before .before .before .reply2 .ensures)
-            (c .before .before .before .before .before .before .before .before .before .before .before .before .store .ensures) (c .before .before .before .before .before .before .before .before .before .store2 .ensures) (c .before .before .before .before .store3 .ensures) (c .before .store4 .ensures),
+        omega (arith, w .store .kept, w2 .store2 .kept, w3 .store3 .kept, w4 .store4 .kept, h .loop .inv .1 .0),
+        two-again (s .pre .1 .0 .0) (h .loop .inv .1 .1) (v .variable .ensures) (l .load .ensures) (r .reply .ensures) (l2 .load2 .ensures) (r2 .reply2 .ensures)
+            (w .store .ensures) (w2 .store2 .ensures) (w3 .store3 .ensures) (w4 .store4 .ensures),
       ),
     )
 

@@ -1,7 +1,7 @@
 use borrow.Author.Needs.{needs}
 use native.Mathlib.Omega.{arith}
 use mathlib.Core.Path.{_≡_, refl}
-use Prim.Native.Nat.{ℕ, _+_, _*_, _-_, _≤_, _<_}
+use Prim.Native.Nat.{_+_, _-_, _≤_, _<_}
 use lib.ListN.{length, getD-replicate}
 use lib.IntN.{pos}
 use Rattle.lane_memory.specs.Room.{var, load-room, value-row, row-fits}
@@ -53,9 +53,10 @@ scan-requires c κs = search needs
 
 store-requires : tie.Need-store-requires Inv-loop μ-loop
 store-requires c κs =
-    let s = c .before .before .before .before .before .before .before .before .before in
-    let h = c .before .before .before .before .before .before .before in
-    (omega (arith, h .loop .inv .1 .0, s .pre .1 .1, s .pre .0 .degree, c .before .before .before .before .before .before .loop-test .taken), (omega arith, omega arith))
+    let t = c .before .before .before .before .before .before in
+    let h = t .before in
+    let s = h .before .before in
+    (omega (arith, h .loop .inv .1 .0, s .pre .1 .1, s .pre .0 .degree, t .loop-test .taken), (omega arith, omega arith))
 
 add-k : tie.Need-add-k Inv-loop μ-loop
 add-k c = search needs
@@ -65,11 +66,17 @@ loop-less c = search needs
 
 loop-again : tie.Need-loop-again Inv-loop μ-loop
 loop-again c =
-    let h = c .before .before .before .before .before .before .before .before .before in (
-      omega (arith, c .before .before .before .before .before .before .before .before .loop-test .taken),
+    let w = c .before in
+    let n = w .before .before .before in
+    let l2 = n .before in
+    let l = l2 .before in
+    let v = l .before in
+    let t = v .before in
+    let h = t .before in (
+      omega (arith, t .loop-test .taken),
       (
-        omega (arith, c .before .store .kept, h .loop .inv .1 .0),
-        scan-again (h .loop .inv .1 .1) (c .before .before .before .before .before .before .before .variable .ensures) (c .before .before .before .before .before .before .load .ensures) (c .before .before .before .before .before .load2 .ensures) (c .before .before .before .before .scan .ensures) (c .before .store .ensures),
+        omega (arith, w .store .kept, h .loop .inv .1 .0),
+        scan-again (h .loop .inv .1 .1) (v .variable .ensures) (l .load .ensures) (l2 .load2 .ensures) (n .scan .ensures) (w .store .ensures),
       ),
     )
 

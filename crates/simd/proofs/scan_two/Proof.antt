@@ -1,7 +1,7 @@
 use borrow.Author.Needs.{needs}
 use native.Mathlib.Omega.{arith}
 use mathlib.Core.Path.{_≡_, refl}
-use Prim.Native.Nat.{ℕ, _+_, _*_, _-_, _≤_, _<_}
+use Prim.Native.Nat.{_+_, _-_, _≤_, _<_}
 use lib.ListN.{length, getD-replicate}
 use lib.IntN.{pos}
 use Rattle.lane_memory.specs.Room.{var, load-room, value-row, row-fits}
@@ -78,30 +78,47 @@ scan-requires-2 c κs = search needs
 
 store-requires : tie.Need-store-requires Inv-loop μ-loop
 store-requires c κs =
-    let s = c .before .before .before .before .before .before .before .before .before .before .before .before .before in
-    (omega (arith, c .before .before .before .before .before .before .before .before .before .before .before .loop .inv .1 .0 .0, s .pre .1 .1 .0, s .pre .0 .degree, c .before .before .before .before .before .before .before .before .before .before .loop-test .taken), (omega arith, omega arith))
+    let t = c .before .before .before .before .before .before .before .before .before .before in
+    let h = t .before in
+    let s = h .before .before in
+    (omega (arith, h .loop .inv .1 .0 .0, s .pre .1 .1 .0, s .pre .0 .degree, t .loop-test .taken), (omega arith, omega arith))
 
 store-requires-2 : tie.Need-store-requires-2 Inv-loop μ-loop
 store-requires-2 c κs =
-    let s = c .before .before .before .before .before .before .before .before .before .before .before .before .before .before .before .before in
-    (omega (arith, c .before .before .before .before .before .before .before .before .before .before .before .before .before .before .loop .inv .1 .0 .1, s .pre .1 .1 .1, s .pre .0 .degree, c .before .before .before .before .before .before .before .before .before .before .before .before .before .loop-test .taken), (omega arith, omega arith))
+    let t = c .before .before .before .before .before .before .before .before .before .before .before .before .before in
+    let h = t .before in
+    let s = h .before .before in
+    (omega (arith, h .loop .inv .1 .0 .1, s .pre .1 .1 .1, s .pre .0 .degree, t .loop-test .taken), (omega arith, omega arith))
 
 add-k : tie.Need-add-k Inv-loop μ-loop
-add-k c = record { fits = omega (arith, c .before .before .before .before .before .before .before .before .before .before .before .before .before .before .before .loop-test .taken, c .before .before .before .before .before .before .before .before .before .before .before .before .before .before .before .before .before .before .fits .d .fits) }
+add-k c =
+    let t = c .before .before .before .before .before .before .before .before .before .before .before .before .before .before .before in
+    let s = t .before .before .before in
+    record { fits = omega (arith, t .loop-test .taken, s .fits .d .fits) }
 
 loop-less : tie.Need-loop-less Inv-loop μ-loop
 loop-less c = omega (arith, c .before .before .before .before .before .before .before .before .before .before .before .before .before .before .before .loop-test .taken)
 
 loop-again : tie.Need-loop-again Inv-loop μ-loop
 loop-again c =
-    let h = c .before .before .before .before .before .before .before .before .before .before .before .before .before .before .before .before in
-    let v = c .before .before .before .before .before .before .before .before .before .before .before .before .before .before .variable .ensures in (
-      omega (arith, c .before .before .before .before .before .before .before .before .before .before .before .before .before .before .before .loop-test .taken),
+    let w2 = c .before in
+    let w = w2 .before .before .before in
+    let n2 = w .before .before .before .before in
+    let n = n2 .before in
+    let l4 = n .before in
+    let l3 = l4 .before in
+    let l2 = l3 .before in
+    let l = l2 .before in
+    let v′ = l .before in
+    let t = v′ .before in
+    let h = t .before in
+    let v = v′ .variable .ensures in (
+      omega (arith, t .loop-test .taken),
       (
-        (omega (arith, c .before .before .before .before .store .kept, h .loop .inv .1 .0 .0), omega (arith, c .before .store2 .kept, h .loop .inv .1 .0 .1)),
+        (omega (arith, w .store .kept, h .loop .inv .1 .0 .0), omega (arith, w2 .store2 .kept, h .loop .inv .1 .0 .1)),
         (
-          scan-again (h .loop .inv .1 .1 .0) v (c .before .before .before .before .before .before .before .before .before .before .before .before .before .load .ensures) (c .before .before .before .before .before .before .before .before .before .before .before .before .load2 .ensures) (c .before .before .before .before .before .before .before .before .before .scan .ensures) (c .before .before .before .before .store .ensures),
-          scan-again (h .loop .inv .1 .1 .1) v (c .before .before .before .before .before .before .before .before .before .before .before .load3 .ensures) (c .before .before .before .before .before .before .before .before .before .before .load4 .ensures) (c .before .before .before .before .before .before .before .before .scan2 .ensures) (c .before .store2 .ensures),
+          scan-again (h .loop .inv .1 .1 .0) v (l .load .ensures) (l2 .load2 .ensures) (n .scan .ensures) (w .store .ensures),
+          scan-again (h .loop .inv .1 .1 .1) v (l3 .load3 .ensures) (l4 .load4 .ensures) (n2 .scan2 .ensures) (w2 .store2 .ensures),
         ),
       ),
     )

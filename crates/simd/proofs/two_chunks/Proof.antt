@@ -17,10 +17,13 @@ prepare-requires-2 c κs = search needs
 
 reply-two-requires : tie.Need-reply-two-requires
 reply-two-requires c κs =
-    let s = c .before .before .before .before .before .before .before .before .before .before .before .before .before .before .before .before .before .before .before .before .before .before in
-    let p = c .before .before .before .before .before .before .before .before .before .before .before .before .prepare .ensures in
-    let q = c .before .before .before .before .before .before .before .before .before .before .before .prepare2 .ensures in
-    let k = c .before .before .before .before .before .before .before .before .before .before .before .before .before .before .before .before .before .scan-two .kept in (
+    let p2 = c .before .before .before .before .before .before .before .before .before .before .before in
+    let p′ = p2 .before in
+    let n = p′ .before .before .before .before .before in
+    let s = n .before .before .before .before .before in
+    let p = p′ .prepare .ensures in
+    let q = p2 .prepare2 .ensures in
+    let k = n .scan-two .kept in (
       s .pre .0,
       (
         (s .pre .1 .0, (omega (arith, k, s .pre .1 .1 .0), omega (arith, k, s .pre .1 .1 .1))),
@@ -39,10 +42,14 @@ same-length-3 c = search needs
 
 returns : tie.Need-returns
 returns c =
-    let s = c .before .before .before .before .before .before .before .before .before .before .before .before .before .before .before .before .before .before .before .before .before .before .before .before in
+    let r = c .before in
+    let p2 = r .before .before .before .before .before .before .before .before .before .before .before .before in
+    let p = p2 .before in
+    let n = p .before .before .before .before .before in
+    let s = n .before .before .before .before .before in
     let o = plain (s .args .offset) (s .fits .offset) in
-    let k = c .before .before .before .before .before .before .before .before .before .before .before .before .before .before .before .before .before .before .before .scan-two .ensures in
-    two-is (k .0) (readied-to o (c .before .before .before .before .before .before .before .before .before .before .before .before .before .before .prepare .ensures)) (k .1) (readied-to o (c .before .before .before .before .before .before .before .before .before .before .before .before .before .prepare2 .ensures)) (c .before .reply-two .ensures)
+    let k = n .scan-two .ensures in
+    two-is (k .0) (readied-to o (p .prepare .ensures)) (k .1) (readied-to o (p2 .prepare2 .ensures)) (r .reply-two .ensures)
 
 pub two-chunks-spec : {M : Type 1} → statement M
 two-chunks-spec =

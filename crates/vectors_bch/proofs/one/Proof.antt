@@ -1,6 +1,5 @@
 -- `vectors_bch::one` meets its contract: an element of a slice of bytes is below 256.
 -- Assumes nothing.
-use Prim.Native.Nat.{_-_}
 use native.Mathlib.Omega.{arith}
 use borrow.Author.Needs.{needs}
 use Rattle.vectors_bch.proofs.one.Statement.{statement}

@@ -1,7 +1,7 @@
 -- `vectors_ldpc::all` meets its contract. Assumes nothing.
 use lib.ListN.{length}
-use Prim.Native.Nat.{_≤_, _-_}
-use mathlib.Core.Path.{_≡_, refl, _∙_}
+use Prim.Native.Nat.{_-_}
+use mathlib.Core.Path.{_≡_, refl}
 use borrow.Author.Needs.{needs}
 use native.Mathlib.Omega.{arith}
 use Rattle.vectors_ldpc.proofs.all.Statement.{statement}

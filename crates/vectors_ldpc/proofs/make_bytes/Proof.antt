@@ -1,9 +1,8 @@
 -- `vectors_ldpc::make_bytes` meets its contract. Assumes nothing.
 use lib.ListN.{length, length-set}
-use Prim.Native.Nat.{_≤_, _-_}
+use Prim.Native.Nat.{_-_}
 use mathlib.Core.Path.{_≡_, refl, _∙_}
 use borrow.Author.Needs.{needs}
-use native.Mathlib.Omega.{arith}
 use Rattle.vectors_ldpc.proofs.make_bytes.Statement.{statement}
 use Rattle.vectors_ldpc.proofs.make_bytes.Tie as tie
 

@@ -2,7 +2,6 @@
 use lib.ListN.{length}
 use Prim.Native.Nat.{_≤_, _-_}
 use borrow.Author.Needs.{needs}
-use native.Mathlib.Omega.{arith}
 use Rattle.vectors_ldpc.proofs.mix_bytes.Statement.{statement}
 use Rattle.vectors_ldpc.proofs.mix_bytes.Tie as tie
 
