@@ -54,7 +54,7 @@ module _ (plan : Plan) (lens addrs : List ℕ) (soft : List ℤ) (layers : Bool)
     -- their end; waiting words' bytes are unchanged and their records zero
     pub demanded : (w : ℕ) → Demanded (codeOf (plan .n) lens addrs) iterate (plan .n) (plan .p) (plan .limit) (plan .first) (plan .size) soft (ownPart (plan .n) w out) w (status (theRun .last) w)
         (view (plan .n) (book (r .state) (r .iterations) (r .unsatisfied) (r .check) (r .bch) out′) w)
-    -- what holds of the run itself
+    -- what holds of the run itself, whatever a program does (schedule, Theorem): it is here so that demand 3 stands in one place
     pub demand : Demand words order (plan .lanes) bound theRun
     -- the tally, counted afresh: words loaded are those held and those finished; iterations given are the records' sum; kept and lost are
     -- finished words

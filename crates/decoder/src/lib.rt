@@ -17,7 +17,7 @@ pub enum Schedule {
     Layered(u32),
 }
 
-// The run's settings.
+// The run's settings: `limit` is the iteration limit, `rounds` the round limit, `first` and `length` the BCH part.
 pub struct Settings {
     pub lanes: u32,
     pub limit: u32,

@@ -24,7 +24,7 @@ inTurn offset code c (suc m) w = check offset (code .rows) (code .row-start (c m
 abbrev pub sequential : ℤ → Code → ℕ → Word → Word
 sequential offset code p w = inTurn offset code (λ c. c) p w
 
--- ---- Layered. A run: the checks c 0, .., c (m − 1), all reading the run's starting L. Their messages:
+-- ---- Layered. A run, which here is one of checks (the Rust's step): the checks c 0, .., c (m − 1), all reading the run's starting L. Their messages:
 unfoldable pub runR : ℤ → Code → (ℕ → ℕ) → (ℕ → ℤ) → (ℕ → ℤ) → ℕ → ℕ → ℤ
 runR offset code c L r zero = r
 runR offset code c L r (suc m) = newR offset (code .rows) (code .row-start (c m)) (degree code (c m)) L (runR offset code c L r m)

@@ -22,6 +22,6 @@ abbrev pub signed : Bool → ℤ → ℤ
 signed b z = cond b (negℤ z) z
 
 -- What a lane makes a message of: its t, a number with the sign of all the check's edges, the smallest magnitude, and the two
--- magnitudes reduced. Without the edge that reached min1: where two are as small, min2 is min1.
+-- magnitudes reduced. Without the edge that reached min1: where two are as small, min2 is min1. That this is Check's `message` is shown (Laws, reply-is).
 abbrev pub replied : ℤ → ℤ → ℕ → ℤ → ℤ → ℤ
 replied t sign least m1 m2 = signed (times (negative sign) (negative t)) (cond (eqb (magnitude t) least) m2 m1)

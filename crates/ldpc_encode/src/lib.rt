@@ -72,7 +72,7 @@ fn add_rows(x: &mut [u8], w: &[u8], lens: &[u32], addrs: &[u16], q: u32, l: usiz
     }
 }
 
-// Each byte its low bit is whether an odd number of the information bits of check l + iq is 1.
+// The low bit of byte i: whether an odd number of the information bits of check l + iq is 1.
 fn sums_of(w: &[u8], lens: &[u32], addrs: &[u16], q: u32, l: usize) -> [u8; 374]
     requires { ⌜ (374 * length (now lens) ≤ length (now w)) × (total (now lens) ≡ length (now addrs)) × (l < q) ⌝ }
     ensures { λ r. ⌜ ((i : ℕ) → i < 374 → getD r i 0 % 2 ≡ infoBit q l (now (w .entry)) (now (lens .entry)) (now (addrs .entry)) i % 2) ⌝ }

@@ -48,7 +48,7 @@ recordOf r w = record {
   bch = getD (r .bch) w 0;
 }
 
--- The records of n words from word w on stand first in the list; what follows stays.
+-- The records of n words from word w on stand first in the list; what follows stays. A run has no more words than the list has room (decoder, Runs: `words-room`).
 abbrev pub recordsFrom : Ran → ℕ → ℕ → List WordRecord → List WordRecord
 recordsFrom r w zero rs = rs
 recordsFrom r w (suc n) [] = []

@@ -1,4 +1,4 @@
--- The code as an iteration sees it.
+-- The code as an iteration sees it: fixed_code's, which stays folded in what is proved above.
 use mathlib.Core.List.{List}
 use Prim.Native.Nat.{ℕ}
 use Rattle.lane_math.specs.Iteration.{Code}

@@ -51,7 +51,7 @@ pub record Names (code : Code) (p : ℕ) (x : Word) (check : ℕ) : Type 0 where
 unfoldable pub corrected : ℕ → ℕ → List ℕ → List ℕ
 corrected first size b = take first b ++ (wordOut (take size (drop first b)) ++ drop (first + size) b)
 
--- "BCH result (corrected count, or lost)": lost is 4,294,967,295
+-- "BCH result (corrected count, or lost)": lost is 4,294,967,295. A run's part is never refused (Part: `answered`)
 unfoldable pub lost : ℕ
 lost = 4294967295
 

@@ -11,7 +11,7 @@ pub data Schedule : Type 0 where
   sequential : Schedule
   layered : ℕ → Schedule
 
--- "lanes, iterations, offset, `S` or step, round limit, first, length": rounds is the round limit, and bits the BCH part's length
+-- "lanes, iterations, offset, `S` or step, round limit, first, length": iterations is the iteration limit, rounds the round limit, and bits the BCH part's length
 pub record Settings : Type 0 where
   pub lanes : ℕ
   pub iterations : ℕ

@@ -1,5 +1,6 @@
 -- Demand 3 as far as the schedule goes: one claim about a whole run. It joins the run (Run) and the word alone (Alone), whose definitions know
--- nothing of each other. Theorem shows it for every order of loading that has each word once, every lane count and every round limit.
+-- nothing of each other. Theorem shows it for every order of loading that has each word at most once, every lane count of 1 or more and every
+-- round limit.
 use mathlib.Core.Path.{_≡_}
 use mathlib.Core.Logic.{_↔_}
 use mathlib.Core.List.{List, _++_}
