@@ -12,7 +12,7 @@ kOf r = 374 * r
 
 -- P = n - k
 abbrev pub pOf : ℕ → ℕ
-pOf r = 44880 - 374 * r
+pOf r = 44880 - kOf r
 
 -- q = 120 - r
 abbrev pub qOf : ℕ → ℕ
@@ -20,4 +20,4 @@ qOf r = 120 - r
 
 -- D = k - 176 - 192 - 6
 abbrev pub dataOf : ℕ → ℕ
-dataOf r = 374 * r - 176 - 192 - 6
+dataOf r = kOf r - 176 - 192 - 6

@@ -1,22 +1,15 @@
 -- The records stored one after the other. Assumes nothing.
 use mathlib.Core.Path.{_≡_, refl, sym, ap, ap₂, _∙_}
 use mathlib.Core.List.{List, [], _∷_, _++_}
-use Prim.Native.Nat.{ℕ, zero, suc, _+_, _*_, _≤_, _<_}
+use Prim.Native.Nat.{ℕ, suc, _+_, _*_, _≤_, _<_}
 use native.Mathlib.Omega.{arith}
-use lib.ListN.{length, getD, set, drop, length-append, length-set}
+use lib.ListN.{length, getD, set, drop, length-set}
 use lib.Seq.{sets, sets-eq}
 use Rattle.laws.specs.Stores.{sets-append}
 use Rattle.raxdov.specs.Run.{recordAt, recordsIn}
+use Rattle.raxdov.specs.Laws.{length-records}
 
 module _ (state iterations unsatisfied check bch : List ℕ) where
-  pub length-records : (w : ℕ) → length (recordsIn state iterations unsatisfied check bch w) ≡ 5 * w
-  unfolding recordsIn
-  length-records zero = refl
-  length-records (suc w) =
-      length-append (recordsIn state iterations unsatisfied check bch w) (recordAt state iterations unsatisfied check bch w)
-      ∙ ap (λ (k : ℕ). k + 5) (length-records w)
-      ∙ omega arith
-
   -- nothing is stored yet
   pub records-start : (old : List ℕ) → old ≡ sets old 0 (recordsIn state iterations unsatisfied check bch 0)
   unfolding recordsIn
@@ -29,7 +22,7 @@ module _ (state iterations unsatisfied check bch : List ℕ) where
   unfolding recordsIn
   records-again old now w e =
       let s : suc w ≡ w + 1 = omega arith in
-      let at : 5 * w ≡ 0 + length (recordsIn state iterations unsatisfied check bch w) = omega (arith, length-records w) in
+      let at : 5 * w ≡ 0 + length (recordsIn state iterations unsatisfied check bch w) = omega (arith, length-records state iterations unsatisfied check bch w) in
       let one : 5 * w + 1 ≡ suc (5 * w) = omega arith in
       let two : 5 * w + 2 ≡ suc (suc (5 * w)) = omega arith in
       let three : 5 * w + 3 ≡ suc (suc (suc (5 * w))) = omega arith in
@@ -53,8 +46,8 @@ module _ (state iterations unsatisfied check bch : List ℕ) where
   pub records-end : (old now : List ℕ) (w words : ℕ) → w ≡ words → 5 * words ≤ length old → now ≡ sets old 0 (recordsIn state iterations unsatisfied check bch w)
       → now ≡ recordsIn state iterations unsatisfied check bch words ++ drop (5 * words) old
   records-end old now w words e h f =
-      let n : 0 + length (recordsIn state iterations unsatisfied check bch words) ≡ 5 * words = omega (arith, length-records words) in
+      let n : 0 + length (recordsIn state iterations unsatisfied check bch words) ≡ 5 * words = omega (arith, length-records state iterations unsatisfied check bch words) in
       f
       ∙ ap (λ (v : ℕ). sets old 0 (recordsIn state iterations unsatisfied check bch v)) e
-      ∙ sets-eq (recordsIn state iterations unsatisfied check bch words) old 0 (omega (arith, h, length-records words))
+      ∙ sets-eq (recordsIn state iterations unsatisfied check bch words) old 0 (omega (arith, h, length-records state iterations unsatisfied check bch words))
       ∙ ap (λ (k : ℕ). recordsIn state iterations unsatisfied check bch words ++ drop k old) n

@@ -12,7 +12,7 @@ use Rattle.decoder.specs.Runs.{Runs}
 use Rattle.decoder.specs.declared.Ran.{Ran}
 use Rattle.decoder.specs.declared.Schedule.{Schedule}
 use Rattle.decoder.specs.declared.Settings.{Settings}
-use Rattle.raxdov.specs.Run.{scheduleOf, settingsOf, recordsIn, recordsOf, tallyBy, endingOf, endingBy, Told}
+use Rattle.raxdov.specs.Run.{scheduleOfNumbers, settingsOfNumbers, recordsIn, recordsInto, tallyBy, endingOf, endingBy, Told}
 
 module _ (n : ℕ) (lens addrs : List ℕ) (soft : List ℤ) (lanes limit layered step : ℕ) (offset : ℤ) (rounds first size : ℕ) (out out′ records : List ℕ) (work work′ : List ℤ) (index index′ : List ℕ) (r : Ran) where
   -- the settings as the function puts them together
@@ -20,7 +20,7 @@ module _ (n : ℕ) (lens addrs : List ℕ) (soft : List ℤ) (lanes limit layere
   settingsBy s o = record { lanes = lanes; limit = limit; schedule = s; offset = o; rounds = rounds; first = first; length = size }
 
   abbrev told : Settings
-  told = settingsOf lanes limit layered step offset rounds first size
+  told = settingsOfNumbers lanes limit layered step offset rounds first size
 
   abbrev number : ℕ
   number = runRefusal n lens addrs soft told (length records / 5) out work index
@@ -28,7 +28,7 @@ module _ (n : ℕ) (lens addrs : List ℕ) (soft : List ℤ) (lanes limit layere
   abbrev Run : Settings → Type 0
   Run set = Runs n lens addrs soft set (length records / 5) out out′ work work′ index index′ r
 
-  module _ (s : Schedule) (o : ℤ) (es : s ≡ scheduleOf layered step) (eo : o ≡ offset) (R : Run (settingsBy s o)) where
+  module _ (s : Schedule) (o : ℤ) (es : s ≡ scheduleOfNumbers layered step) (eo : o ≡ offset) (R : Run (settingsBy s o)) where
     runs : Run told
     runs = transport (λ i. Run (settingsBy (es i) (eo i))) R
 
@@ -52,7 +52,7 @@ module _ (n : ℕ) (lens addrs : List ℕ) (soft : List ℤ) (lanes limit layere
     keeps-ending zero ending ne = absurd (ne refl)
     keeps-ending (suc k) ending ne = refl
 
-    keeps-records : r .words ≡ 0 → records ≡ recordsOf r records
+    keeps-records : r .words ≡ 0 → records ≡ recordsInto r records
     unfolding recordsIn
     keeps-records e = sym (ap (λ (w : ℕ). recordsIn (r .state) (r .iterations) (r .unsatisfied) (r .check) (r .bch) w ++ drop (5 * w) records) e)
 
@@ -71,7 +71,7 @@ module _ (n : ℕ) (lens addrs : List ℕ) (soft : List ℤ) (lanes limit layere
         }
 
     -- an accepted run
-    pub accepts : (records′ tally : List ℕ) (ending ending′ : ℕ) → r .refusal ≡ 0 → records′ ≡ recordsOf r records → ending′ ≡ endingOf (r .stopped)
+    pub accepts : (records′ tally : List ℕ) (ending ending′ : ℕ) → r .refusal ≡ 0 → records′ ≡ recordsInto r records → ending′ ≡ endingOf (r .stopped)
         → Told n lens addrs soft told out out′ records records′ tally (r .rounds ∷ r .loaded ∷ r .given ∷ r .kept ∷ r .lost ∷ []) ending ending′ work work′ index index′ 0
     accepts records′ tally ending ending′ e f g =
         record {

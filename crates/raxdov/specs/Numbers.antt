@@ -15,7 +15,7 @@ use Rattle.bch.specs.declared.Encoded.{Encoded}
 use Rattle.bch.specs.declared.Encoded.the-variants as encoded
 use Rattle.bch.specs.declared.Decoded.{Decoded}
 use Rattle.bch.specs.declared.Decoded.the-variants as decoded
-use Rattle.outcome.specs.Outcome.{lost}
+use Rattle.outcome.specs.Outcome.{resultOf}
 
 -- ---- returned
 abbrev pub quantisedNumber : Quantised → ℕ
@@ -34,19 +34,19 @@ decodedNumber (decoded.Refused r) = r
 
 -- ---- written
 -- k, P, q, E
-abbrev pub numbersOf : Made → List ℕ → List ℕ
-numbersOf (made.Refused r) code = code
-numbersOf (made.Code k p q e) code = k ∷ p ∷ q ∷ e ∷ []
+abbrev pub numbersInto : Made → List ℕ → List ℕ
+numbersInto (made.Refused r) code = code
+numbersInto (made.Code k p q e) code = k ∷ p ∷ q ∷ e ∷ []
 
-abbrev pub countOf : Counted → ℕ → ℕ
-countOf (counted.Refused r) count = count
-countOf (counted.Count m) count = m
+abbrev pub countInto : Counted → ℕ → ℕ
+countInto (counted.Refused r) count = count
+countInto (counted.Count m) count = m
 
 -- the corrected count, or lost, as a word's record has it
-abbrev pub resultOf : Decoded → ℕ → ℕ
-resultOf (decoded.Corrected m) result = m
-resultOf decoded.Uncorrectable result = lost
-resultOf (decoded.Refused r) result = result
+abbrev pub resultInto : Decoded → ℕ → ℕ
+resultInto (decoded.Corrected m) result = resultOf (decoded.Corrected m)
+resultInto decoded.Uncorrectable result = resultOf decoded.Uncorrectable
+resultInto (decoded.Refused r) result = result
 
 -- k, P, q, E, and what `ldpc::new` needs: P + 1 and E numbers
 unfoldable pub sizesOf : ℕ → List ℕ → List ℕ → List ℕ → List ℕ

@@ -19,13 +19,13 @@ use Rattle.decoder.specs.declared.Schedule.the-variants.{Sequential, Layered}
 use Rattle.decoder.specs.declared.Settings.{Settings}
 
 -- ---- the settings: 0 for the sequential schedule, whose step plays no part; any other number for the layered one
-abbrev pub scheduleOf : ℕ → ℕ → Schedule
-scheduleOf zero step = Sequential
-scheduleOf (suc m) step = Layered step
+abbrev pub scheduleOfNumbers : ℕ → ℕ → Schedule
+scheduleOfNumbers zero step = Sequential
+scheduleOfNumbers (suc m) step = Layered step
 
-abbrev pub settingsOf : (lanes limit layered step : ℕ) → ℤ → (rounds first size : ℕ) → Settings
-settingsOf lanes limit layered step offset rounds first size =
-    record { lanes = lanes; limit = limit; schedule = scheduleOf layered step; offset = offset; rounds = rounds; first = first; length = size }
+abbrev pub settingsOfNumbers : (lanes limit layered step : ℕ) → ℤ → (rounds first size : ℕ) → Settings
+settingsOfNumbers lanes limit layered step offset rounds first size =
+    record { lanes = lanes; limit = limit; schedule = scheduleOfNumbers layered step; offset = offset; rounds = rounds; first = first; length = size }
 
 -- ---- the sizes of the work slices: refused where the code is, or by 7; else (n + 3E) times lanes, and E + P + 1
 unfoldable pub sizesRefusal : ℕ → List ℕ → List ℕ → ℕ → ℕ
@@ -45,8 +45,8 @@ recordsIn state iterations unsatisfied check bch zero = []
 recordsIn state iterations unsatisfied check bch (suc w) = recordsIn state iterations unsatisfied check bch w ++ recordAt state iterations unsatisfied check bch w
 
 -- the run's, and then the lent list as it was
-abbrev pub recordsOf : Ran → List ℕ → List ℕ
-recordsOf r records = recordsIn (r .state) (r .iterations) (r .unsatisfied) (r .check) (r .bch) (r .words) ++ drop (5 * r .words) records
+abbrev pub recordsInto : Ran → List ℕ → List ℕ
+recordsInto r records = recordsIn (r .state) (r .iterations) (r .unsatisfied) (r .check) (r .bch) (r .words) ++ drop (5 * r .words) records
 
 -- ---- the tally (rounds, words loaded, iterations given, kept, lost) and the ending (0 finished, 1 stopped), by the refusal's number: a refused run
 -- leaves them as they were
@@ -68,7 +68,7 @@ pub record Told (n : ℕ) (lens addrs : List ℕ) (soft : List ℤ) (set : Setti
   pub ran : Ran
   pub runs : Runs n lens addrs soft set (length records / 5) out out′ work work′ index index′ ran
   pub answer : number ≡ runRefusal n lens addrs soft set (length records / 5) out work index
-  pub records-are : records′ ≡ recordsOf ran records
+  pub records-are : records′ ≡ recordsInto ran records
   pub tally-is : tally′ ≡ tallyBy number ran tally
   pub ending-is : ending′ ≡ endingBy number ran ending
   pub refused : number ≢ 0 → (out′ ≡ out) × (records′ ≡ records) × (tally′ ≡ tally) × (ending′ ≡ ending) × (work′ ≡ work) × (index′ ≡ index)

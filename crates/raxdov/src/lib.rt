@@ -9,8 +9,8 @@ ghost use Rattle.quantise.specs.Soft as soft;
 ghost use Rattle.ldpc_shape.specs.Shape as shape;
 ghost use Rattle.ldpc.specs.Answers.{madeNumber, newAnswer, newInto, countedNumber, checkAnswer, checkInto, writtenNumber, parityAnswer, parityInto, encodeAnswer, encodeInto, weightAnswer};
 ghost use Rattle.bch.specs.Answers as bch;
-ghost use Rattle.raxdov.specs.Numbers.{quantisedNumber, encodedNumber, decodedNumber, numbersOf, countOf, resultOf, sizesOf};
-ghost use Rattle.raxdov.specs.Run.{scheduleOf, settingsOf, sizesRefusal, workSizes, recordsIn, endingOf, Told};
+ghost use Rattle.raxdov.specs.Numbers.{quantisedNumber, encodedNumber, decodedNumber, numbersInto, countInto, resultInto, sizesOf};
+ghost use Rattle.raxdov.specs.Run.{scheduleOfNumbers, settingsOfNumbers, sizesRefusal, workSizes, recordsIn, endingOf, Told};
 use decoder::Schedule;
 use decoder::Settings;
 
@@ -60,7 +60,7 @@ pub extern "C" fn raxdov_ldpc_new(
 ) -> u32
     ensures answer { λ r. ⌜ r ≡ madeNumber (newAnswer n (now (lens .entry)) (now (addrs .entry)) (length (now (lists .entry)))) ⌝ }
     ensures lists { λ r. ⌜ now (lists .exit) ≡ newInto n (now (lens .entry)) (now (addrs .entry)) (now (lists .entry)) ⌝ }
-    ensures code { λ r. ⌜ now (code .exit) ≡ numbersOf (newAnswer n (now (lens .entry)) (now (addrs .entry)) (length (now (lists .entry)))) (now (code .entry)) ⌝ }
+    ensures code { λ r. ⌜ now (code .exit) ≡ numbersInto (newAnswer n (now (lens .entry)) (now (addrs .entry)) (length (now (lists .entry)))) (now (code .entry)) ⌝ }
 {
     let answer = ldpc::new(n, lens, addrs, lists);
     match answer {
@@ -84,7 +84,7 @@ pub extern "C" fn raxdov_ldpc_check(
 ) -> u32
     ensures answer { λ r. ⌜ r ≡ countedNumber (checkAnswer n (now (lens .entry)) (now (addrs .entry)) c (length (now (out .entry)))) ⌝ }
     ensures output { λ r. ⌜ now (out .exit) ≡ checkInto n (now (lens .entry)) (now (addrs .entry)) c (now (out .entry)) ⌝ }
-    ensures count { λ r. ⌜ now (count .exit) ≡ countOf (checkAnswer n (now (lens .entry)) (now (addrs .entry)) c (length (now (out .entry)))) (now (count .entry)) ⌝ }
+    ensures count { λ r. ⌜ now (count .exit) ≡ countInto (checkAnswer n (now (lens .entry)) (now (addrs .entry)) c (length (now (out .entry)))) (now (count .entry)) ⌝ }
 {
     let answer = ldpc::check(n, lens, addrs, c, out);
     match answer {
@@ -144,7 +144,7 @@ pub extern "C" fn raxdov_ldpc_syndrome_weight(
     count: &mut u32,
 ) -> u32
     ensures answer { λ r. ⌜ r ≡ countedNumber (weightAnswer n (now (lens .entry)) (now (addrs .entry)) (now (bits .entry))) ⌝ }
-    ensures count { λ r. ⌜ now (count .exit) ≡ countOf (weightAnswer n (now (lens .entry)) (now (addrs .entry)) (now (bits .entry))) (now (count .entry)) ⌝ }
+    ensures count { λ r. ⌜ now (count .exit) ≡ countInto (weightAnswer n (now (lens .entry)) (now (addrs .entry)) (now (bits .entry))) (now (count .entry)) ⌝ }
 {
     let answer = ldpc::syndrome_weight(n, lens, addrs, bits);
     match answer {
@@ -187,7 +187,7 @@ pub extern "C" fn raxdov_bch_encode(message: &[u8], out: &mut [u8]) -> u32
 pub extern "C" fn raxdov_bch_decode(word: &mut [u8], result: &mut u32) -> u32
     ensures answer { λ r. ⌜ r ≡ decodedNumber (bch.decodedOf (now (word .entry))) ⌝ }
     ensures word { λ r. ⌜ bch.Decodes (now (word .entry)) (now (word .exit)) (bch.decodedOf (now (word .entry))) ⌝ }
-    ensures result { λ r. ⌜ now (result .exit) ≡ resultOf (bch.decodedOf (now (word .entry))) (now (result .entry)) ⌝ }
+    ensures result { λ r. ⌜ now (result .exit) ≡ resultInto (bch.decodedOf (now (word .entry))) (now (result .entry)) ⌝ }
 {
     let answer = bch::decode(word);
     match answer {
@@ -249,7 +249,7 @@ pub extern "C" fn raxdov_run_sizes(
 }
 
 fn schedule_of(layered: u32, step: u32) -> Schedule
-    ensures { λ r. ⌜ r ≡ scheduleOf layered step ⌝ }
+    ensures { λ r. ⌜ r ≡ scheduleOfNumbers layered step ⌝ }
 {
     if layered == 0 {
         return Schedule::Sequential;
@@ -312,7 +312,7 @@ pub extern "C" fn raxdov_run(
     work: &mut [i8],
     index: &mut [u32],
 ) -> u32
-    ensures { λ r. ⌜ Told n (now (lens .entry)) (now (addrs .entry)) (now (soft .entry)) (settingsOf lanes limit layered step offset rounds first length) (now (out .entry)) (now (out .exit)) (now (records .entry)) (now (records .exit)) (now (tally .entry)) (now (tally .exit)) (now (ending .entry)) (now (ending .exit)) (now (work .entry)) (now (work .exit)) (now (index .entry)) (now (index .exit)) r ⌝ }
+    ensures { λ r. ⌜ Told n (now (lens .entry)) (now (addrs .entry)) (now (soft .entry)) (settingsOfNumbers lanes limit layered step offset rounds first length) (now (out .entry)) (now (out .exit)) (now (records .entry)) (now (records .exit)) (now (tally .entry)) (now (tally .exit)) (now (ending .entry)) (now (ending .exit)) (now (work .entry)) (now (work .exit)) (now (index .entry)) (now (index .exit)) r ⌝ }
 {
     let schedule = schedule_of(layered, step);
     let set = Settings {

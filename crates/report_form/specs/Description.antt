@@ -111,13 +111,14 @@ abbrev pub each : {A : Type 0} → (A → List ℕ) → List A → List ℕ
 each f [] = []
 each f (x ∷ xs) = f x ++ each f xs
 
--- "Fields are parted by tabs, every line ends in a newline": a line's letter, then each field behind a tab
-abbrev pub line : ℕ → List (List ℕ) → List ℕ
-line letter fields = letter ∷ (each (λ (field : List ℕ). 9 ∷ field) fields ++ 10 ∷ [])
+-- "Fields are parted by tabs, every line ends in a newline": a line's first field and its other fields; 9 is a tab and 10 a newline
+abbrev pub line : List ℕ → List (List ℕ) → List ℕ
+line field [] = field ++ 10 ∷ []
+line field (next ∷ fields) = field ++ 9 ∷ line next fields
 
 -- "`R` addresses, a line per row (an empty row is `R` alone)"
 abbrev pub rowLine : List ℕ → List ℕ
-rowLine row = line 82 (map decimal row)
+rowLine row = line (82 ∷ []) (map decimal row)
 
 abbrev pub scheduleText : Schedule → List ℕ
 scheduleText sequential = 83 ∷ []
@@ -126,7 +127,7 @@ scheduleText (layered step) = decimal step
 -- "`P` lanes, iterations, offset, `S` or step, round limit, first, length"
 abbrev pub settingsLine : Settings → List ℕ
 settingsLine s =
-    line 80
+    line (80 ∷ [])
     (decimal (s .lanes)
     ∷ decimal (s .iterations)
     ∷ signed (s .offset)
@@ -142,8 +143,8 @@ pairFields (p ∷ ps) = decimal (p .position) ∷ signed (p .value) ∷ pairFiel
 
 -- "`W` default soft value, then up to 64 pairs of position and value"
 abbrev pub wordLine : Word → List ℕ
-wordLine w = line 87 (signed (w .default) ∷ pairFields (w .pairs))
+wordLine w = line (87 ∷ []) (signed (w .default) ∷ pairFields (w .pairs))
 
 -- "`N` n"; "One N, any R, one P, any W, in that order"
 unfoldable pub render : Description → List ℕ
-render d = line 78 (decimal (d .n) ∷ []) ++ each rowLine (d .rows) ++ settingsLine (d .settings) ++ each wordLine (d .words)
+render d = line (78 ∷ []) (decimal (d .n) ∷ []) ++ each rowLine (d .rows) ++ settingsLine (d .settings) ++ each wordLine (d .words)

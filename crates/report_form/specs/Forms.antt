@@ -113,8 +113,8 @@ seven-fields = seq (lead 9 (numbers 4)) six-fields (λ _ _ _ _. refl)
 abbrev pub fieldsOf : Settings → Fields
 fieldsOf s = (s .lanes, (s .iterations, (s .offset, (s .schedule, (s .rounds, (s .first, (s .bits, tt)))))))
 
-abbrev pub settingsOf : Fields → Settings
-settingsOf x =
+abbrev pub settingsOfFields : Fields → Settings
+settingsOfFields x =
     record {
       lanes = x .0;
       iterations = x .1 .0;
@@ -128,13 +128,13 @@ settingsOf x =
 -- the settings' line
 abbrev pub settingsForm : Form Settings
 settingsForm =
-    via (lead 80 seven-fields) fieldsOf settingsOf (λ _. refl) (λ _. refl) SettingsWithin
+    via (lead 80 seven-fields) fieldsOf settingsOfFields (λ _. refl) (λ _. refl) SettingsWithin
     (λ _ w. (w .lanes, (w .iterations, (w .offset, (w .schedule, (w .rounds, (w .first, (w .bits, tt))))))))
     (λ _ w. record { lanes = w .0; iterations = w .1 .0; offset = w .1 .1 .0; schedule = w .1 .1 .1 .0; rounds = w .1 .1 .1 .1 .0; first = w .1 .1 .1 .1 .1 .0; bits = w .1 .1 .1 .1 .1 .1 .0 })
 
 pub settings-reads : {lanes iterations step rounds first bits : ℕ} {offset : ℤ} {steps : Bool} {l₀ l₁ l₂ l₃ l₄ l₅ l₆ l₇ l₈ l₉ : Bool} {t₀ t₁ t₂ t₃ t₄ t₅ t₆ t₇ t₈ t₉ : List ℕ} → Reads (byte 80) (λ _. Unit) l₀ l₁ t₀ t₁ → Reads (lead 9 (numbers 4)) (λ v. v ≡ lanes) l₁ l₂ t₁ t₂ → Reads wides (λ v. v ≡ iterations) l₂ l₃ t₂ t₃ → Reads (lead 9 smalls) (λ v. v ≡ offset) l₃ l₄ t₃ t₄ → Reads (lead 9 schedules) (OrderSo steps step) l₄ l₅ t₄ t₅ → Reads wides (λ v. v ≡ rounds) l₅ l₆ t₅ t₆ → Reads wides (λ v. v ≡ first) l₆ l₇ t₆ t₇ → Reads wides (λ v. v ≡ bits) l₇ l₈ t₇ t₈ → Reads (byte 10) (λ _. Unit) l₈ l₉ t₈ t₉ → Reads settingsForm (SettingsSo lanes iterations offset steps step rounds first bits) l₀ l₉ t₀ t₉
 settings-reads p a b o s r f c e =
-    via-reads (lead 80 seven-fields) fieldsOf settingsOf (λ _. refl) (λ _. refl) SettingsWithin
+    via-reads (lead 80 seven-fields) fieldsOf settingsOfFields (λ _. refl) (λ _. refl) SettingsWithin
     (λ _ w. (w .lanes, (w .iterations, (w .offset, (w .schedule, (w .rounds, (w .first, (w .bits, tt))))))))
     (λ _ w. record { lanes = w .0; iterations = w .1 .0; offset = w .1 .1 .0; schedule = w .1 .1 .1 .0; rounds = w .1 .1 .1 .1 .0; first = w .1 .1 .1 .1 .1 .0; bits = w .1 .1 .1 .1 .1 .1 .0 })
     (λ x h. record { lanes-is = h .0; iterations-is = h .1 .0; offset-is = h .1 .1 .0; order-is = h .1 .1 .1 .0; rounds-is = h .1 .1 .1 .1 .0; first-is = h .1 .1 .1 .1 .1 .0; bits-is = h .1 .1 .1 .1 .1 .1 .0 })

@@ -68,7 +68,7 @@ render-length d w =
     let e = each-length (WordWithin (d .n)) wordLine 647 (word-length (d .n) (w .n)) (d .words) (w .words) in
     whole (decimal (d .n)) (each rowLine (d .rows)) (settingsLine (d .settings)) (each wordLine (d .words)) a (omega (arith, w .three)) c (omega (arith, w .sixteen))
   where
-    whole : (k r s t : List ℕ) → length k ≤ 4 → length r ≤ 78 → length s ≤ 64 → length t ≤ 10352 → length (line 78 (k ∷ []) ++ r ++ s ++ t) ≤ 10501
+    whole : (k r s t : List ℕ) → length k ≤ 4 → length r ≤ 78 → length s ≤ 64 → length t ≤ 10352 → length (line (78 ∷ []) (k ∷ []) ++ r ++ s ++ t) ≤ 10501
     whole k r s t h i j l = simp length-append (omega arith)
 
 -- so a longer text has none: one byte more than 10,501 is enough to see that

@@ -3,7 +3,7 @@ use mathlib.Core.Path.{_≡_, refl, sym, ap, ap₂, _∙_, subst}
 use mathlib.Core.List.{List, [], _∷_, _++_, map, append-assoc, append-nil}
 use Prim.Native.Nat.{ℕ, _≤_}
 use Rattle.laws.specs.Decimal.{decimal, signed}
-use Rattle.report_form.specs.Description.{Settings, Pair, Word, Description, Within, each, line, pairFields, rowLine, settingsLine, wordLine, render}
+use Rattle.report_form.specs.Description.{Pair, Word, Description, Within, each, line, pairFields, rowLine, settingsLine, wordLine, render}
 use Rattle.report_form.specs.Forms.{Body, bodyForm, headForm, rowForm, settingsForm, wordForm, pairText}
 
 abbrev pub bodyOf : Description → Body
@@ -24,6 +24,12 @@ each-same : {A : Type 0} (f g : A → List ℕ) → ((a : A) → f a ≡ g a) �
 each-same f g h [] = refl
 each-same f g h (x ∷ xs) = ap₂ (λ (a b : List ℕ). a ++ b) (h x) (each-same f g h xs)
 
+-- the fields behind the first, each behind a tab
+line-is : (field : List ℕ) (fields : List (List ℕ)) → line field fields ≡ field ++ (each (λ (f : List ℕ). 9 ∷ f) fields ++ 10 ∷ [])
+line-is field [] = refl
+line-is field (next ∷ fields) =
+    ap (λ (x : List ℕ). field ++ 9 ∷ x) (line-is next fields ∙ sym (append-assoc next (each (λ (f : List ℕ). 9 ∷ f) fields) (10 ∷ [])))
+
 row-is : (row : List ℕ) → each (λ (f : List ℕ). 9 ∷ f) (map decimal row) ≡ each (λ (a : ℕ). 9 ∷ decimal a) row
 row-is [] = refl
 row-is (a ∷ row) = ap (λ (x : List ℕ). (9 ∷ decimal a) ++ x) (row-is row)
@@ -35,17 +41,14 @@ pairs-are (p ∷ ps) =
     ∙ sym (append-assoc (9 ∷ decimal (p .position)) (9 ∷ signed (p .value)) (each pairText ps))
 
 pub row-line : (row : List ℕ) → rowLine row ≡ rowForm .write row
-row-line row = ap (λ (x : List ℕ). 82 ∷ (x ++ 10 ∷ [])) (row-is row)
-
-pub settings-line : (s : Settings) → settingsLine s ≡ settingsForm .write s
-settings-line s = simp append-assoc
+row-line row = line-is (82 ∷ []) (map decimal row) ∙ ap (λ (x : List ℕ). 82 ∷ (x ++ 10 ∷ [])) (row-is row)
 
 pub word-line : (n : ℕ) (w : Word) → wordLine w ≡ wordForm n .write w
 word-line n w =
-    ap (λ (x : List ℕ). 87 ∷ (((9 ∷ signed (w .default)) ++ x) ++ 10 ∷ [])) (pairs-are (w .pairs))
-    ∙ append-assoc (87 ∷ 9 ∷ signed (w .default)) (each pairText (w .pairs)) (10 ∷ [])
+    ap (λ (x : List ℕ). 87 ∷ 9 ∷ x) (line-is (signed (w .default)) (pairFields (w .pairs)))
+    ∙ ap (λ (x : List ℕ). 87 ∷ 9 ∷ (signed (w .default) ++ (x ++ 10 ∷ []))) (pairs-are (w .pairs))
 
-joined : (a r s w : List ℕ) → (78 ∷ 9 ∷ ((a ++ []) ++ 10 ∷ [])) ++ r ++ s ++ w ≡ (78 ∷ 9 ∷ (a ++ 10 ∷ [])) ++ ((r ++ (s ++ (w ++ []))) ++ [])
+joined : (a r s w : List ℕ) → (78 ∷ 9 ∷ (a ++ 10 ∷ [])) ++ r ++ s ++ w ≡ (78 ∷ 9 ∷ (a ++ 10 ∷ [])) ++ ((r ++ (s ++ (w ++ []))) ++ [])
 joined a r s w = simp (append-assoc, append-nil)
 
 lines : (a r r′ s s′ w w′ : List ℕ) → r ≡ r′ → s ≡ s′ → w ≡ w′ → a ++ r ++ s ++ w ≡ a ++ r′ ++ s′ ++ w′
@@ -54,9 +57,9 @@ lines a r r′ s s′ w w′ p q t = cc
 pub render-is : (d : Description) → render d ≡ headForm .write (d .n, tt) ++ (bodyForm (d .n) .write (bodyOf d) ++ [])
 unfolding render
 render-is d =
-    lines (line 78 (decimal (d .n) ∷ [])) (each rowLine (d .rows)) (each (rowForm .write) (d .rows)) (settingsLine (d .settings)) (settingsForm .write (d .settings)) (each wordLine (d .words)) (each (wordForm (d .n) .write) (d .words))
+    lines (line (78 ∷ []) (decimal (d .n) ∷ [])) (each rowLine (d .rows)) (each (rowForm .write) (d .rows)) (settingsLine (d .settings)) (settingsForm .write (d .settings)) (each wordLine (d .words)) (each (wordForm (d .n) .write) (d .words))
     (each-same rowLine (rowForm .write) row-line (d .rows))
-    (settings-line (d .settings))
+    refl
     (each-same wordLine (wordForm (d .n) .write) (word-line (d .n)) (d .words))
     ∙ joined (decimal (d .n)) (each (rowForm .write) (d .rows)) (settingsForm .write (d .settings)) (each (wordForm (d .n) .write) (d .words))
 

@@ -3,11 +3,7 @@ use mathlib.Core.Bool.{Bool, true, false}
 use mathlib.Core.List.{List, [], _∷_, _++_}
 use Prim.Native.Nat.{ℕ, zero, suc}
 use Rattle.laws.specs.Decimal.{decimal}
-
--- "Fields are parted by tabs, every line ends in a newline"; 9 is a tab and 10 a newline
-abbrev pub line : List ℕ → List (List ℕ) → List ℕ
-line field [] = field ++ 10 ∷ []
-line field (next ∷ fields) = field ++ 9 ∷ line next fields
+use Rattle.report_form.specs.Description.{line}
 
 -- "ending (`finished` or `stopped`)"
 abbrev pub endingText : Bool → List ℕ
@@ -34,8 +30,8 @@ pub record Result : Type 0 where
   pub lost : Bool
   pub corrected : ℕ
 
-abbrev pub resultOf : ℕ → ℕ → ℕ → Bool → ℕ → Result
-resultOf state iterations unsatisfied lost corrected =
+abbrev pub resultWith : ℕ → ℕ → ℕ → Bool → ℕ → Result
+resultWith state iterations unsatisfied lost corrected =
     record { state = state; iterations = iterations; unsatisfied = unsatisfied; lost = lost; corrected = corrected }
 
 -- "First line: ending, rounds"
@@ -43,16 +39,16 @@ abbrev pub firstLine : Bool → ℕ → List ℕ
 firstLine stopped rounds = line (endingText stopped) (decimal rounds ∷ [])
 
 -- "Then word, state, iterations, unsatisfied, BCH"
-abbrev pub wordLine : ℕ → Result → List ℕ
-wordLine word r = line (decimal word) (stateText (r .state) ∷ decimal (r .iterations) ∷ decimal (r .unsatisfied) ∷ bchText (r .lost) (r .corrected) ∷ [])
+abbrev pub resultLine : ℕ → Result → List ℕ
+resultLine word r = line (decimal word) (stateText (r .state) ∷ decimal (r .iterations) ∷ decimal (r .unsatisfied) ∷ bchText (r .lost) (r .corrected) ∷ [])
 
-abbrev pub wordLines : ℕ → List Result → List ℕ
-wordLines word [] = []
-wordLines word (r ∷ rs) = wordLine word r ++ wordLines (suc word) rs
+abbrev pub resultLines : ℕ → List Result → List ℕ
+resultLines word [] = []
+resultLines word (r ∷ rs) = resultLine word r ++ resultLines (suc word) rs
 
 -- the whole output of an accepted run, its words numbered from 0
 abbrev pub renderResult : Bool → ℕ → List Result → List ℕ
-renderResult stopped rounds rs = firstLine stopped rounds ++ wordLines 0 rs
+renderResult stopped rounds rs = firstLine stopped rounds ++ resultLines 0 rs
 
 -- "A refusal prints `refused`, tab, number"
 abbrev pub refusedLine : ℕ → List ℕ

@@ -7,7 +7,7 @@ use native.Mathlib.Nat.{add-zero, add-suc, suc-add}
 use native.Mathlib.Omega.{arith}
 use lib.ListN.{length, length-append}
 use Rattle.laws.specs.Decimal.{decimal, decimal-length}
-use Rattle.report_lines.specs.Lines.{Result, endingText, stateText, bchText, firstLine, wordLine, wordLines}
+use Rattle.report_lines.specs.Lines.{Result, endingText, stateText, bchText, firstLine, resultLine, resultLines}
 
 pub number-length : (v : ℕ) → v < 4294967296 → length (decimal v) ≤ 10
 number-length v h = decimal-length 9 v (omega arith)
@@ -44,7 +44,7 @@ first-line-length stopped rounds h =
     omega (arith, tabbed (endingText stopped) (decimal rounds ++ 10 ∷ []), ending-length stopped, field-length rounds 10 h)
 
 -- a word's line is at most 52 bytes long
-pub word-line-length : (word : ℕ) (r : Result) → word < 4294967296 → r .iterations < 4294967296 → r .unsatisfied < 4294967296 → r .corrected < 4294967296 → length (wordLine word r) ≤ 52
+pub word-line-length : (word : ℕ) (r : Result) → word < 4294967296 → r .iterations < 4294967296 → r .unsatisfied < 4294967296 → r .corrected < 4294967296 → length (resultLine word r) ≤ 52
 word-line-length word r w i u c =
     let bch = bchText (r .lost) (r .corrected) ++ 10 ∷ [] in
     let last = decimal (r .unsatisfied) ++ 9 ∷ bch in
@@ -53,9 +53,9 @@ word-line-length word r w i u c =
     omega (arith, tabbed (decimal word) four, field-length word 9 w, tabbed (stateText (r .state)) three, state-length (r .state), tabbed (decimal (r .iterations)) last, field-length (r .iterations) 9 i, tabbed (decimal (r .unsatisfied)) bch, field-length (r .unsatisfied) 9 u, bch-length (r .lost) (r .corrected) c)
 
 -- one word more
-pub word-lines-snoc : (word : ℕ) (rs : List Result) (r : Result) → wordLines word (rs ++ r ∷ []) ≡ wordLines word rs ++ wordLine (word + length rs) r
-word-lines-snoc word [] r = append-nil (wordLine word r) ∙ ap (λ (k : ℕ). wordLine k r) (sym (add-zero word))
+pub word-lines-snoc : (word : ℕ) (rs : List Result) (r : Result) → resultLines word (rs ++ r ∷ []) ≡ resultLines word rs ++ resultLine (word + length rs) r
+word-lines-snoc word [] r = append-nil (resultLine word r) ∙ ap (λ (k : ℕ). resultLine k r) (sym (add-zero word))
 word-lines-snoc word (q ∷ rs) r =
-    ap (λ (l : List ℕ). wordLine word q ++ l) (word-lines-snoc (suc word) rs r)
-    ∙ sym (append-assoc (wordLine word q) (wordLines (suc word) rs) (wordLine (suc word + length rs) r))
-    ∙ ap (λ (k : ℕ). wordLine word q ++ wordLines (suc word) rs ++ wordLine k r) (suc-add word (length rs) ∙ sym (add-suc word (length rs)))
+    ap (λ (l : List ℕ). resultLine word q ++ l) (word-lines-snoc (suc word) rs r)
+    ∙ sym (append-assoc (resultLine word q) (resultLines (suc word) rs) (resultLine (suc word + length rs) r))
+    ∙ ap (λ (k : ℕ). resultLine word q ++ resultLines (suc word) rs ++ resultLine k r) (suc-add word (length rs) ∙ sym (add-suc word (length rs)))

@@ -4,7 +4,7 @@ ghost use mathlib.Core.List.{_∷_, [], _++_};
 ghost use Prim.Native.Nat.{_+_, _≤_, _<_};
 ghost use lib.ListN.{length};
 ghost use Rattle.laws.specs.Decimal.{decimal};
-ghost use Rattle.report_lines.specs.Lines.{endingText, stateText, bchText, firstLine, resultOf, wordLine, refusedLine};
+ghost use Rattle.report_lines.specs.Lines.{endingText, stateText, bchText, firstLine, resultWith, resultLine, refusedLine};
 ghost use Rattle.report_lines.specs.Wrote.{Wrote};
 
 // A byte.
@@ -112,7 +112,7 @@ pub fn write_word(
     corrected: u32,
 ) -> usize
     requires { ⌜ (at + 52 ≤ length (now out)) × (state < 4) ⌝ }
-    ensures { λ r. ⌜ Wrote (wordLine word (resultOf state iterations unsatisfied lost corrected)) at (now (out .entry)) r (now (out .exit)) ⌝ }
+    ensures { λ r. ⌜ Wrote (resultLine word (resultWith state iterations unsatisfied lost corrected)) at (now (out .entry)) r (now (out .exit)) ⌝ }
 {
     let a = put_field(out, at, word, b'\t');
     let b = put_state(out, a, state);

@@ -9,7 +9,7 @@ use native.Mathlib.Omega.{arith}
 use lib.ListN.{length, drop, getD, replicate, length-append, length-replicate, replicate-append-replicate}
 use lib.Seq.{sets, sets-eq, drop-at}
 use Rattle.decoder.specs.declared.Ran.{Ran}
-use Rattle.report_lines.specs.Lines.{Result, wordLine, wordLines, refusedLine}
+use Rattle.report_lines.specs.Lines.{Result, resultLine, resultLines, refusedLine}
 use Rattle.report_lines.specs.Sizes.{word-lines-snoc}
 use Rattle.report_lines.specs.Wrote.{Wrote, wrote-then}
 use Rattle.report_text.specs.Report.{resultIn, resultsIn, linesFor, linesOf, outputOf}
@@ -35,7 +35,7 @@ pub record Writable (ran : Ran) : Type 0 where
 
 -- the lines of the first words
 abbrev pub firstLines : Ran → ℕ → List ℕ
-firstLines ran count = wordLines 0 (resultsIn ran 0 count)
+firstLines ran count = resultLines 0 (resultsIn ran 0 count)
 
 results-length : (ran : Ran) (w count : ℕ) → length (resultsIn ran w count) ≡ count
 unfolding resultsIn
@@ -50,12 +50,12 @@ results-snoc ran w (suc count) =
     ∙ ap (λ (k : ℕ). resultIn ran w ∷ (resultsIn ran (suc w) count ++ resultIn ran k ∷ [])) (suc-add w count ∙ sym (add-suc w count))
 
 -- one word more
-pub lines-snoc : (ran : Ran) (count : ℕ) → firstLines ran (suc count) ≡ firstLines ran count ++ wordLine count (resultIn ran count)
+pub lines-snoc : (ran : Ran) (count : ℕ) → firstLines ran (suc count) ≡ firstLines ran count ++ resultLine count (resultIn ran count)
 lines-snoc ran count =
-    ap (wordLines 0) (results-snoc ran 0 count)
+    ap (resultLines 0) (results-snoc ran 0 count)
     ∙ word-lines-snoc 0 (resultsIn ran 0 count) (resultIn ran (0 + count))
-    ∙ ap (λ (k : ℕ). firstLines ran count ++ wordLine (0 + k) (resultIn ran (0 + count))) (results-length ran 0 count)
-    ∙ ap (λ (k : ℕ). firstLines ran count ++ wordLine k (resultIn ran k)) (zero-add count)
+    ∙ ap (λ (k : ℕ). firstLines ran count ++ resultLine (0 + k) (resultIn ran (0 + count))) (results-length ran 0 count)
+    ∙ ap (λ (k : ℕ). firstLines ran count ++ resultLine k (resultIn ran k)) (zero-add count)
 
 -- a text at the start of zeros
 sets-zeros : (m : ℕ) (text : List ℕ) → length text ≤ m → sets (replicate m 0) 0 text ≡ text ++ replicate (m - length text) 0
@@ -94,7 +94,7 @@ writing-start ran at out = record { bound = omega arith; place = omega arith; wr
 
 -- the next word's line
 pub writing-again : (ran : Ran) (at : ℕ) (out : List ℕ) (next : ℕ) (out′ : List ℕ) (w : ℕ) {next′ : ℕ} {out″ : List ℕ} → Writing ran at out next out′ w → w < ran .words
-    → WroteShort 52 (wordLine w (resultIn ran w)) next out′ next′ out″ → Writing ran at out next′ out″ (w + 1)
+    → WroteShort 52 (resultLine w (resultIn ran w)) next out′ next′ out″ → Writing ran at out next′ out″ (w + 1)
 writing-again ran at out next out′ w {next′} {out″} h less g =
     record {
       bound = omega arith;

@@ -22,7 +22,7 @@ use Rattle.decoder.specs.declared.Ran.{Ran}
 use Rattle.report_form.specs.Description.{Description, flat}
 use Rattle.report_form.specs.Reading.{softWords}
 use Rattle.report_lines.specs.Lines.{Result, renderResult, refusedLine}
-use Rattle.report_text.specs.Report.{settingsOf, resultFor, resultIn, resultsIn, linesFor, linesOf, outputOf, Run, Reported}
+use Rattle.report_text.specs.Report.{runSettings, resultFor, resultIn, resultsIn, linesFor, linesOf, outputOf, Run, Reported}
 use Rattle.report_text.specs.Lines.{lines-refused}
 use Rattle.report_text.specs.Room.{number-is}
 use Rattle.report_text.specs.declared.Output.{Output}
@@ -75,16 +75,16 @@ first-same zero false false false false false false false h g = refl
 
 module _ (d : Description) (r r′ : Ran) (R : Run d r) (R′ : Run d r′) where
   abbrev asked : ℕ
-  asked = runRefusal (d .n) (map length (d .rows)) (flat (d .rows)) (softWords (d .n) (d .words)) (settingsOf (d .settings)) (R .room) (R .out) (R .work) (R .index)
+  asked = runRefusal (d .n) (map length (d .rows)) (flat (d .rows)) (softWords (d .n) (d .words)) (runSettings (d .settings)) (R .room) (R .out) (R .work) (R .index)
 
   abbrev asked′ : ℕ
-  asked′ = runRefusal (d .n) (map length (d .rows)) (flat (d .rows)) (softWords (d .n) (d .words)) (settingsOf (d .settings)) (R′ .room) (R′ .out) (R′ .work) (R′ .index)
+  asked′ = runRefusal (d .n) (map length (d .rows)) (flat (d .rows)) (softWords (d .n) (d .words)) (runSettings (d .settings)) (R′ .room) (R′ .out) (R′ .work) (R′ .index)
 
   is : r .refusal ≡ asked
-  is = number-is (d .n) (map length (d .rows)) (flat (d .rows)) (softWords (d .n) (d .words)) (settingsOf (d .settings)) (R .room) (R .out) (R .out′) (R .work) (R .work′) (R .index) (R .index′) r (R .runs)
+  is = number-is (d .n) (map length (d .rows)) (flat (d .rows)) (softWords (d .n) (d .words)) (runSettings (d .settings)) (R .room) (R .out) (R .out′) (R .work) (R .work′) (R .index) (R .index′) r (R .runs)
 
   is′ : r′ .refusal ≡ asked′
-  is′ = number-is (d .n) (map length (d .rows)) (flat (d .rows)) (softWords (d .n) (d .words)) (settingsOf (d .settings)) (R′ .room) (R′ .out) (R′ .out′) (R′ .work) (R′ .work′) (R′ .index) (R′ .index′) r′ (R′ .runs)
+  is′ = number-is (d .n) (map length (d .rows)) (flat (d .rows)) (softWords (d .n) (d .words)) (runSettings (d .settings)) (R′ .room) (R′ .out) (R′ .out′) (R′ .work) (R′ .work′) (R′ .index) (R′ .index′) r′ (R′ .runs)
 
   asked-same : asked ≡ asked′
   unfolding runRefusal refusalOf
@@ -98,8 +98,8 @@ module _ (d : Description) (r r′ : Ran) (R : Run d r) (R′ : Run d r′) wher
       at : Dec (asked ≡ 0) → linesOf r ≡ linesOf r′
       at (yes e) =
           ap (λ (k : ℕ). linesFor k r) (is ∙ e)
-          ∙ accepted-same (planOf (d .n) (map length (d .rows)) (softWords (d .n) (d .words)) (settingsOf (d .settings))) (map length (d .rows)) (flat (d .rows)) (softWords (d .n) (d .words))
-          (isLayered (settingsOf (d .settings) .schedule)) (stepOf (settingsOf (d .settings) .schedule)) (d .settings .offset) (d .settings .rounds)
+          ∙ accepted-same (planOf (d .n) (map length (d .rows)) (softWords (d .n) (d .words)) (runSettings (d .settings))) (map length (d .rows)) (flat (d .rows)) (softWords (d .n) (d .words))
+          (isLayered (runSettings (d .settings) .schedule)) (stepOf (runSettings (d .settings) .schedule)) (d .settings .offset) (d .settings .rounds)
           (R .out) (R .out′) (R .work) (R .work′) (R .index) (R .index′) r (R .runs .accepted e)
           (R′ .out) (R′ .out′) (R′ .work) (R′ .work′) (R′ .index) (R′ .index′) r′ (R′ .runs .accepted (sym asked-same ∙ e))
           ∙ sym (ap (λ (k : ℕ). linesFor k r′) (is′ ∙ sym asked-same ∙ e))

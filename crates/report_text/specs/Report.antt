@@ -14,21 +14,21 @@ use Rattle.decoder.specs.declared.Schedule.{Schedule as RunSchedule}
 use Rattle.decoder.specs.declared.Schedule.the-variants.{Sequential, Layered}
 use Rattle.report_form.specs.Description.{Schedule, sequential, layered, Settings, Description, Within, render, flat}
 use Rattle.report_form.specs.Reading.{softWords}
-use Rattle.report_lines.specs.Lines.{Result, resultOf, renderResult, refusedLine}
+use Rattle.report_lines.specs.Lines.{Result, resultWith, renderResult, refusedLine}
 use Rattle.report_text.specs.declared.Output.{Output}
 
 -- "lanes, iterations, offset, `S` or step, round limit, first, length", as a run takes them
-abbrev pub scheduleOf : Schedule → RunSchedule
-scheduleOf sequential = Sequential
-scheduleOf (layered step) = Layered step
+abbrev pub runSchedule : Schedule → RunSchedule
+runSchedule sequential = Sequential
+runSchedule (layered step) = Layered step
 
-abbrev pub settingsOf : Settings → RunSettings
-settingsOf s =
-    record { lanes = s .lanes; limit = s .iterations; schedule = scheduleOf (s .schedule); offset = s .offset; rounds = s .rounds; first = s .first; length = s .bits }
+abbrev pub runSettings : Settings → RunSettings
+runSettings s =
+    record { lanes = s .lanes; limit = s .iterations; schedule = runSchedule (s .schedule); offset = s .offset; rounds = s .rounds; first = s .first; length = s .bits }
 
 -- "state, iterations, unsatisfied, BCH (`-` if lost)", of a word's record
 unfoldable pub resultFor : ℕ → ℕ → ℕ → ℕ → Result
-resultFor state iterations unsatisfied bch = resultOf state iterations unsatisfied (isLost bch) bch
+resultFor state iterations unsatisfied bch = resultWith state iterations unsatisfied (isLost bch) bch
 
 -- of word w's record in a run
 unfoldable pub resultIn : Ran → ℕ → Result
@@ -60,7 +60,7 @@ pub record Run (d : Description) (ran : Ran) : Type 0 where
   pub work′ : List ℤ
   pub index : List ℕ
   pub index′ : List ℕ
-  pub runs : Runs (d .n) (map length (d .rows)) (flat (d .rows)) (softWords (d .n) (d .words)) (settingsOf (d .settings)) room out out′ work work′ index index′ ran
+  pub runs : Runs (d .n) (map length (d .rows)) (flat (d .rows)) (softWords (d .n) (d .words)) (runSettings (d .settings)) room out out′ work work′ index index′ ran
   pub enough : ran .refusal ≢ 13
 
 -- "The report program's input is not of the form": no description within the limits has this text

@@ -35,7 +35,7 @@ use Rattle.report_form.specs.Description as form
 use Rattle.report_form.specs.Reading.{OneDescription, readingOf, softWords}
 use Rattle.report_form.specs.Accepted.{Limits, flat-few, lengths-are, addresses-are, values-are, soft-words-length}
 use Rattle.report_form.specs.declared.Reading.{Reading}
-use Rattle.report_text.specs.Report.{Run, scheduleOf, settingsOf}
+use Rattle.report_text.specs.Report.{Run, runSchedule, runSettings}
 use Rattle.report_text.specs.Lines.{Writable}
 
 -- a reading's settings, as a run takes them
@@ -204,11 +204,11 @@ module _ (n : ℕ) (lens addrs : List ℕ) (soft : List ℤ) (set : Settings) (r
           }
 
 -- ---- from the reading to the description
-schedule-same : (s : form.Schedule) → scheduleFrom (form.isLayered s) (form.stepOf s) ≡ scheduleOf s
+schedule-same : (s : form.Schedule) → scheduleFrom (form.isLayered s) (form.stepOf s) ≡ runSchedule s
 schedule-same form.sequential = refl
 schedule-same (form.layered step) = refl
 
-settings-same : (d : Description) → settingsFrom (readingOf d) ≡ settingsOf (d .settings)
+settings-same : (d : Description) → settingsFrom (readingOf d) ≡ runSettings (d .settings)
 settings-same d = ap (with-schedule (d .settings)) (schedule-same (d .settings .schedule))
   where
     with-schedule : form.Settings → Schedule → Settings
@@ -219,7 +219,7 @@ module _ {text : List ℕ} {words words′ : List ℤ} {r : Reading} (D : OneDes
   abbrev On : ℕ → List ℕ → List ℕ → List ℤ → Settings → Type 0
   On n lens addrs soft set = Runs n lens addrs soft set 16 (R .out) (R .out′) (R .work) (R .work′) (R .index) (R .index′) ran
 
-  runs-so : On (D .description .n) (map length (D .description .rows)) (flat (D .description .rows)) (softWords (D .description .n) (D .description .words)) (settingsOf (D .description .settings))
+  runs-so : On (D .description .n) (map length (D .description .rows)) (flat (D .description .rows)) (softWords (D .description .n) (D .description .words)) (runSettings (D .description .settings))
   runs-so =
       subst (λ (s : Settings). On (D .description .n) (map length (D .description .rows)) (flat (D .description .rows)) (softWords (D .description .n) (D .description .words)) s)
       (ap settingsFrom (D .answer) ∙ settings-same (D .description))
@@ -240,11 +240,11 @@ module _ {text : List ℕ} {words words′ : List ℤ} {r : Reading} (D : OneDes
         index = R .index;
         index′ = R .index′;
         runs = runs-so;
-        enough = λ e. never-short (d .n) (map length (d .rows)) (flat (d .rows)) (softWords (d .n) (d .words)) (settingsOf (d .settings)) (length (d .words)) (R .out) (R .work) (R .index)
+        enough = λ e. never-short (d .n) (map length (d .rows)) (flat (d .rows)) (softWords (d .n) (d .words)) (runSettings (d .settings)) (length (d .words)) (R .out) (R .work) (R .index)
             (D .within .n) (D .within .sixteen) (soft-words-length (d .n) (d .words))
             (subst (λ (k : ℕ). length (flat (d .rows)) ≤ k * 4) (sym (length-map (d .rows) length)) (flat-few (d .rows) (D .within .rows)))
             (D .within .settings .lanes) (R .out-long) (R .work-long) (R .index-long)
-            (sym (number-is (d .n) (map length (d .rows)) (flat (d .rows)) (softWords (d .n) (d .words)) (settingsOf (d .settings)) 16 (R .out) (R .out′) (R .work) (R .work′) (R .index) (R .index′) ran runs-so) ∙ e);
+            (sym (number-is (d .n) (map length (d .rows)) (flat (d .rows)) (softWords (d .n) (d .words)) (runSettings (d .settings)) 16 (R .out) (R .out′) (R .work) (R .work′) (R .index) (R .index′) ran runs-so) ∙ e);
       }
 
   pub run-writable : Writable ran

@@ -4,7 +4,7 @@ ghost use Prim.Native.Nat.{_+_, _*_, _≤_, _<_};
 ghost use lib.ListN.{length, take};
 ghost use Rattle.outcome.specs.Outcome.{isLost};
 ghost use Rattle.report_form.specs.Accepted.{Limits};
-ghost use Rattle.report_lines.specs.Lines.{firstLine, wordLine, refusedLine};
+ghost use Rattle.report_lines.specs.Lines.{firstLine, resultLine, refusedLine};
 ghost use Rattle.report_text.specs.Report.{resultFor, linesFor, linesOf, outputOf, Reported};
 ghost use Rattle.report_text.specs.Lines.{Writable, WroteShort, firstLines};
 ghost use Rattle.report_text.specs.Room.{scheduleFrom, settingsFrom, RunOn};
@@ -45,7 +45,7 @@ fn write_line(
     bch: u32,
 ) -> usize
     requires { ⌜ (at + 52 ≤ length (now out)) × (state < 4) ⌝ }
-    ensures { λ r. ⌜ WroteShort 52 (wordLine word (resultFor state iterations unsatisfied bch)) at (now (out .entry)) r (now (out .exit)) ⌝ }
+    ensures { λ r. ⌜ WroteShort 52 (resultLine word (resultFor state iterations unsatisfied bch)) at (now (out .entry)) r (now (out .exit)) ⌝ }
 {
     report_lines::write_word(
         out,

@@ -3,10 +3,10 @@ use mathlib.Core.List.{List}
 use mathlib.Core.Path.{sym, ap, _∙_, subst}
 use Prim.Native.Nat.{ℕ}
 use borrow.Author.Needs.{needs}
-use Rattle.outcome.specs.Outcome.{lost}
+use Rattle.outcome.specs.Outcome.{lost, resultOf}
 use Rattle.bch.specs.declared.Decoded.{Decoded}
 use Rattle.bch.specs.Answers.{decodedOf, Decodes}
-use Rattle.raxdov.specs.Numbers.{decodedNumber, resultOf}
+use Rattle.raxdov.specs.Numbers.{decodedNumber, resultInto}
 use Rattle.raxdov.proofs.raxdov_bch_decode.Statement.{statement}
 use Rattle.raxdov.proofs.raxdov_bch_decode.Tie as tie
 
@@ -29,20 +29,21 @@ same-length : tie.Need-same-length
 same-length c = search needs
 
 returns : tie.Need-returns
+unfolding resultOf
 returns c =
     let d = c .before .before .before .before .before .decode .ensures in
     let e = sym (c .before .answer .given .1) ∙ d .answer in
-    (ap decodedNumber e, (told d, ap (λ (a : Decoded). resultOf a (c .before .before .before .before .before .before .before .before .args .result .now)) e))
+    (ap decodedNumber e, (told d, ap (λ (a : Decoded). resultInto a (c .before .before .before .before .before .before .before .before .args .result .now)) e))
 
 same-length-2 : tie.Need-same-length-2
 same-length-2 c = search needs
 
 returns-2 : tie.Need-returns-2
-unfolding lost
+unfolding resultOf lost
 returns-2 c =
     let d = c .before .before .before .before .decode .ensures in
     let e = sym (c .enum-told .given .1) ∙ d .answer in
-    (ap decodedNumber e, (told d, ap (λ (a : Decoded). resultOf a (c .before .before .before .before .before .before .before .args .result .now)) e))
+    (ap decodedNumber e, (told d, ap (λ (a : Decoded). resultInto a (c .before .before .before .before .before .before .before .args .result .now)) e))
 
 same-length-3 : tie.Need-same-length-3
 same-length-3 c = search needs
@@ -51,7 +52,7 @@ returns-3 : tie.Need-returns-3
 returns-3 c =
     let d = c .before .before .before .before .before .decode .ensures in
     let e = sym (c .before .answer2 .given .1) ∙ d .answer in
-    (ap decodedNumber e, (told d, ap (λ (a : Decoded). resultOf a (c .before .before .before .before .before .before .before .before .args .result .now)) e))
+    (ap decodedNumber e, (told d, ap (λ (a : Decoded). resultInto a (c .before .before .before .before .before .before .before .before .args .result .now)) e))
 
 pub raxdov-bch-decode-spec : {M : Type 1} → statement M
 raxdov-bch-decode-spec =

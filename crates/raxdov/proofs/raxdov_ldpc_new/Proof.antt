@@ -3,7 +3,7 @@ use mathlib.Core.Path.{sym, ap, _∙_}
 use borrow.Author.Needs.{needs}
 use Rattle.ldpc.specs.declared.Made.{Made}
 use Rattle.ldpc.specs.Answers.{madeNumber}
-use Rattle.raxdov.specs.Numbers.{numbersOf}
+use Rattle.raxdov.specs.Numbers.{numbersInto}
 use Rattle.raxdov.proofs.raxdov_ldpc_new.Statement.{statement}
 use Rattle.raxdov.proofs.raxdov_ldpc_new.Tie as tie
 
@@ -22,7 +22,7 @@ same-length c = search needs
 returns : tie.Need-returns
 returns c =
     let e = sym (c .before .answer .given .1) ∙ c .before .before .before .before .before .new .ensures .0 in
-    (ap madeNumber e, (c .before .before .before .before .before .new .ensures .1, ap (λ (a : Made). numbersOf a (c .before .before .before .before .before .before .before .before .before .before .args .code .now)) e))
+    (ap madeNumber e, (c .before .before .before .before .before .new .ensures .1, ap (λ (a : Made). numbersInto a (c .before .before .before .before .before .before .before .before .before .before .args .code .now)) e))
 
 same-length-2 : tie.Need-same-length-2
 same-length-2 c = search needs
@@ -30,7 +30,7 @@ same-length-2 c = search needs
 returns-2 : tie.Need-returns-2
 returns-2 c =
     let e = sym (c .before .before .answer2 .given .1) ∙ c .before .before .before .before .before .before .new .ensures .0 in
-    (ap madeNumber e, (c .before .before .before .before .before .before .new .ensures .1, ap (λ (a : Made). numbersOf a (c .before .before .before .before .before .before .before .before .before .before .before .args .code .now)) e))
+    (ap madeNumber e, (c .before .before .before .before .before .before .new .ensures .1, ap (λ (a : Made). numbersInto a (c .before .before .before .before .before .before .before .before .before .before .before .args .code .now)) e))
 
 pub raxdov-ldpc-new-spec : {M : Type 1} → statement M
 raxdov-ldpc-new-spec =

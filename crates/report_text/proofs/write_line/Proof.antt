@@ -3,7 +3,7 @@
 use mathlib.Core.Path.{subst}
 use mathlib.Core.Bool.{Bool}
 use denote.Ref.{now}
-use Rattle.report_lines.specs.Lines.{resultOf, wordLine}
+use Rattle.report_lines.specs.Lines.{resultWith, resultLine}
 use Rattle.report_lines.specs.Wrote.{Wrote}
 use Rattle.report_lines.specs.Sizes.{word-line-length}
 use Rattle.report_text.specs.Report.{resultFor}
@@ -30,7 +30,7 @@ returns c =
     let a = s .args in
     record {
       wrote =
-          subst (λ (b : Bool). Wrote (wordLine (a .word) (resultOf (a .state) (a .iterations) (a .unsatisfied) b (a .bch))) (a .at) (now (a .out)) (c .before .before .write-word .result) (c .before .before .write-word .last .0))
+          subst (λ (b : Bool). Wrote (resultLine (a .word) (resultWith (a .state) (a .iterations) (a .unsatisfied) b (a .bch))) (a .at) (now (a .out)) (c .before .before .write-word .result) (c .before .before .write-word .last .0))
           (c .before .before .before .is-lost .ensures) (c .before .before .write-word .ensures);
       short = word-line-length (a .word) (resultFor (a .state) (a .iterations) (a .unsatisfied) (a .bch)) (s .fits .word .fits) (s .fits .iterations .fits) (s .fits .unsatisfied .fits) (s .fits .bch .fits);
     }
