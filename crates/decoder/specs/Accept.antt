@@ -2,25 +2,25 @@
 use mathlib.Core.Path.{_≡_, refl, sym, ap, ap₂, _∙_, subst, subst₂}
 use mathlib.Core.Bool.{Bool}
 use mathlib.Core.List.{List, _++_}
-use Prim.Native.Nat.{ℕ, zero, suc, _+_, _-_, _*_, _≤_, _<_}
+use Prim.Native.Nat.{ℕ, _+_, _-_, _*_, _≤_, _<_}
 use native.Mathlib.Omega.{arith}
 use lib.IntN.{ℤ, pos}
 use lib.ListN.{length, getD, take, drop, replicate, length-append, length-drop, length-replicate}
 use lib.Seq.{take-at, drop-at}
+use Rattle.laws.specs.Lists.{zeros-at}
 use Rattle.lane_math.specs.Check.{Word}
 use Rattle.ldpc_shape.specs.Shape.{pOf, eOf, refusalOf}
 use Rattle.ldpc_shape.specs.Accepted.{Accepted, accepted}
 use Rattle.ldpc_edges.specs.Code.{edgeLists}
 use Rattle.fixed_code.specs.Lists.{edgesIn}
-use Rattle.fixed_code.specs.Code.{edges-are}
+use Rattle.fixed_code.specs.Code.{codeOf, edges-at}
 use Rattle.schedule.specs.Status.{largest, longest}
 use Rattle.schedule.specs.Status as schedule
 use Rattle.schedule.specs.Demand.{Demand}
 use Rattle.schedule.specs.Theorem.{input-order, input-count, demand-in-input-order}
-use Rattle.outcome.specs.Code.{codeOf}
 use Rattle.decoder_refuse.specs.Refusal.{workNeed, indexNeed}
 use Rattle.decoder_words.specs.Book.{Book, View, book, view, ownPart, Room}
-use Rattle.decoder_words.specs.Given.{Given}
+use Rattle.decoder_words.specs.Given.{Fair, Given}
 use Rattle.decoder_words.specs.declared.Plan.{Plan}
 use Rattle.decoder_assign.specs.Assign.{Ordered}
 use Rattle.decoder_rounds.specs.Rounds.{Blank, Finishes}
@@ -34,24 +34,13 @@ pub record Planned (plan : Plan) (e : ℕ) (lens addrs : List ℕ) (soft : List 
   pub code : refusalOf (plan .n) lens addrs ≡ 0
   pub checks : plan .p ≡ pOf (plan .n) lens
   pub edges : e ≡ eOf (plan .n) lens addrs
-  pub some-lanes : 0 < plan .lanes
-  pub few-lanes : plan .lanes ≤ 64
-  pub few-words : plan .words ≤ 4096
-  pub limit-fits : plan .limit ≤ 65535
-  pub part-long : 193 ≤ plan .size
-  pub part-short : plan .size ≤ 65535
-  pub part-within : plan .first + plan .size ≤ plan .n
+  pub fair : Fair plan
   pub soft-long : length soft ≡ plan .words * plan .n
   pub out-fits : plan .words * plan .n ≤ length out
   pub work-fits : workNeed (plan .n) e (plan .lanes) ≤ length work
   pub index-fits : e + plan .p + 1 ≤ length index
 
 -- ---- zeros
-pub zeros-at : (m w : ℕ) → getD {A = ℕ} (replicate m 0) w 0 ≡ 0
-zeros-at zero w = refl
-zeros-at (suc m) zero = refl
-zeros-at (suc m) (suc w) = zeros-at m w
-
 abbrev pub zeroBook : ℕ → List ℕ → Book
 zeroBook m out = book (replicate m 0) (replicate m 0) (replicate m 0) (replicate m 0) (replicate m 0) out
 
@@ -72,23 +61,10 @@ module _ (plan : Plan) (e : ℕ) (lens addrs : List ℕ) (soft : List ℤ) (out 
 
   module _ (index₁ : List ℕ) (is : index₁ ≡ edgeLists (plan .n) lens addrs) where
     pub given-so : Given plan lens addrs index₁ soft
-    given-so =
-        record {
-          code = P .code;
-          lists = is;
-          checks = P .checks;
-          some-lanes = P .some-lanes;
-          few-lanes = P .few-lanes;
-          few-words = P .few-words;
-          limit-fits = P .limit-fits;
-          part-long = P .part-long;
-          part-short = P .part-short;
-          part-within = P .part-within;
-          soft-long = P .soft-long;
-        }
+    given-so = record { coded = record { code = P .code; lists = is; checks = P .checks }; fair = P .fair; soft-long = P .soft-long }
 
     pub edges-so : e ≡ edgesIn (plan .p) index₁
-    edges-so = P .edges ∙ sym (ap (λ p. edgesIn p index₁) (P .checks) ∙ edges-are (plan .n) lens addrs ok index₁ is)
+    edges-so = P .edges ∙ sym (edges-at (plan .n) (plan .p) lens addrs index₁ (P .checks) is ok)
 
     -- the work as lent has just the rows needed
     pub work-so : (need : ℕ) → need ≡ workNeed (plan .n) e (plan .lanes) → (plan .n + 3 * edgesIn (plan .p) index₁) * plan .lanes ≤ need

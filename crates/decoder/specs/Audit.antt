@@ -10,13 +10,13 @@ use native.Mathlib.Decide.{ℕ-discrete}
 use lib.IntN.{ℤ}
 use lib.ListN.{length, take, drop}
 use Rattle.lane_math.specs.Check.{Word}
+use Rattle.fixed_code.specs.Code.{codeOf}
 use Rattle.schedule.specs.Alone.{after, ends}
 use Rattle.schedule.specs.Status.{Status, waiting, holding, done, status}
 use Rattle.bch.specs.Distance.{distance}
 use Rattle.bch.specs.Exact.{Near}
 use Rattle.schedule.specs.Demand.{As-alone}
-use Rattle.outcome.specs.Code.{codeOf}
-use Rattle.outcome.specs.Outcome.{Outcome, begin, ownWord, bitsOf, metOf, unmetOf, corrected, bchOf, lost, stateOf, isFinished, outcomeOf, alone}
+use Rattle.outcome.specs.Outcome.{Outcome, begin, bitsOf, metOf, unmetOf, corrected, bchOf, lost, stateOf, isFinished, outcomeOf, alone}
 use Rattle.outcome.specs.Laws.{bits-length}
 use Rattle.outcome.specs.Part.{Part, kept-exactly, kept-count}
 use Rattle.decoder_refuse.specs.Accepted.{accepted}
@@ -83,22 +83,22 @@ module _ (n : ℕ) (lens addrs : List ℕ) where
   accepts A = A .runs .accepted (A .accepted)
 
   -- a finished word has its outcome alone
-  pub finished-alone : (A : Run) (w : ℕ) → isFinished (says A w .state) ≡ true → outcomeIn (says A w) ≡ aloneBy (A .set) (ownWord n w (A .soft))
+  pub finished-alone : (A : Run) (w : ℕ) → isFinished (says A w .state) ≡ true → outcomeIn (says A w) ≡ aloneBy (A .set) (ownPart n w (A .soft))
   finished-alone A w f = at (status (theRun (planOf n lens (A .soft) (A .set)) lens addrs (A .soft) (isLayered (A .set .schedule)) (stepOf (A .set .schedule)) (A .set .offset) (A .set .rounds) .last) w) (accepts A .told w) (accepts A .demanded w)
     where
       at : (st : Status Word)
           → Tells (codeOf n lens addrs) n (pOf n lens) (A .set .first) (A .set .length) (ownPart n w (A .out)) st (says A w)
           → Demanded (codeOf n lens addrs) (iterate (A .set)) n (pOf n lens) (A .set .limit) (A .set .first) (A .set .length) (A .soft) (ownPart n w (A .out)) w st (says A w)
-          → outcomeIn (says A w) ≡ aloneBy (A .set) (ownWord n w (A .soft))
+          → outcomeIn (says A w) ≡ aloneBy (A .set) (ownPart n w (A .soft))
       at waiting t d = absurd (not-finished 0 (omega arith) (ap isFinished (sym (ap (λ (v : View). v .state) t)) ∙ f))
       at (holding x i) t d = absurd (not-finished 1 (omega arith) (ap isFinished (sym (t .state)) ∙ f))
       at (done x i) t d = d
 
   -- The first question: two accepted runs of a code with the same settings of a word, whatever their other words, lane counts and round limits. Where both
   -- finish a word with the same soft values, they give it the same bits, state, iterations, unsatisfied checks and BCH result.
-  pub independent : (A B : Run) → Same-settings (A .set) (B .set) → (v w : ℕ) → ownWord n v (A .soft) ≡ ownWord n w (B .soft)
+  pub independent : (A B : Run) → Same-settings (A .set) (B .set) → (v w : ℕ) → ownPart n v (A .soft) ≡ ownPart n w (B .soft)
       → isFinished (says A v .state) ≡ true → isFinished (says B w .state) ≡ true → outcomeIn (says A v) ≡ outcomeIn (says B w)
-  independent A B S v w e f g = finished-alone A v f ∙ same-alone (A .set) (B .set) S (ownWord n v (A .soft)) (ownWord n w (B .soft)) e ∙ sym (finished-alone B w g)
+  independent A B S v w e f g = finished-alone A v f ∙ same-alone (A .set) (B .set) S (ownPart n v (A .soft)) (ownPart n w (B .soft)) e ∙ sym (finished-alone B w g)
     where
       same-alone : (s t : Settings) → Same-settings s t → (a b : List ℤ) → a ≡ b → aloneBy s a ≡ aloneBy t b
       same-alone s t S a b e =
@@ -123,7 +123,7 @@ module _ (n : ℕ) (lens addrs : List ℕ) where
 
   module _ (A : Run) (w : ℕ) (f : isFinished (says A w .state) ≡ true) where
     abbrev own : List ℤ
-    own = ownWord n w (A .soft)
+    own = ownPart n w (A .soft)
 
     part : Part (A .set .first) (A .set .length) (bitsAlone (A .set) own)
     part = fits A (after (begin n own) (iterate (A .set)) (atEnd (A .set) own))
@@ -136,7 +136,7 @@ module _ (n : ℕ) (lens addrs : List ℕ) where
 
     -- The second question: a finished word is lost exactly when no codeword of that length differs in at most 12 positions from the BCH part of its hard
     -- decisions.
-    pub lost-exactly : says A w .bch ≡ lost ↔ ((v : List ℕ) → Near (partOf (A .set) (bitsAlone (A .set) (ownWord n w (A .soft)))) v → ⊥)
+    pub lost-exactly : says A w .bch ≡ lost ↔ ((v : List ℕ) → Near (partOf (A .set) (bitsAlone (A .set) (ownPart n w (A .soft)))) v → ⊥)
     lost-exactly = (λ q v N. kept .1 (v, N) (sym result ∙ q), λ h. result ∙ back (ℕ-discrete (bchOf (A .set .first) (A .set .length) (bitsAlone (A .set) own)) lost) h)
       where
         kept : (bchOf (A .set .first) (A .set .length) (bitsAlone (A .set) own) ≢ lost) ↔ ((v : List ℕ) × Near (partOf (A .set) (bitsAlone (A .set) own)) v)
@@ -149,8 +149,8 @@ module _ (n : ℕ) (lens addrs : List ℕ) where
 
     -- a finished word that is not lost: the BCH part of its output is such a codeword, and its BCH result is the number of bits changed
     pub corrected-bits : says A w .bch ≢ lost
-        → Near (partOf (A .set) (bitsAlone (A .set) (ownWord n w (A .soft)))) (partOf (A .set) (says A w .bits))
-        × (distance (partOf (A .set) (bitsAlone (A .set) (ownWord n w (A .soft)))) (partOf (A .set) (says A w .bits)) ≡ says A w .bch)
+        → Near (partOf (A .set) (bitsAlone (A .set) (ownPart n w (A .soft)))) (partOf (A .set) (says A w .bits))
+        × (distance (partOf (A .set) (bitsAlone (A .set) (ownPart n w (A .soft)))) (partOf (A .set) (says A w .bits)) ≡ says A w .bch)
     corrected-bits h =
         let k = kept-count (A .set .first) (A .set .length) (bitsAlone (A .set) own) part (λ q. h (result ∙ q)) in (
           subst (λ (x : List ℕ). Near (partOf (A .set) (bitsAlone (A .set) own)) (partOf (A .set) x)) (sym left) (k .0),
@@ -159,9 +159,9 @@ module _ (n : ℕ) (lens addrs : List ℕ) where
 
   -- a held word: its bits and its unsatisfied checks are those alone after its recorded iterations, which are fewer than those at its end
   pub held-alone : (A : Run) (w : ℕ) → says A w .state ≡ 1
-      → (says A w .bits ≡ bitsOf n (after (begin n (ownWord n w (A .soft))) (iterate (A .set)) (says A w .iterations)))
-      × (says A w .unsatisfied ≡ unmetOf (codeOf n lens addrs) (pOf n lens) (after (begin n (ownWord n w (A .soft))) (iterate (A .set)) (says A w .iterations)))
-      × (says A w .iterations < atEnd (A .set) (ownWord n w (A .soft)))
+      → (says A w .bits ≡ bitsOf n (after (begin n (ownPart n w (A .soft))) (iterate (A .set)) (says A w .iterations)))
+      × (says A w .unsatisfied ≡ unmetOf (codeOf n lens addrs) (pOf n lens) (after (begin n (ownPart n w (A .soft))) (iterate (A .set)) (says A w .iterations)))
+      × (says A w .iterations < atEnd (A .set) (ownPart n w (A .soft)))
   unfolding wordsOf outcomeOf
   held-alone A w s = at (status (theRun (planOf n lens (A .soft) (A .set)) lens addrs (A .soft) (isLayered (A .set .schedule)) (stepOf (A .set .schedule)) (A .set .offset) (A .set .rounds) .last) w)
       (accepts A .told w) (accepts A .demanded w) (accepts A .demand .as-alone w)
@@ -170,13 +170,13 @@ module _ (n : ℕ) (lens addrs : List ℕ) where
           → Tells (codeOf n lens addrs) n (pOf n lens) (A .set .first) (A .set .length) (ownPart n w (A .out)) st (says A w)
           → Demanded (codeOf n lens addrs) (iterate (A .set)) n (pOf n lens) (A .set .limit) (A .set .first) (A .set .length) (A .soft) (ownPart n w (A .out)) w st (says A w)
           → As-alone (wordsOf (codeOf n lens addrs) (iterate (A .set)) n (pOf n lens) (A .set .limit) (A .soft)) w st
-          → (says A w .bits ≡ bitsOf n (after (begin n (ownWord n w (A .soft))) (iterate (A .set)) (says A w .iterations)))
-          × (says A w .unsatisfied ≡ unmetOf (codeOf n lens addrs) (pOf n lens) (after (begin n (ownWord n w (A .soft))) (iterate (A .set)) (says A w .iterations)))
-          × (says A w .iterations < atEnd (A .set) (ownWord n w (A .soft)))
+          → (says A w .bits ≡ bitsOf n (after (begin n (ownPart n w (A .soft))) (iterate (A .set)) (says A w .iterations)))
+          × (says A w .unsatisfied ≡ unmetOf (codeOf n lens addrs) (pOf n lens) (after (begin n (ownPart n w (A .soft))) (iterate (A .set)) (says A w .iterations)))
+          × (says A w .iterations < atEnd (A .set) (ownPart n w (A .soft)))
       at waiting t d a = let z : says A w .state ≡ 0 = ap (λ (v : View). v .state) t in absurd (omega (arith, z, s))
       at (holding x i) t d a = (
         d .bits,
-        t .unsatisfied ∙ ap (unmetOf (codeOf n lens addrs) (pOf n lens)) (a .0 ∙ ap (after (begin n (ownWord n w (A .soft))) (iterate (A .set))) (sym (t .iterations))),
+        t .unsatisfied ∙ ap (unmetOf (codeOf n lens addrs) (pOf n lens)) (a .0 ∙ ap (after (begin n (ownPart n w (A .soft))) (iterate (A .set))) (sym (t .iterations))),
         d .fewer,
       )
       at (done x i) t d a = absurd (over-state (metOf (codeOf n lens addrs) (pOf n lens) x) (sym (ap (λ (o : Outcome). o .state) (t .outcome)) ∙ s))

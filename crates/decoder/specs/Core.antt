@@ -64,13 +64,17 @@ module _ (n : ℕ) (lens addrs : List ℕ) (soft : List ℤ) (set : Settings) (r
           code = c .code;
           checks = a;
           edges = b;
-          some-lanes = c .some-lanes;
-          few-lanes = c .few-lanes;
-          few-words = c .few-words;
-          limit-fits = c .limit-fits;
-          part-long = c .part-long;
-          part-short = c .part-short;
-          part-within = c .part-within;
+          fair =
+              record {
+                n-le = code-fine .small;
+                some-lanes = c .some-lanes;
+                few-lanes = c .few-lanes;
+                few-words = c .few-words;
+                limit-fits = c .limit-fits;
+                part-long = c .part-long;
+                part-short = c .part-short;
+                part-within = c .part-within;
+              };
           soft-long = omega (arith, c .whole, div-add-mod' (length soft) n);
           out-fits = c .out-fits;
           work-fits = omega (arith, c .work-fits, ap (λ z. (n + 3 * z) * set .lanes) b);

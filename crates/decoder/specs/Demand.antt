@@ -11,14 +11,14 @@ use Rattle.schedule.specs.Status.{Status, waiting, holding, done, status, spent
 use Rattle.schedule.specs.Demand.{Demand, As-alone}
 use Rattle.schedule.specs.Places.{sum-ext}
 use Rattle.schedule.specs.Theorem.{spent-within}
-use Rattle.outcome.specs.Outcome.{Outcome, begin, ownWord, metOf, bitsOf, outcomeOf, alone}
-use Rattle.decoder_words.specs.Book.{View}
+use Rattle.outcome.specs.Outcome.{Outcome, begin, metOf, bitsOf, outcomeOf, alone}
+use Rattle.decoder_words.specs.Book.{View, ownPart}
 use Rattle.decoder_words.specs.Tells.{Tells, untouched, outcomeIn}
 use Rattle.decoder_words.specs.Given.{wordsOf}
 
 module _ (code : Code) (iterate : Word → Word) (n p limit first size : ℕ) (soft : List ℤ) where
   abbrev pub beginning : ℕ → Word
-  beginning w = begin n (ownWord n w soft)
+  beginning w = begin n (ownPart n w soft)
 
   -- a held word's bits are those alone after its recorded iterations, fewer than those at its end
   pub record Holds-alone (w : ℕ) (v : View) : Type 0 where
@@ -30,7 +30,7 @@ module _ (code : Code) (iterate : Word → Word) (n p limit first size : ℕ) (s
   abbrev pub Demanded : List ℕ → ℕ → Status Word → View → Type 0
   Demanded bits w waiting v = v ≡ untouched bits
   Demanded bits w (holding x i) v = Holds-alone w v
-  Demanded bits w (done x i) v = outcomeIn v ≡ alone code n p iterate limit first size (ownWord n w soft)
+  Demanded bits w (done x i) v = outcomeIn v ≡ alone code n p iterate limit first size (ownPart n w soft)
 
   abbrev words : Words Word
   words = wordsOf code iterate n p limit soft

@@ -9,8 +9,8 @@ use lib.ListN.{length, getD, drop}
 use lib.Seq.{getD-take, getD-drop, ext-getD}
 use Rattle.lane_math.specs.Check.{Word}
 use Rattle.lane_math.specs.Iteration.{Code}
+use Rattle.fixed_code.specs.Code.{codeOf}
 use Rattle.schedule.specs.Status.{Status, waiting, holding, done, status}
-use Rattle.outcome.specs.Code.{codeOf}
 use Rattle.outcome.specs.Outcome.{Outcome}
 use Rattle.decoder_words.specs.Book.{View, book, view, ownPart}
 use Rattle.decoder_words.specs.Tells.{Tells, outcomeIn}

@@ -9,10 +9,10 @@ use lib.IntN.{ℤ, pos}
 use lib.ListN.{length, getD, drop, replicate}
 use Rattle.lane_math.specs.Check.{Word}
 use Rattle.ldpc_shape.specs.Shape.{eOf}
+use Rattle.fixed_code.specs.Code.{codeOf}
 use Rattle.schedule.specs.Run.{Words, Result, is-stopped, held, run, input-order}
 use Rattle.schedule.specs.Status.{waiting, status, largest}
 use Rattle.schedule.specs.Demand.{Demand}
-use Rattle.outcome.specs.Code.{codeOf}
 use Rattle.decoder_refuse.specs.Refusal.{workNeed, indexNeed}
 use Rattle.decoder_words.specs.Book.{book, view, ownPart}
 use Rattle.decoder_words.specs.Tells.{Tells}

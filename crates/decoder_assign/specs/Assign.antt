@@ -15,8 +15,8 @@ use Rattle.schedule.specs.Run.{over}
 use Rattle.schedule.specs.Status.{Status, done}
 use Rattle.schedule.specs.Lanes.{any-held}
 use Rattle.schedule.specs.Refill.{Assigning, Assigned, assigning-start, assigning-on, assigning-quick, assigning-hold, assigning-end}
-use Rattle.outcome.specs.Outcome.{begin, ownWord, metOf}
-use Rattle.decoder_words.specs.Book.{Book, view, Same, Only, same-refl, same-on}
+use Rattle.outcome.specs.Outcome.{begin, metOf}
+use Rattle.decoder_words.specs.Book.{Book, view, ownPart, Same, Only, same-refl, same-on}
 use Rattle.decoder_words.specs.Tells.{Told, Ends, put, put-same, put-other, told-put}
 use Rattle.decoder_words.specs.Given.{wordsOf, setup}
 use Rattle.decoder_words.specs.declared.Plan.{Plan}
@@ -79,12 +79,12 @@ module _ (code : Code) (plan : Plan) (soft : List ℤ) (order : List ℕ) where
 
   -- lane l is the lowest empty lane, and a word waits
   module _ (held iters : List ℕ) (next : ℕ) (B : Book) (l : ℕ) (in-lanes : l < plan .lanes) (p : (k : ℕ) → k < l → getD held k 0 ≢ 0) (none : getD held l 0 ≡ 0) (some : next < length order)
-      (once : Bool) (is : once ≡ (metOf code (plan .p) (begin (plan .n) (ownWord (plan .n) (getD order next 0) soft)) || eqb 0 (plan .limit))) where
+      (once : Bool) (is : once ≡ (metOf code (plan .p) (begin (plan .n) (ownPart (plan .n) (getD order next 0) soft)) || eqb 0 (plan .limit))) where
     abbrev W : ℕ
     W = getD order next 0
 
     abbrev X : Word
-    X = begin (plan .n) (ownWord (plan .n) W soft)
+    X = begin (plan .n) (ownPart (plan .n) W soft)
 
     test : (iterate : Word → Word) → once ≡ over (wordsOf code iterate (plan .n) (plan .p) (plan .limit) soft) X 0
     unfolding over wordsOf

@@ -2,8 +2,8 @@
 // iteration limit 0) leaves with 0 iterations, and the lane refills.
 ghost use Prim.Native.Nat.{_≤_};
 ghost use lib.ListN.{length};
+ghost use Rattle.fixed_code.specs.Code.{codeOf};
 ghost use Rattle.schedule.specs.Lanes.{Sized};
-ghost use Rattle.outcome.specs.Code.{codeOf};
 ghost use Rattle.decoder_words.specs.Book.{book, Room};
 ghost use Rattle.decoder_words.specs.Given.{Given};
 ghost use Rattle.decoder_assign.specs.Assign.{Ordered, Assigns};

@@ -9,12 +9,12 @@ use lib.ListN.{length}
 use Rattle.lane_math.specs.Check.{Word}
 use Rattle.lane_math.specs.Iteration.{Code, sequential, layered}
 use Rattle.simd.specs.Words.{word}
-use Rattle.ldpc_shape.specs.Shape.{pOf, qOf, eOf, refusalOf}
+use Rattle.ldpc_shape.specs.Shape.{qOf, eOf}
 use Rattle.ldpc_shape.specs.Accepted.{accepted}
-use Rattle.ldpc_edges.specs.Code.{edgeLists}
 use Rattle.fixed_code.specs.Lists.{edgesIn}
-use Rattle.fixed_code.specs.Code.{codeOf, code-in, edges-are}
+use Rattle.fixed_code.specs.Code.{code-at, edges-at}
 use Rattle.fixed_layered.specs.Layered.{Layered}
+use Rattle.decoder_words.specs.Given.{Coded}
 use Rattle.decoder_words.specs.declared.Plan.{Plan}
 use Rattle.decoder_lanes.specs.Lane.{Working, laneWord, laneCode}
 
@@ -26,12 +26,6 @@ iterationOf true step offset code p x = layered offset code (p / 374) step x
 abbrev pub Iterates : Bool → ℕ → ℤ → Plan → List ℕ → List ℤ → List ℤ → Type 0
 Iterates layers step offset plan index work work′ =
     (l : ℕ) → l < plan .lanes → laneWord plan index work′ l ≡ iterationOf layers step offset (laneCode plan index) (plan .p) (laneWord plan index work l)
-
--- the slice holds an accepted code's lists
-pub record Coded (plan : Plan) (lens addrs index : List ℕ) : Type 0 where
-  pub code : refusalOf (plan .n) lens addrs ≡ 0
-  pub lists : index ≡ edgeLists (plan .n) lens addrs
-  pub checks : plan .p ≡ pOf (plan .n) lens
 
 -- a layered schedule has a step
 abbrev pub Stepped : Bool → ℕ → Type 0
@@ -49,11 +43,7 @@ module _ (layers : Bool) (step : ℕ) (offset offset′ : ℤ) (code : Code) (p 
 -- ---- the layered column law over the lanes' words
 module _ (plan : Plan) (lens addrs index : List ℕ) (C : Coded plan lens addrs index) where
   edges-same : edgesIn (plan .p) index ≡ eOf (plan .n) lens addrs
-  edges-same = ap (λ p. edgesIn p index) (C .checks) ∙ edges-are (plan .n) lens addrs (accepted (plan .n) lens addrs (C .code)) index (C .lists)
-
-  code-same : laneCode plan index ≡ codeOf (plan .n) lens addrs
-  code-same = (λ i. laneCode (record { n = plan .n; p = C .checks i; lanes = plan .lanes; limit = plan .limit; first = plan .first; size = plan .size; words = plan .words }) index)
-      ∙ code-in (plan .n) lens addrs index (C .lists)
+  edges-same = edges-at (plan .n) (plan .p) lens addrs index (C .checks) (C .lists) (accepted (plan .n) lens addrs (C .code))
 
   layers-same : plan .p / 374 ≡ qOf (plan .n) lens
   unfolding qOf
@@ -66,4 +56,4 @@ module _ (plan : Plan) (lens addrs index : List ℕ) (C : Coded plan lens addrs 
       → laneWord plan index a′ l ≡ layered o (laneCode plan index) (plan .p / 374) s (laneWord plan index a l)
   layered-words o s a a′ v l h =
       ap (λ e. word (plan .n) e (plan .lanes) a′ l) edges-same ∙ v .words l h
-      ∙ sym (λ i. layered o (code-same i) (layers-same i) s (word (plan .n) (edges-same i) (plan .lanes) a l))
+      ∙ sym (λ i. layered o (code-at (plan .n) (plan .p) lens addrs index (C .checks) (C .lists) i) (layers-same i) s (word (plan .n) (edges-same i) (plan .lanes) a l))

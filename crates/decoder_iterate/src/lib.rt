@@ -1,6 +1,7 @@
 // One iteration of every lane's word, by the schedule.
+ghost use Rattle.decoder_words.specs.Given.{Coded};
 ghost use Rattle.decoder_lanes.specs.Lane.{Working};
-ghost use Rattle.decoder_iterate.specs.Iterate.{Iterates, Coded, Stepped};
+ghost use Rattle.decoder_iterate.specs.Iterate.{Iterates, Stepped};
 use decoder_words::Plan;
 
 // The sequential schedule has no step.

@@ -3,13 +3,12 @@ use mathlib.Core.Path.{_≡_, refl, sym, ap, subst, _∙_}
 use mathlib.Core.Bool.{Bool, true, false}
 use mathlib.Core.List.{List, _∷_, _++_, append-nil}
 use Prim.Native.Nat.{ℕ, zero, suc, _+_, _-_, _*_, _≤_, _<_}
-use native.Mathlib.Nat.{mul-le-mul, mul-le-mul-right}
+use native.Mathlib.Nat.{mul-le-mul-right}
 use native.Mathlib.Omega.{arith}
 use borrow.Author.Tests.{eqb-true}
 use lib.Dec.{T}
 use lib.IntN.{ℤ}
-use lib.ListN.{getD, length, take, drop, length-drop, drop-of-length-le}
-use lib.Seq.{length-take-le}
+use lib.ListN.{getD, length, drop, drop-of-length-le}
 use Rattle.lane_math.specs.Check.{Word}
 use Rattle.lane_math.specs.Iteration.{Code, hard}
 use Rattle.lane_memory.specs.Column.{column}
@@ -17,21 +16,16 @@ use Rattle.simd.specs.Words.{within, wordOf, word}
 use Rattle.fixed_code.specs.Lists.{edgesIn, codeIn, Memory}
 use Rattle.fixed_lanes.specs.Read.{decisions}
 use Rattle.fixed_syndrome.specs.Count as syndrome
-use Rattle.outcome.specs.Outcome.{ownWord, bitsFrom, bitsOf, unmetOf, metOf}
+use Rattle.outcome.specs.Outcome.{bitsFrom, bitsOf, unmetOf, metOf}
 use Rattle.outcome.specs.Scan.{Counted}
-use Rattle.decoder_words.specs.Part.{word-ends}
+use Rattle.decoder_words.specs.Given.{Fair}
 use Rattle.decoder_words.specs.declared.Plan.{Plan}
 
 -- what a run over lanes may count on
 pub record Working (plan : Plan) (index : List ℕ) (work : List ℤ) : Type 0 where
   pub memory : Memory (plan .n) (plan .p) (plan .lanes) index work
-  pub n-le : plan .n ≤ 44880
+  pub fair : Fair plan
   pub p-le : plan .p ≤ 44880
-  pub few-words : plan .words ≤ 4096
-  pub limit-fits : plan .limit ≤ 65535
-  pub part-long : 193 ≤ plan .size
-  pub part-short : plan .size ≤ 65535
-  pub part-within : plan .first + plan .size ≤ plan .n
 
 -- the word of a lane, and the code
 abbrev pub laneWord : Plan → List ℕ → List ℤ → ℕ → Word
@@ -84,9 +78,6 @@ met-counted code p x e =
     record { all = sym z; named = record { some = λ h. absurd (omega (arith, h, z)); none = λ _. refl } }
 
 module _ (plan : Plan) (index : List ℕ) (work : List ℤ) (G : Working plan index work) where
-  pub all-le : plan .words * plan .n ≤ 183828480
-  all-le = omega (arith, mul-le-mul {n₁ = plan .words} {m₁ = plan .n} {n₂ = 4096} {m₂ = 44880} (G .few-words) (G .n-le))
-
   -- the values' rows lie in the memory
   pub rows-fit : plan .n * plan .lanes ≤ length work
   rows-fit = omega (arith, G .memory .long, mul-le-mul-right {m = plan .n} {n = plan .n + 3 * edgesIn (plan .p) index} (plan .lanes) (omega arith))
@@ -94,14 +85,3 @@ module _ (plan : Plan) (index : List ℕ) (work : List ℤ) (G : Working plan in
   -- and so do the messages'
   pub messages-fit : (plan .n + edgesIn (plan .p) index) * plan .lanes ≤ length work
   messages-fit = omega (arith, G .memory .long, mul-le-mul-right {m = plan .n + edgesIn (plan .p) index} {n = plan .n + 3 * edgesIn (plan .p) index} (plan .lanes) (omega arith))
-
--- word w's part of a list as lent
-pub middle : {A : Type 0} (n words w : ℕ) (out : List A) → w < words → words * n ≤ length out → length (take (w * n + n - w * n) (drop (w * n) out)) ≡ n
-middle n words w out h fits =
-    let g = word-ends n w words h in
-    let e : w * n + n - w * n ≡ n = omega arith in
-    ap (λ k. length (take k (drop (w * n) out))) e ∙ length-take-le n (drop (w * n) out) (omega (arith, length-drop (w * n) out))
-
-pub own : (n w : ℕ) (soft : List ℤ) → take (w * n + n - w * n) (drop (w * n) soft) ≡ ownWord n w soft
-unfolding ownWord
-own n w soft = let e : w * n + n - w * n ≡ n = omega arith in ap (λ k. take k (drop (w * n) soft)) e

@@ -15,7 +15,8 @@ use Rattle.lane_math.specs.Check.{Word}
 use Rattle.simd.specs.Words.{wordOf, word}
 use Rattle.fixed_lanes.specs.Load.{Loaded, loaded-word}
 use Rattle.fixed_lanes.specs.Clear.{on, Cleared, cleared-fresh, cleared-other}
-use Rattle.outcome.specs.Outcome.{begin, ownWord}
+use Rattle.outcome.specs.Outcome.{begin}
+use Rattle.decoder_words.specs.Book.{ownPart}
 
 -- lanes that hold a word and have had no iteration
 abbrev pub Fresh : List ℕ → List ℕ → ℕ → Type 0
@@ -24,7 +25,7 @@ Fresh held iters l = (getD held l 0 ≢ 0) × (getD iters l 0 ≡ 0)
 module _ (n E lanes : ℕ) (soft : List ℤ) (held iters : List ℕ) where
   -- the word that lane l has taken
   abbrev pub taken : ℕ → List ℤ
-  taken l = ownWord n (getD held l 0 - 1) soft
+  taken l = ownPart n (getD held l 0 - 1) soft
 
   -- held lanes with 0 iterations have their words, the other held lanes keep theirs
   pub record Loads (a a′ : List ℤ) : Type 0 where

@@ -15,8 +15,8 @@ use Rattle.lane_math.specs.Check.{Word}
 use Rattle.lane_math.specs.Iteration.{Code, unsatisfiedCount}
 use Rattle.simd.specs.Words.{word}
 use Rattle.ldpc_shape.specs.Accepted.{accepted, p-le}
-use Rattle.fixed_code.specs.Lists.{Lists, memory-to, edgesIn}
-use Rattle.fixed_code.specs.Code.{code-in, lists-in}
+use Rattle.fixed_code.specs.Lists.{memory-to, edgesIn}
+use Rattle.fixed_code.specs.Code.{lists-at}
 use Rattle.fixed_syndrome.specs.Met.{Met}
 use Rattle.schedule.specs.Run.{Result, run}
 use Rattle.schedule.specs.Run as schedule
@@ -26,8 +26,7 @@ use Rattle.schedule.specs.Refill.{Assigned, fresh}
 use Rattle.schedule.specs.Round.{advanced}
 use Rattle.schedule.specs.Close.{told, close-start, close-end, loaded-are}
 use Rattle.schedule.specs.Loop.{is-stopped, Going, Pausing, Runs, going-start, pausing-later, ready-later, sized-later, ends-finished, ends-stopped, goes-on}
-use Rattle.outcome.specs.Code.{codeOf}
-use Rattle.outcome.specs.Outcome.{begin, ownWord, metOf, unmetOf}
+use Rattle.outcome.specs.Outcome.{begin, metOf, unmetOf}
 use Rattle.decoder_words.specs.Book.{Book, view, ownPart, Same, same-refl, same-on}
 use Rattle.decoder_words.specs.Tells.{untouched, Tells}
 use Rattle.decoder_words.specs.Given.{Given, wordsOf, setup}
@@ -43,30 +42,19 @@ abbrev pub Blank : Plan → Book → Type 0
 Blank plan B = (w : ℕ) → view (plan .n) B w ≡ untouched (ownPart (plan .n) w (B .out))
 
 module _ (plan : Plan) (lens addrs index : List ℕ) (soft : List ℤ) (G : Given plan lens addrs index soft) where
-  -- the lists in the slice say the code
-  pub code-is : laneCode plan index ≡ codeOf (plan .n) lens addrs
-  unfolding codeOf
-  code-is = ap (λ p. laneCode (record { n = plan .n; p = p; lanes = plan .lanes; limit = plan .limit; first = plan .first; size = plan .size; words = plan .words }) index) (G .checks)
-      ∙ code-in (plan .n) lens addrs index (G .lists)
-
   pub working : (work : List ℤ) → (plan .n + 3 * edgesIn (plan .p) index) * plan .lanes ≤ length work → Working plan index work
   working work h =
-      let A = accepted (plan .n) lens addrs (G .code) in
+      let A = accepted (plan .n) lens addrs (G .coded .code) in
       record {
         memory =
             record {
-              lists = subst (λ p. Lists (plan .n) p index) (sym (G .checks)) (lists-in (plan .n) lens addrs A index (G .lists));
+              lists = lists-at (plan .n) (plan .p) lens addrs index (G .coded .checks) (G .coded .lists) A;
               long = h;
-              some-lanes = G .some-lanes;
-              few-lanes = G .few-lanes;
+              some-lanes = G .fair .some-lanes;
+              few-lanes = G .fair .few-lanes;
             };
-        n-le = A .small;
-        p-le = omega (arith, p-le (plan .n) lens addrs A, G .checks);
-        few-words = G .few-words;
-        limit-fits = G .limit-fits;
-        part-long = G .part-long;
-        part-short = G .part-short;
-        part-within = G .part-within;
+        fair = G .fair;
+        p-le = omega (arith, p-le (plan .n) lens addrs A, G .coded .checks);
       }
 
 module _ (code : Code) (iterate : Word → Word) (plan : Plan) (soft : List ℤ) (order : List ℕ) (bound : ℕ) where
@@ -143,7 +131,7 @@ module _ (code : Code) (iterate : Word → Word) (plan : Plan) (soft : List ℤ)
       → word n E lanes a′ l ≡ fresh R held iters (word n E lanes a) l
   unfolding fresh setup wordsOf
   loaded-fresh n E lanes held iters a a′ e v l h ne = subst
-      (λ m. word n E lanes a′ l ≡ cond (eqb (getD iters l 0) 0) (begin m (ownWord m (getD held l 0 - 1) soft)) (word n E lanes a l)) e (v .loaded l h ne)
+      (λ m. word n E lanes a′ l ≡ cond (eqb (getD iters l 0) 0) (begin m (ownPart m (getD held l 0 - 1) soft)) (word n E lanes a l)) e (v .loaded l h ne)
 
   module _ (B₀ : Book) (held iters : List ℕ) (col : ℕ → Word) (next rounds : ℕ) (busy : Bool) (B : Book) (p : Pauses B₀ held iters col next rounds busy B) where
     pub pauses-sized : Sized held iters
@@ -264,17 +252,7 @@ module _ (code : Code) (iterate : Word → Word) (plan : Plan) (soft : List ℤ)
       }
 
 pub working-to : (plan : Plan) (index : List ℕ) (work work′ : List ℤ) → length work′ ≡ length work → Working plan index work → Working plan index work′
-working-to plan index work work′ e g =
-    record {
-      memory = memory-to e (g .memory);
-      n-le = g .n-le;
-      p-le = g .p-le;
-      few-words = g .few-words;
-      limit-fits = g .limit-fits;
-      part-long = g .part-long;
-      part-short = g .part-short;
-      part-within = g .part-within;
-    }
+working-to plan index work work′ e g = record { memory = memory-to e (g .memory); fair = g .fair; p-le = g .p-le }
 
 -- ---- what the loop cites
 module _ (code : Code) (iterate : Word → Word) (plan : Plan) (soft : List ℤ) (order : List ℕ) (bound : ℕ) where

@@ -1,4 +1,4 @@
--- A word's part of the output, written from the middle.
+-- A word's part of a list as the program lends it, and of the output, written from the middle.
 use mathlib.Core.Path.{_≡_, refl, sym, ap, _∙_}
 use mathlib.Core.Logic.{_≢_}
 use mathlib.Core.Bool.{Bool, true, false}
@@ -16,6 +16,18 @@ use Rattle.decoder_words.specs.Book.{Book, View, view, ownPart, Room, On
 -- word u's end is not behind a later word's start
 pub word-ends : (n u w : ℕ) → u < w → u * n + n ≤ w * n
 word-ends n u w h = let q : (u + 1) * n ≤ w * n = mul-le-mul-right n (omega arith) in omega (arith, q)
+
+-- word w's part as lent
+module _ {A : Type 0} (n w : ℕ) (l : List A) where
+  pub own : take (w * n + n - w * n) (drop (w * n) l) ≡ ownPart n w l
+  unfolding ownPart
+  own = let e : w * n + n - w * n ≡ n = omega arith in ap (λ k. take k (drop (w * n) l)) e
+
+  pub middle : (words : ℕ) → w < words → words * n ≤ length l → length (take (w * n + n - w * n) (drop (w * n) l)) ≡ n
+  unfolding ownPart
+  middle words h fits =
+      let g = word-ends n w words h in
+      ap length own ∙ length-take-le n (drop (w * n) l) (omega (arith, length-drop (w * n) l))
 
 part-as : (n u : ℕ) (l : List ℕ) → ownPart n u l ≡ drop (u * n) (take (u * n + n) l)
 unfolding ownPart

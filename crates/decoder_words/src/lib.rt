@@ -4,9 +4,9 @@ ghost use mathlib.Core.Bool.{_||_};
 ghost use Prim.Native.Nat.{_+_, _*_, _<_, _≤_};
 ghost use lib.Dec.{eqb};
 ghost use lib.ListN.{length, set};
-ghost use Rattle.outcome.specs.Code.{codeOf};
-ghost use Rattle.outcome.specs.Outcome.{begin, ownWord, bitsOf, metOf, corrected, bchOf};
-ghost use Rattle.decoder_words.specs.Book.{book, view, Room, Only};
+ghost use Rattle.fixed_code.specs.Code.{codeOf};
+ghost use Rattle.outcome.specs.Outcome.{begin, bitsOf, metOf, corrected, bchOf};
+ghost use Rattle.decoder_words.specs.Book.{book, view, ownPart, Room, Only};
 ghost use Rattle.decoder_words.specs.Tells.{Ends};
 ghost use Rattle.decoder_words.specs.Given.{Given};
 
@@ -70,7 +70,7 @@ pub fn at_once(
     soft: &[i8],
 ) -> bool
     requires { ⌜ Given plan (now lens) (now addrs) (now index) (now soft) × (w < plan .words) ⌝ }
-    ensures { λ r. ⌜ r ≡ (metOf (codeOf (plan .n) (now (lens .entry)) (now (addrs .entry))) (plan .p) (begin (plan .n) (ownWord (plan .n) w (now (soft .entry)))) || eqb 0 (plan .limit)) ⌝ }
+    ensures { λ r. ⌜ r ≡ (metOf (codeOf (plan .n) (now (lens .entry)) (now (addrs .entry))) (plan .p) (begin (plan .n) (ownPart (plan .n) w (now (soft .entry)))) || eqb 0 (plan .limit)) ⌝ }
 {
     let n = plan.n as usize;
     let a = w * n;
@@ -99,7 +99,7 @@ pub fn finish_soft(
     requires { ⌜ Given plan (now lens) (now addrs) (now index) (now soft) × (w < plan .words) ⌝ }
     requires { ⌜ Room (plan .n) (plan .words) (book (now state) (now iterations) (now unsatisfied) (now check) (now bch) (now out)) ⌝ }
     ensures only { λ _. ⌜ Only (plan .n) w (book (now (state .entry)) (now (iterations .entry)) (now (unsatisfied .entry)) (now (check .entry)) (now (bch .entry)) (now (out .entry))) (book (now (state .exit)) (now (iterations .exit)) (now (unsatisfied .exit)) (now (check .exit)) (now (bch .exit)) (now (out .exit))) ⌝ }
-    ensures ends { λ _. ⌜ Ends (codeOf (plan .n) (now (lens .entry)) (now (addrs .entry))) (plan .n) (plan .p) (plan .first) (plan .size) (begin (plan .n) (ownWord (plan .n) w (now (soft .entry)))) 0 (view (plan .n) (book (now (state .exit)) (now (iterations .exit)) (now (unsatisfied .exit)) (now (check .exit)) (now (bch .exit)) (now (out .exit))) w) ⌝ }
+    ensures ends { λ _. ⌜ Ends (codeOf (plan .n) (now (lens .entry)) (now (addrs .entry))) (plan .n) (plan .p) (plan .first) (plan .size) (begin (plan .n) (ownPart (plan .n) w (now (soft .entry)))) 0 (view (plan .n) (book (now (state .exit)) (now (iterations .exit)) (now (unsatisfied .exit)) (now (check .exit)) (now (bch .exit)) (now (out .exit))) w) ⌝ }
 {
     let n = plan.n as usize;
     let a = w * n;

@@ -18,7 +18,7 @@ use Rattle.ldpc_edges.specs.Layout.{Laid, laid, start-length, rows-length, list
 use Rattle.fixed_code.specs.Lists.{Lists, rowsIn, edgesIn, codeIn}
 
 -- edge e's variable, and where check c's edges begin
-abbrev pub codeOf : ℕ → List ℕ → List ℕ → Code
+unfoldable pub codeOf : ℕ → List ℕ → List ℕ → Code
 codeOf n lens addrs = record { rows = λ e. getD (rows n lens addrs) e 0; row-start = λ c. getD (rowStart n lens addrs) c 0 }
 
 module _ (n : ℕ) (lens addrs index : List ℕ) (is : index ≡ edgeLists n lens addrs) where
@@ -35,6 +35,7 @@ module _ (n : ℕ) (lens addrs index : List ℕ) (is : index ≡ edgeLists n len
       ∙ drop-at (rowStart n lens addrs) (rows n lens addrs) (pOf n lens + 1) (start-length n lens addrs ∙ sym (add-one (pOf n lens)))
 
   pub code-in : codeIn (pOf n lens) index ≡ codeOf n lens addrs
+  unfolding codeOf
   code-in = λ i. record { rows = λ e. getD (rows-are i) e 0; row-start = λ c. getD (starts-are i) c 0 }
 
 big : (n : ℕ) (lens addrs : List ℕ) → Accepted n lens addrs → 747 ≤ eOf n lens addrs
@@ -83,3 +84,14 @@ module _ (n : ℕ) (lens addrs : List ℕ) (A : Accepted n lens addrs) where
           variables = subst (λ (l : List ℕ). (e : ℕ) → e < length l → getD l e 0 < n) (sym (rows-are n lens addrs index is)) rows-below;
           many = omega (arith, edges-are, big n lens addrs A);
         }
+
+-- the same of p that was worked out
+module _ (n p : ℕ) (lens addrs index : List ℕ) (checks : p ≡ pOf n lens) (is : index ≡ edgeLists n lens addrs) where
+  pub code-at : codeIn p index ≡ codeOf n lens addrs
+  code-at = ap (λ (z : ℕ). codeIn z index) checks ∙ code-in n lens addrs index is
+
+  pub edges-at : Accepted n lens addrs → edgesIn p index ≡ eOf n lens addrs
+  edges-at A = ap (λ (z : ℕ). edgesIn z index) checks ∙ edges-are n lens addrs A index is
+
+  pub lists-at : Accepted n lens addrs → Lists n p index
+  lists-at A = subst (λ (z : ℕ). Lists n z index) (sym checks) (lists-in n lens addrs A index is)

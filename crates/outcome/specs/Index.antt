@@ -18,8 +18,7 @@ use Rattle.laws.specs.Signed.{negative}
 use Rattle.laws.specs.Choice.{by-cond}
 use Rattle.simd.specs.Words.{within}
 use Rattle.fixed_code.specs.Lists.{Lists, codeIn, rows-part, start-in, degree-in}
-use Rattle.fixed_code.specs.Code.{code-in, lists-in}
-use Rattle.outcome.specs.Code.{codeOf}
+use Rattle.fixed_code.specs.Code.{codeOf, code-at, lists-at}
 use Rattle.outcome.specs.Outcome.{begin, unmetAt}
 
 -- the value of each variable
@@ -76,18 +75,12 @@ module _ (p n c s d : ℕ) (index : List ℕ) (h : c < p) (e : s ≡ getD index 
 
 -- ---- a slice that holds an accepted code's lists
 module _ {n : ℕ} {lens addrs index : List ℕ} {soft : List ℤ} (G : Lent n lens addrs index soft) where
-  pub code-is : codeIn (pOf n lens) index ≡ codeOf n lens addrs
-  unfolding codeOf
-  code-is = code-in n lens addrs index (G .lists)
-
   -- the lists, for as many variables as the word has values; p is worked out
   pub listed : (p : ℕ) → p ≡ pOf n lens → Lists (length soft) p index
-  listed p e =
-      subst (λ (z : ℕ). Lists z p index) (sym (G .word))
-      (subst (λ (z : ℕ). Lists n z index) (sym e) (lists-in n lens addrs (accepted n lens addrs (G .code)) index (G .lists)))
+  listed p e = subst (λ (z : ℕ). Lists z p index) (sym (G .word)) (lists-at n p lens addrs index e (G .lists) (accepted n lens addrs (G .code)))
 
   -- what the scan finds at check c is what the code and the word say
   pub odd-is : (p c : ℕ) (r b : Bool) → p ≡ pOf n lens → r ≡ eqb (unmetAt (codeIn p index) (values soft) c) 1 → r ≡ b
       → eqb (unmetAt (codeOf n lens addrs) (begin n soft .L) c) 1 ≡ b
   odd-is p c r b e f g =
-      ap₂ (λ (k : Code) (L : ℕ → ℤ). eqb (unmetAt k L c) 1) (sym (ap (λ (z : ℕ). codeIn z index) e ∙ code-is)) (begin-values n soft (G .word)) ∙ sym f ∙ g
+      ap₂ (λ (k : Code) (L : ℕ → ℤ). eqb (unmetAt k L c) 1) (sym (code-at n p lens addrs index e (G .lists))) (begin-values n soft (G .word)) ∙ sym f ∙ g

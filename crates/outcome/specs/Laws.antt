@@ -16,7 +16,7 @@ use Rattle.bch.specs.Decode.{register, leftBy, leftOf, flipped}
 use Rattle.bch.specs.Flips.{flipped-length}
 use Rattle.bch.specs.Answers.{outIf, wordRefusal, wordOut, decodedOf}
 use Rattle.bch.specs.declared.Decoded.{Decoded}
-use Rattle.outcome.specs.Outcome.{bitsFrom, bitsOf, corrected, resultOf, bchOf, isFinished, isLost, lostOf, keptOf}
+use Rattle.outcome.specs.Outcome.{bitsFrom, bitsOf, corrected, bchResult, bchOf, isFinished, isLost, lostOf, keptOf}
 
 -- ---- hard decisions
 bits-from-length : (x : Word) (v m : ℕ) → length (bitsFrom x v m) ≡ m
@@ -92,11 +92,11 @@ corrected-whole first size b part e =
     ∙ ap (λ (k : ℕ). take first b ++ (wordOut (take k (drop first b)) ++ drop k (drop first b))) m
     ∙ ap (λ (l : List ℕ). take first b ++ (wordOut (take size (drop first b)) ++ l)) (drop-drop size first b)
 
-pub result-whole : (first size : ℕ) (b : List ℕ) (answer : Decoded) → answer ≡ decodedOf (take (first + size - first) (drop first b)) → resultOf answer ≡ bchOf first size b
+pub result-whole : (first size : ℕ) (b : List ℕ) (answer : Decoded) → answer ≡ decodedOf (take (first + size - first) (drop first b)) → bchResult answer ≡ bchOf first size b
 unfolding bchOf
 result-whole first size b answer e =
     let m : first + size - first ≡ size = omega arith in
-    ap resultOf (e ∙ ap (λ (k : ℕ). decodedOf (take k (drop first b))) m)
+    ap bchResult (e ∙ ap (λ (k : ℕ). decodedOf (take k (drop first b))) m)
 
 -- ---- a finished word is kept or lost, and no other is either
 pub kept-or-lost : (state bch : ℕ) → keptOf state bch + lostOf state bch ≡ cond (isFinished state) 1 0

@@ -15,10 +15,6 @@ use Rattle.bch.specs.Answers.{decodedOf, wordOut}
 use Rattle.bch.specs.declared.Decoded.{Decoded}
 use Rattle.bch.specs.declared.Decoded.the-variants.{Corrected, Uncorrectable, Refused}
 
--- word w's own soft values, of all the words' values one after the other
-unfoldable pub ownWord : ℕ → ℕ → List ℤ → List ℤ
-ownWord n w soft = take n (drop (w * n) soft)
-
 -- "A word alone starts with its soft values as L, every message 0": its n soft values
 unfoldable pub begin : ℕ → List ℤ → Word
 begin n soft = record { L = within n (λ v. getD soft v (pos 0)); r = λ e. pos 0 }
@@ -55,13 +51,13 @@ corrected first size b = take first b ++ (wordOut (take size (drop first b)) ++ 
 unfoldable pub lost : ℕ
 lost = 4294967295
 
-unfoldable pub resultOf : Decoded → ℕ
-resultOf (Corrected k) = k
-resultOf Uncorrectable = lost
-resultOf (Refused k) = lost
+unfoldable pub bchResult : Decoded → ℕ
+bchResult (Corrected k) = k
+bchResult Uncorrectable = lost
+bchResult (Refused k) = lost
 
 unfoldable pub bchOf : ℕ → ℕ → List ℕ → ℕ
-bchOf first size b = resultOf (decodedOf (take size (drop first b)))
+bchOf first size b = bchResult (decodedOf (take size (drop first b)))
 
 -- a finished word's state: "2 met, 3 unmet"
 abbrev pub stateOf : Bool → ℕ

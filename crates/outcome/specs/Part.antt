@@ -13,7 +13,7 @@ use Rattle.bch.specs.Exact.{Near, Exact, exact}
 use Rattle.bch.specs.Answers.{wordRefusal, fair-word, decodedOf, wordOut, changed}
 use Rattle.bch.specs.declared.Decoded.{Decoded}
 use Rattle.bch.specs.declared.Decoded.the-variants.{Corrected, Uncorrectable, Refused}
-use Rattle.outcome.specs.Outcome.{corrected, lost, resultOf, bchOf}
+use Rattle.outcome.specs.Outcome.{corrected, lost, bchResult, bchOf}
 use Rattle.outcome.specs.Laws.{word-length}
 
 -- a part of an accepted length, inside the word
@@ -51,26 +51,26 @@ module _ (first size : ℕ) (b : List ℕ) (P : Part first size b) where
   few k e = let c = part-exact .count k e in omega (arith, c .0 .within, c .1)
 
   pub bch-range : (bchOf first size b ≤ 12) ⊎ (bchOf first size b ≡ lost)
-  unfolding bchOf resultOf
+  unfolding bchOf bchResult
   bch-range = go (decodedOf part) refl
     where
-      go : (d : Decoded) → decodedOf part ≡ d → (resultOf d ≤ 12) ⊎ (resultOf d ≡ lost)
+      go : (d : Decoded) → decodedOf part ≡ d → (bchResult d ≤ 12) ⊎ (bchResult d ≡ lost)
       go (Corrected k) e = inl (few k e)
       go Uncorrectable e = inr refl
       go (Refused k) e = inr refl
 
   -- a word is not lost exactly when its part has a codeword within 12 bits
   pub kept-exactly : (bchOf first size b ≢ lost) ↔ ((v : List ℕ) × Near part v)
-  unfolding bchOf resultOf lost
+  unfolding bchOf bchResult lost
   kept-exactly = (λ h. go (decodedOf part) refl h, λ h q. back (part-exact .exactly .1 h) q)
     where
-      go : (d : Decoded) → decodedOf part ≡ d → (resultOf d ≢ lost) → (v : List ℕ) × Near part v
+      go : (d : Decoded) → decodedOf part ≡ d → (bchResult d ≢ lost) → (v : List ℕ) × Near part v
       go (Corrected k) e h = part-exact .exactly .0 (k, e)
       go Uncorrectable e h = absurd (h refl)
       go (Refused k) e h = absurd (h refl)
 
-      back : (k : ℕ) × (decodedOf part ≡ Corrected k) → resultOf (decodedOf part) ≢ lost
-      back h q = let e : h .0 ≡ 4294967295 = sym (ap resultOf (h .1)) ∙ q in omega (arith, e, few (h .0) (h .1))
+      back : (k : ℕ) × (decodedOf part ≡ Corrected k) → bchResult (decodedOf part) ≢ lost
+      back h q = let e : h .0 ≡ 4294967295 = sym (ap bchResult (h .1)) ∙ q in omega (arith, e, few (h .0) (h .1))
 
   -- the part that stands in the word at the end
   part-out : take size (drop first (corrected first size b)) ≡ wordOut part
@@ -81,10 +81,10 @@ module _ (first size : ℕ) (b : List ℕ) (P : Part first size b) where
 
   -- a word that is not lost: its part is then a codeword, and the result is the number of bits that were changed
   pub kept-count : bchOf first size b ≢ lost → Near part (take size (drop first (corrected first size b))) × (distance part (take size (drop first (corrected first size b))) ≡ bchOf first size b)
-  unfolding bchOf resultOf
+  unfolding bchOf bchResult
   kept-count h = subst (λ (x : List ℕ). Near part x × (distance part x ≡ bchOf first size b)) (sym part-out) (go (decodedOf part) refl)
     where
-      go : (d : Decoded) → decodedOf part ≡ d → Near part (wordOut part) × (distance part (wordOut part) ≡ resultOf (decodedOf part))
-      go (Corrected k) e = let c = part-exact .count k e in (c .0, c .1 ∙ sym (ap resultOf e))
-      go Uncorrectable e = absurd (h (ap resultOf e))
-      go (Refused k) e = absurd (h (ap resultOf e))
+      go : (d : Decoded) → decodedOf part ≡ d → Near part (wordOut part) × (distance part (wordOut part) ≡ bchResult (decodedOf part))
+      go (Corrected k) e = let c = part-exact .count k e in (c .0, c .1 ∙ sym (ap bchResult e))
+      go Uncorrectable e = absurd (h (ap bchResult e))
+      go (Refused k) e = absurd (h (ap bchResult e))

@@ -20,8 +20,7 @@ use Rattle.ldpc_edges.specs.Code.{check, edgeLists, encode, ones, unmet, unmets
 use Rattle.ldpc_edges.specs.Encoder.{encode-weight}
 use Rattle.ldpc_edges.specs.Layout.{Laid, laid}
 use Rattle.fixed_code.specs.Lists.{rowsIn, codeIn, start-in, degree-in}
-use Rattle.fixed_code.specs.Code.{code-in}
-use Rattle.outcome.specs.Code.{codeOf}
+use Rattle.fixed_code.specs.Code.{codeOf, code-in}
 use Rattle.outcome.specs.Outcome.{bitsFrom, bitsOf, unmetOf, unmetAt, metOf}
 
 -- ---- a byte of the hard decisions is its value's

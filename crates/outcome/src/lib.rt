@@ -8,8 +8,8 @@ ghost use Rattle.ldpc_shape.specs.Shape.{pOf, refusalOf};
 ghost use Rattle.lane_math.specs.Iteration.{negatives};
 ghost use Rattle.lane_memory.specs.Room.{var};
 ghost use Rattle.fixed_code.specs.Lists.{Lists, codeIn};
-ghost use Rattle.outcome.specs.Code.{codeOf};
-ghost use Rattle.outcome.specs.Outcome.{begin, bitsOf, metOf, unmetAt, corrected, resultOf, bchOf, stateOf, isFinished, keptOf, lostOf};
+ghost use Rattle.fixed_code.specs.Code.{codeOf};
+ghost use Rattle.outcome.specs.Outcome.{begin, bitsOf, metOf, unmetAt, corrected, bchResult, bchOf, stateOf, isFinished, keptOf, lostOf};
 ghost use Rattle.outcome.specs.Index.{Edges, values, Lent};
 ghost use Rattle.outcome.specs.Scan.{Counted};
 
@@ -105,7 +105,7 @@ pub fn soft_bits(n: usize, soft: &[i8], out: &mut [u8])
 
 // The number that stands for BCH's answer.
 fn result_of(answer: Decoded) -> u32
-    ensures { λ r. ⌜ r ≡ resultOf answer ⌝ }
+    ensures { λ r. ⌜ r ≡ bchResult answer ⌝ }
 {
     match answer {
         Decoded::Corrected(k) => k,

@@ -15,7 +15,7 @@ use Rattle.bch.specs.declared.Encoded.{Encoded}
 use Rattle.bch.specs.declared.Encoded.the-variants as encoded
 use Rattle.bch.specs.declared.Decoded.{Decoded}
 use Rattle.bch.specs.declared.Decoded.the-variants as decoded
-use Rattle.outcome.specs.Outcome.{resultOf}
+use Rattle.outcome.specs.Outcome.{bchResult}
 
 -- ---- returned
 abbrev pub quantisedNumber : Quantised → ℕ
@@ -44,8 +44,8 @@ countInto (counted.Count m) count = m
 
 -- the corrected count, or lost, as a word's record has it
 abbrev pub resultInto : Decoded → ℕ → ℕ
-resultInto (decoded.Corrected m) result = resultOf (decoded.Corrected m)
-resultInto decoded.Uncorrectable result = resultOf decoded.Uncorrectable
+resultInto (decoded.Corrected m) result = bchResult (decoded.Corrected m)
+resultInto decoded.Uncorrectable result = bchResult decoded.Uncorrectable
 resultInto (decoded.Refused r) result = result
 
 -- k, P, q, E, and what `ldpc::new` needs: P + 1 and E numbers

@@ -9,8 +9,8 @@ use lib.IntN.{ℤ}
 use lib.ListN.{length}
 use Rattle.lane_math.specs.Check.{Word}
 use Rattle.lane_math.specs.Iteration.{Code}
+use Rattle.fixed_code.specs.Code.{codeOf}
 use Rattle.schedule.specs.Status.{Status, waiting, holding, done, status}
-use Rattle.outcome.specs.Code.{codeOf}
 use Rattle.outcome.specs.Outcome.{Outcome}
 use Rattle.decoder_refuse.specs.Refusal.{firstOf, refusalOf}
 use Rattle.decoder_words.specs.Book.{View, view, book, ownPart}

@@ -11,13 +11,14 @@ use borrow.Author.Tests.{le-ltb}
 use lib.Dec.{eqb, leb}
 use lib.IntN.{ℤ}
 use lib.ListN.{length, take, getD, replicate, length-replicate, length-map}
+use Rattle.laws.specs.Lists.{zeros-at}
 use Rattle.lane_math.specs.Check.{Word}
 use Rattle.lane_math.specs.Iteration.{Code}
 use Rattle.ldpc_shape.specs.Shape.{pOf, eOf, kOf, qOf, total, anyOver, countsMod, badLength}
 use Rattle.ldpc_shape.specs.Shape as shape
 use Rattle.ldpc_shape.specs.Accepted.{Accepted, accepted}
+use Rattle.fixed_code.specs.Code.{codeOf}
 use Rattle.schedule.specs.Status.{Status, waiting, holding, done, status}
-use Rattle.outcome.specs.Code.{codeOf}
 use Rattle.outcome.specs.Outcome.{Outcome, outcomeOf, metOf}
 use Rattle.decoder_refuse.specs.Refusal.{outNeed, workNeed, indexNeed, tooShort, firstOf, refusalOf}
 use Rattle.decoder_words.specs.Book.{View, view, book, ownPart}
@@ -25,7 +26,6 @@ use Rattle.decoder_words.specs.Tells.{Tells}
 use Rattle.decoder_words.specs.declared.Plan.{Plan}
 use Rattle.decoder.specs.Settings.{isLayered, stepOf, runRefusal, planOf}
 use Rattle.decoder.specs.Runs.{Runs, Accepts, theRun}
-use Rattle.decoder.specs.Accept.{zeros-at}
 use Rattle.decoder.specs.declared.Ran.{Ran}
 use Rattle.decoder.specs.declared.Settings.{Settings}
 use Rattle.decoder.specs.declared.Schedule.{Schedule}

@@ -23,7 +23,7 @@ work-need-requires : tie.Need-work-need-requires
 work-need-requires c κs =
     let P = c .before .before .before .before .before .pre .0 in
     let A = shape.accepted _ _ _ (P .code) in
-    (A .small, omega (arith, edges-few _ _ _ A, P .edges), P .few-lanes)
+    (A .small, omega (arith, edges-few _ _ _ A, P .edges), P .fair .few-lanes)
 
 add-size : tie.Need-add-size
 add-size c = search needs
@@ -113,7 +113,7 @@ returns c =
     let s : length (c .before .before .before .before .before .before .before .before .before .before .before .before .before .before .before .before .build .last .1 .1 .1 .0) ≡ c .before .before .before .before .before .before .before .before .before .before .before .before .before .before .before .before .before .before .before .before .before .before .before .before .before .args .e + c .before .before .before .before .before .before .before .before .before .before .before .before .before .before .before .before .before .before .before .before .before .before .before .before .before .args .plan .p + 1 = c .before .before .before .before .before .before .before .before .before .before .before .before .before .before .before .before .build .kept .1 .1 .1 .0 ∙ length-take-le _ (c .before .before .before .before .before .before .before .before .before .before .before .before .before .before .before .before .before .before .before .before .before .before .before .before .before .args .index .now) (P .index-fits) in
     let h : c .before .before .before .before .before .before .before .before .before .before .before .before .before .before .before .before .before .before .before .work-need .result ≤ length (c .before .before .before .before .before .before .before .before .before .before .before .before .before .before .before .before .before .before .before .before .before .before .before .before .before .args .work .now) = omega (arith, P .work-fits, c .before .before .before .before .before .before .before .before .before .before .before .before .before .before .before .before .before .before .before .work-need .ensures) in
     let t : length (c .before .before .before .before .before .before .before .before .before .before .decoded .last .1 .1 .1 .1 .1 .1 .1 .1 .1 .1 .0) ≡ c .before .before .before .before .before .before .before .before .before .before .before .before .before .before .before .before .before .before .before .work-need .result = c .before .before .before .before .before .before .before .before .before .before .decoded .kept .1 .1 .1 .1 .1 .1 .1 .1 .1 .1 .0 ∙ length-take-le _ (c .before .before .before .before .before .before .before .before .before .before .before .before .before .before .before .before .before .before .before .before .before .before .before .before .before .args .work .now) h in
-    accepts _ _ _ _ _ _ _ _ (P .some-lanes) _ _ _ (decoded-to (plain (c .before .before .before .before .before .before .before .before .before .before .before .before .before .before .before .before .before .before .before .before .before .before .before .before .before .args .offset) (c .before .before .before .before .before .before .before .before .before .before .before .before .before .before .before .before .before .before .before .before .before .before .before .before .before .fits .offset)) (c .before .before .before .before .before .before .before .before .before .before .decoded .ensures)) _ _ _ _
+    accepts _ _ _ _ _ _ _ _ (P .fair .some-lanes) _ _ _ (decoded-to (plain (c .before .before .before .before .before .before .before .before .before .before .before .before .before .before .before .before .before .before .before .before .before .before .before .before .before .args .offset) (c .before .before .before .before .before .before .before .before .before .before .before .before .before .before .before .before .before .before .before .before .before .before .before .before .before .fits .offset)) (c .before .before .before .before .before .before .before .before .before .before .decoded .ensures)) _ _ _ _
     (cleared (pos 0) (c .before .before .before .before .before .before .before .before .before .before .before .before .before .before .before .before .before .before .before .work-need .result) (c .before .before .before .before .before .before .before .before .before .before .before .before .before .before .before .before .before .before .before .before .before .before .before .before .before .args .work .now) (c .before .before .before .before .before .before .before .before .before .before .decoded .last .1 .1 .1 .1 .1 .1 .1 .1 .1 .1 .0) _ h t (c .before .before .before .before .before .clear-work .ensures)
     ∙ ap (λ (m : ℕ). replicate m (pos 0) ++ drop m (c .before .before .before .before .before .before .before .before .before .before .before .before .before .before .before .before .before .before .before .before .before .before .before .before .before .args .work .now)) (c .before .before .before .before .before .before .before .before .before .before .before .before .before .before .before .before .before .before .before .work-need .ensures ∙ ap (λ (z : ℕ). workNeed (c .before .before .before .before .before .before .before .before .before .before .before .before .before .before .before .before .before .before .before .before .before .before .before .before .before .args .plan .n) z (c .before .before .before .before .before .before .before .before .before .before .before .before .before .before .before .before .before .before .before .before .before .before .before .before .before .args .plan .lanes)) (P .edges)))
     (cleared 0 (c .before .before .before .before .before .before .before .before .before .before .before .before .before .before .before .before .before .before .before .before .before .before .before .before .before .args .e + c .before .before .before .before .before .before .before .before .before .before .before .before .before .before .before .before .before .before .before .before .before .before .before .before .before .args .plan .p + 1) (c .before .before .before .before .before .before .before .before .before .before .before .before .before .before .before .before .before .before .before .before .before .before .before .before .before .args .index .now) (c .before .before .before .before .before .before .before .before .before .before .before .before .before .before .before .before .build .last .1 .1 .1 .0) _ (P .index-fits) s (c .before .before .clear-index .ensures)

@@ -26,7 +26,7 @@ array-share-prefix-order c = search needs
 
 slice-aggregate-complete : tie.Need-slice-aggregate-complete
 slice-aggregate-complete c =
-    let h : c .before .before .before .before .before .before .before .before .args .plan .words ≤ length (c .before .before .number .last .0) = omega (arith, c .before .before .before .before .before .before .before .before .pre .0 .0 .few-words, c .before .before .number .kept .0, length-replicate {A = ℕ} 4096 0) in
+    let h : c .before .before .before .before .before .before .before .before .args .plan .words ≤ length (c .before .before .number .last .0) = omega (arith, c .before .before .before .before .before .before .before .before .pre .0 .0 .fair .few-words, c .before .before .number .kept .0, length-replicate {A = ℕ} 4096 0) in
     sym (length-take-le _ (c .before .before .number .last .0) h)
 
 slice-aggregate-complete-2 : tie.Need-slice-aggregate-complete-2
@@ -47,7 +47,7 @@ slice-aggregate-complete-6 c = search needs
 complete-requires : tie.Need-complete-requires
 complete-requires c κs =
     let G = c .before .before .before .before .before .before .before .before .before .before .before .before .before .before .before .pre .0 .0 in
-    let o : take (c .before .before .before .before .before .before .before .before .before .before .before .before .before .before .before .args .plan .words) (c .before .before .before .before .before .before .before .before .before .number .last .0) ≡ input-order (c .before .before .before .before .before .before .before .before .before .before .before .before .before .before .before .args .plan .words) = order-is (c .before .before .before .before .before .before .before .before .before .before .before .before .before .before .before .args .plan .words) (c .before .before .before .before .before .before .before .before .before .number .last .0) (G .few-words) (c .before .before .before .before .before .before .before .before .before .number .ensures ∙ ap input-order (length-replicate {A = ℕ} 4096 0)) in (
+    let o : take (c .before .before .before .before .before .before .before .before .before .before .before .before .before .before .before .args .plan .words) (c .before .before .before .before .before .before .before .before .before .number .last .0) ≡ input-order (c .before .before .before .before .before .before .before .before .before .before .before .before .before .before .before .args .plan .words) = order-is (c .before .before .before .before .before .before .before .before .before .before .before .before .before .before .before .args .plan .words) (c .before .before .before .before .before .before .before .before .before .number .last .0) (G .fair .few-words) (c .before .before .before .before .before .before .before .before .before .number .ensures ∙ ap input-order (length-replicate {A = ℕ} 4096 0)) in (
       (G, subst (λ (l : List ℕ). Ordered (c .before .before .before .before .before .before .before .before .before .before .before .before .before .before .before .args .plan) l) (sym o) (order-so (c .before .before .before .before .before .before .before .before .before .before .before .before .before .before .before .args .plan)), c .before .before .before .before .before .before .before .before .before .before .before .before .before .before .before .pre .0 .2),
       (
         c .before .before .before .before .before .before .before .before .before .before .before .before .before .before .before .pre .1,
@@ -73,18 +73,18 @@ slice-aggregate-tally-3 c = search needs
 tally-requires : tie.Need-tally-requires
 tally-requires c κs =
     let G = c .before .before .before .before .before .before .before .before .before .before .before .before .before .before .before .before .before .before .before .before .before .before .before .before .before .before .before .pre .0 .0 in
-    let o : take (c .before .before .before .before .before .before .before .before .before .before .before .before .before .before .before .before .before .before .before .before .before .before .before .before .before .before .before .args .plan .words) (c .before .before .before .before .before .before .before .before .before .before .before .before .before .before .before .before .before .before .before .before .before .number .last .0) ≡ input-order (c .before .before .before .before .before .before .before .before .before .before .before .before .before .before .before .before .before .before .before .before .before .before .before .before .before .before .before .args .plan .words) = order-is (c .before .before .before .before .before .before .before .before .before .before .before .before .before .before .before .before .before .before .before .before .before .before .before .before .before .before .before .args .plan .words) (c .before .before .before .before .before .before .before .before .before .before .before .before .before .before .before .before .before .before .before .before .before .number .last .0) (G .few-words) (c .before .before .before .before .before .before .before .before .before .before .before .before .before .before .before .before .before .before .before .before .before .number .ensures ∙ ap input-order (length-replicate {A = ℕ} 4096 0)) in
+    let o : take (c .before .before .before .before .before .before .before .before .before .before .before .before .before .before .before .before .before .before .before .before .before .before .before .before .before .before .before .args .plan .words) (c .before .before .before .before .before .before .before .before .before .before .before .before .before .before .before .before .before .before .before .before .before .number .last .0) ≡ input-order (c .before .before .before .before .before .before .before .before .before .before .before .before .before .before .before .before .before .before .before .before .before .before .before .before .before .before .before .args .plan .words) = order-is (c .before .before .before .before .before .before .before .before .before .before .before .before .before .before .before .before .before .before .before .before .before .before .before .before .before .before .before .args .plan .words) (c .before .before .before .before .before .before .before .before .before .before .before .before .before .before .before .before .before .before .before .before .before .number .last .0) (G .fair .few-words) (c .before .before .before .before .before .before .before .before .before .before .before .before .before .before .before .before .before .before .before .before .before .number .ensures ∙ ap input-order (length-replicate {A = ℕ} 4096 0)) in
     let z = length-replicate {A = ℕ} 4096 0 in (
-      (G .few-words, c .before .before .before .before .before .before .before .before .before .before .before .complete .ensures .same .state ∙ z, c .before .before .before .before .before .before .before .before .before .before .before .complete .ensures .same .iterations ∙ z, c .before .before .before .before .before .before .before .before .before .before .before .complete .ensures .same .bch ∙ z),
-      iterations-few _ _ _ _ _ _ _ _ _ _ _ _ _ (ends-so _ _ _ _ _ _ _ _ _ _ _ _ _ _ _ o refl (c .before .before .before .before .before .before .before .before .before .before .before .complete .ensures)) (G .some-lanes) (G .limit-fits),
+      (G .fair .few-words, c .before .before .before .before .before .before .before .before .before .before .before .complete .ensures .same .state ∙ z, c .before .before .before .before .before .before .before .before .before .before .before .complete .ensures .same .iterations ∙ z, c .before .before .before .before .before .before .before .before .before .before .before .complete .ensures .same .bch ∙ z),
+      iterations-few _ _ _ _ _ _ _ _ _ _ _ _ _ (ends-so _ _ _ _ _ _ _ _ _ _ _ _ _ _ _ o refl (c .before .before .before .before .before .before .before .before .before .before .before .complete .ensures)) (G .fair .some-lanes) (G .fair .limit-fits),
     )
 
 cast-loaded : tie.Need-cast-loaded
 cast-loaded c =
     let G = c .before .before .before .before .before .before .before .before .before .before .before .before .before .before .before .before .before .before .before .before .before .before .before .before .before .before .before .before .before .pre .0 .0 in
-    let o : take (c .before .before .before .before .before .before .before .before .before .before .before .before .before .before .before .before .before .before .before .before .before .before .before .before .before .before .before .before .before .args .plan .words) (c .before .before .before .before .before .before .before .before .before .before .before .before .before .before .before .before .before .before .before .before .before .before .before .number .last .0) ≡ input-order (c .before .before .before .before .before .before .before .before .before .before .before .before .before .before .before .before .before .before .before .before .before .before .before .before .before .before .before .before .before .args .plan .words) = order-is (c .before .before .before .before .before .before .before .before .before .before .before .before .before .before .before .before .before .before .before .before .before .before .before .before .before .before .before .before .before .args .plan .words) (c .before .before .before .before .before .before .before .before .before .before .before .before .before .before .before .before .before .before .before .before .before .before .before .number .last .0) (G .few-words) (c .before .before .before .before .before .before .before .before .before .before .before .before .before .before .before .before .before .before .before .before .before .before .before .number .ensures ∙ ap input-order (length-replicate {A = ℕ} 4096 0)) in
-    let n : c .before .before .before .before .before .before .before .before .before .before .before .before .before .complete .result .next ≤ c .before .before .before .before .before .before .before .before .before .before .before .before .before .before .before .before .before .before .before .before .before .before .before .before .before .before .before .before .before .args .plan .words = next-le _ _ _ _ _ _ _ _ _ _ _ _ _ (ends-so _ _ _ _ _ _ _ _ _ _ _ _ _ _ _ o refl (c .before .before .before .before .before .before .before .before .before .before .before .before .before .complete .ensures)) (G .some-lanes) in
-    omega (arith, n, G .few-words)
+    let o : take (c .before .before .before .before .before .before .before .before .before .before .before .before .before .before .before .before .before .before .before .before .before .before .before .before .before .before .before .before .before .args .plan .words) (c .before .before .before .before .before .before .before .before .before .before .before .before .before .before .before .before .before .before .before .before .before .before .before .number .last .0) ≡ input-order (c .before .before .before .before .before .before .before .before .before .before .before .before .before .before .before .before .before .before .before .before .before .before .before .before .before .before .before .before .before .args .plan .words) = order-is (c .before .before .before .before .before .before .before .before .before .before .before .before .before .before .before .before .before .before .before .before .before .before .before .before .before .before .before .before .before .args .plan .words) (c .before .before .before .before .before .before .before .before .before .before .before .before .before .before .before .before .before .before .before .before .before .before .before .number .last .0) (G .fair .few-words) (c .before .before .before .before .before .before .before .before .before .before .before .before .before .before .before .before .before .before .before .before .before .before .before .number .ensures ∙ ap input-order (length-replicate {A = ℕ} 4096 0)) in
+    let n : c .before .before .before .before .before .before .before .before .before .before .before .before .before .complete .result .next ≤ c .before .before .before .before .before .before .before .before .before .before .before .before .before .before .before .before .before .before .before .before .before .before .before .before .before .before .before .before .before .args .plan .words = next-le _ _ _ _ _ _ _ _ _ _ _ _ _ (ends-so _ _ _ _ _ _ _ _ _ _ _ _ _ _ _ o refl (c .before .before .before .before .before .before .before .before .before .before .before .before .before .complete .ensures)) (G .fair .some-lanes) in
+    omega (arith, n, G .fair .few-words)
 
 same-length : tie.Need-same-length
 same-length c = search needs
@@ -95,7 +95,7 @@ same-length-2 c = search needs
 returns : tie.Need-returns
 returns c =
     let G = c .before .before .before .before .before .before .before .before .before .before .before .before .before .before .before .before .before .before .before .before .before .before .before .before .before .before .before .before .before .pre .0 .0 in
-    let o : take (c .before .before .before .before .before .before .before .before .before .before .before .before .before .before .before .before .before .before .before .before .before .before .before .before .before .before .before .before .before .args .plan .words) (c .before .before .before .before .before .before .before .before .before .before .before .before .before .before .before .before .before .before .before .before .before .before .before .number .last .0) ≡ input-order (c .before .before .before .before .before .before .before .before .before .before .before .before .before .before .before .before .before .before .before .before .before .before .before .before .before .before .before .before .before .args .plan .words) = order-is (c .before .before .before .before .before .before .before .before .before .before .before .before .before .before .before .before .before .before .before .before .before .before .before .before .before .before .before .before .before .args .plan .words) (c .before .before .before .before .before .before .before .before .before .before .before .before .before .before .before .before .before .before .before .before .before .before .before .number .last .0) (G .few-words) (c .before .before .before .before .before .before .before .before .before .before .before .before .before .before .before .before .before .before .before .before .before .before .before .number .ensures ∙ ap input-order (length-replicate {A = ℕ} 4096 0)) in
+    let o : take (c .before .before .before .before .before .before .before .before .before .before .before .before .before .before .before .before .before .before .before .before .before .before .before .before .before .before .before .before .before .args .plan .words) (c .before .before .before .before .before .before .before .before .before .before .before .before .before .before .before .before .before .before .before .before .before .before .before .number .last .0) ≡ input-order (c .before .before .before .before .before .before .before .before .before .before .before .before .before .before .before .before .before .before .before .before .before .before .before .before .before .before .before .before .before .args .plan .words) = order-is (c .before .before .before .before .before .before .before .before .before .before .before .before .before .before .before .before .before .before .before .before .before .before .before .before .before .before .before .before .before .args .plan .words) (c .before .before .before .before .before .before .before .before .before .before .before .before .before .before .before .before .before .before .before .before .before .before .before .number .last .0) (G .fair .few-words) (c .before .before .before .before .before .before .before .before .before .before .before .before .before .before .before .before .before .before .before .before .before .before .before .number .ensures ∙ ap input-order (length-replicate {A = ℕ} 4096 0)) in
     decoded-to (plain (c .before .before .before .before .before .before .before .before .before .before .before .before .before .before .before .before .before .before .before .before .before .before .before .before .before .before .before .before .before .args .offset) (c .before .before .before .before .before .before .before .before .before .before .before .before .before .before .before .before .before .before .before .before .before .before .before .before .before .before .before .before .before .fits .offset))
     (record {
       number = refl;

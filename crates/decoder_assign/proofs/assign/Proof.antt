@@ -7,8 +7,8 @@ use native.Mathlib.Omega.{arith}
 use borrow.Author.Count.{below-more}
 use borrow.Author.Needs.{needs}
 use lib.ListN.{length, getD}
+use Rattle.fixed_code.specs.Code.{codeOf}
 use Rattle.schedule.specs.Lanes.{any-held, any-start, any-some, any-none}
-use Rattle.outcome.specs.Code.{codeOf}
 use Rattle.decoder_words.specs.Book.{book, same-on, room-on}
 use Rattle.decoder_assign.specs.Assign.{Takes, takes-start, takes-on, takes-quick, takes-hold, takes-end}
 use Rattle.decoder_assign.proofs.assign.Statement.{statement}
@@ -39,7 +39,7 @@ mul-if1 : tie.Need-mul-if1 Inv-loop μ-loop Inv-refill μ-refill
 mul-if1 c = search needs
 
 array-read-if1 : tie.Need-array-read-if1 Inv-loop μ-loop Inv-refill μ-refill
-array-read-if1 c = omega (arith, c .loop-test .taken, c .before .loop .inv .0, c .before .before .before .before .before .before .before .before .before .before .before .before .before .before .before .pre .0 .0 .few-lanes)
+array-read-if1 c = omega (arith, c .loop-test .taken, c .before .loop .inv .0, c .before .before .before .before .before .before .before .before .before .before .before .before .before .before .before .pre .0 .0 .fair .few-lanes)
 
 mul-w : tie.Need-mul-w Inv-loop μ-loop Inv-refill μ-refill
 mul-w c = search needs
@@ -51,7 +51,7 @@ add-next : tie.Need-add-next Inv-loop μ-loop Inv-refill μ-refill
 add-next c = search needs
 
 cast-v : tie.Need-cast-v Inv-loop μ-loop Inv-refill μ-refill
-cast-v c = omega (arith, c .before .before .before .before .before .before .before .before .before .before .before .before .before .before .before .before .before .before .pre .0 .1 (c .before .before .before .before .loop .next) (c .before .if2 .taken), c .before .before .before .before .before .before .before .before .before .before .before .before .before .before .before .before .before .before .pre .0 .0 .few-words)
+cast-v c = omega (arith, c .before .before .before .before .before .before .before .before .before .before .before .before .before .before .before .before .before .before .pre .0 .1 (c .before .before .before .before .loop .next) (c .before .if2 .taken), c .before .before .before .before .before .before .before .before .before .before .before .before .before .before .before .before .before .before .pre .0 .0 .fair .few-words)
 
 at-once-requires : tie.Need-at-once-requires Inv-loop μ-loop Inv-refill μ-refill
 at-once-requires c κs = (c .before .before .before .before .before .before .before .before .before .before .before .before .before .before .before .before .before .before .pre .0 .0, c .before .before .before .before .before .before .before .before .before .before .before .before .before .before .before .before .before .before .pre .0 .1 (c .before .before .before .before .loop .next) (c .before .if2 .taken))
@@ -60,19 +60,19 @@ finish-soft-requires : tie.Need-finish-soft-requires Inv-loop μ-loop Inv-refill
 finish-soft-requires c κs = ((c .before .before .before .before .before .before .before .before .before .before .before .before .before .before .before .before .before .before .before .before .before .before .before .before .before .before .pre .0 .0, c .before .before .before .before .before .before .before .before .before .before .before .before .before .before .before .before .before .before .before .before .before .before .before .before .before .before .pre .0 .1 (c .before .before .before .before .before .before .before .before .before .before .before .before .loop .next) (c .before .before .before .before .before .before .before .before .before .if2 .taken)), room-on (c .before .before .before .before .before .before .before .before .before .before .before .before .before .before .before .before .before .before .before .before .before .before .before .before .before .before .pre .1 .0) (same-on (c .before .before .before .before .before .before .before .before .before .before .before .before .before .refill .inv .1 .same) (c .before .before .before .before .before .before .before .before .before .before .before .before .loop .inv .2 .same)))
 
 add-held : tie.Need-add-held Inv-loop μ-loop Inv-refill μ-refill
-add-held c = omega (arith, c .before .before .before .before .before .before .before .before .before .before .before .before .before .before .before .before .before .before .before .before .pre .0 .1 (c .before .before .before .before .before .before .loop .next) (c .before .before .before .if2 .taken), c .before .before .before .before .before .before .before .before .before .before .before .before .before .before .before .before .before .before .before .before .pre .0 .0 .few-words)
+add-held c = omega (arith, c .before .before .before .before .before .before .before .before .before .before .before .before .before .before .before .before .before .before .before .before .pre .0 .1 (c .before .before .before .before .before .before .loop .next) (c .before .before .before .if2 .taken), c .before .before .before .before .before .before .before .before .before .before .before .before .before .before .before .before .before .before .before .before .pre .0 .0 .fair .few-words)
 
 mul-held : tie.Need-mul-held Inv-loop μ-loop Inv-refill μ-refill
 mul-held c = search needs
 
 array-write-held : tie.Need-array-write-held Inv-loop μ-loop Inv-refill μ-refill
-array-write-held c = omega (arith, c .before .before .before .before .before .loop-test .taken, c .before .before .before .before .before .before .loop .inv .0, c .before .before .before .before .before .before .before .before .before .before .before .before .before .before .before .before .before .before .before .before .pre .0 .0 .few-lanes)
+array-write-held c = omega (arith, c .before .before .before .before .before .loop-test .taken, c .before .before .before .before .before .before .loop .inv .0, c .before .before .before .before .before .before .before .before .before .before .before .before .before .before .before .before .before .before .before .before .pre .0 .0 .fair .few-lanes)
 
 mul-iters : tie.Need-mul-iters Inv-loop μ-loop Inv-refill μ-refill
 mul-iters c = search needs
 
 array-write-iters : tie.Need-array-write-iters Inv-loop μ-loop Inv-refill μ-refill
-array-write-iters c = omega (arith, c .before .before .before .before .before .loop-test .taken, c .before .before .before .before .before .before .loop .inv .0, c .before .before .before .before .before .before .before .before .before .before .before .before .before .before .before .before .before .before .before .before .pre .0 .0 .few-lanes)
+array-write-iters c = omega (arith, c .before .before .before .before .before .loop-test .taken, c .before .before .before .before .before .before .loop .inv .0, c .before .before .before .before .before .before .before .before .before .before .before .before .before .before .before .before .before .before .before .before .pre .0 .0 .fair .few-lanes)
 
 refill-less : tie.Need-refill-less Inv-loop μ-loop Inv-refill μ-refill
 refill-less c = omega (arith, c .before .before .before .before .before .before .before .before .before .before .before .before .before .before .before .before .before .before .before .before .before .before .if2 .taken, c .before .before .before .before .before .before .before .before .before .before .before .before .before .before .before .before .before .before .before .before .before .before .before .before .before .loop .inv .2 .later)
@@ -93,8 +93,8 @@ refill-again-2 c = let inl : c .before .before .before .before .before .before .
   c .before .before .before .before .before .before .before .refill .inv .0,
   takes-on _ _ _ _ (c .before .before .before .before .before .before .before .refill .inv .1) (takes-on _ _ _ _ (c .before .before .before .before .before .before .loop .inv .2)
       (takes-hold _ _ _ _ _ _ _ _ (c .before .before .before .before .before .before .loop .l) inl (c .before .before .before .before .before .before .loop .inv .3 (c .before .before .before .if2 .taken)) (c .before .before .before .before .if1 .left) (c .before .before .before .if2 .taken) _ (c .before .at-once .ensures) (c .if3 .left)
-      (omega (arith, c .before .before .before .before .before .before .before .before .before .before .before .before .before .before .before .before .before .before .before .before .pre .0 .0 .few-lanes, c .before .before .before .before .before .before .before .before .before .before .before .before .before .before .before .before .before .before .before .before .pre .1 .1 .1 .held-fit, c .before .before .before .before .before .before .loop .inv .2 .held-fit, c .before .before .before .before .before .before .before .refill .inv .1 .held-fit))
-      (omega (arith, c .before .before .before .before .before .before .before .before .before .before .before .before .before .before .before .before .before .before .before .before .pre .0 .0 .few-lanes, c .before .before .before .before .before .before .before .before .before .before .before .before .before .before .before .before .before .before .before .before .pre .1 .1 .1 .iters-fit, c .before .before .before .before .before .before .loop .inv .2 .iters-fit, c .before .before .before .before .before .before .before .refill .inv .1 .iters-fit)))),
+      (omega (arith, c .before .before .before .before .before .before .before .before .before .before .before .before .before .before .before .before .before .before .before .before .pre .0 .0 .fair .few-lanes, c .before .before .before .before .before .before .before .before .before .before .before .before .before .before .before .before .before .before .before .before .pre .1 .1 .1 .held-fit, c .before .before .before .before .before .before .loop .inv .2 .held-fit, c .before .before .before .before .before .before .before .refill .inv .1 .held-fit))
+      (omega (arith, c .before .before .before .before .before .before .before .before .before .before .before .before .before .before .before .before .before .before .before .before .pre .0 .0 .fair .few-lanes, c .before .before .before .before .before .before .before .before .before .before .before .before .before .before .before .before .before .before .before .before .pre .1 .1 .1 .iters-fit, c .before .before .before .before .before .before .loop .inv .2 .iters-fit, c .before .before .before .before .before .before .before .refill .inv .1 .iters-fit)))),
 )
 
 add-l : tie.Need-add-l Inv-loop μ-loop Inv-refill μ-refill

@@ -16,7 +16,7 @@ hard-requires : tie.Need-hard-requires
 hard-requires c κs = (rows-fit _ _ _ (c .before .before .before .before .pre .0), (c .before .before .before .before .pre .1, omega (arith, c .before .before .before .before .pre .2)))
 
 correct-requires : tie.Need-correct-requires
-correct-requires c κs = omega (arith, c .before .before .before .before .before .before .before .before .pre .0 .part-within, c .before .before .before .before .before .before .before .before .pre .2, c .before .before .before .hard .kept .1 .1 .1 .1 .0)
+correct-requires c κs = omega (arith, c .before .before .before .before .before .before .before .before .pre .0 .fair .part-within, c .before .before .before .before .before .before .before .before .pre .2, c .before .before .before .hard .kept .1 .1 .1 .1 .0)
 
 same-length : tie.Need-same-length
 same-length c = search needs

@@ -11,8 +11,9 @@ use lib.ListN.{getD-replicate}
 use lib.ListN.{set, length-set}
 use lib.ListN.{length}
 use Rattle.decoder_lanes.specs.Load.{loading-as}
-use Rattle.decoder_words.specs.Part.{word-ends}
-use Rattle.decoder_lanes.specs.Lane.{all-le, rows-fit, messages-fit, middle, own}
+use Rattle.decoder_words.specs.Part.{word-ends, own, middle}
+use Rattle.decoder_words.specs.Given.{all-le}
+use Rattle.decoder_lanes.specs.Lane.{rows-fit, messages-fit}
 use Rattle.decoder_lanes.specs.Load.{Loading, loading-start, loading-skip, loading-load, loading-end}
 use Rattle.decoder_lanes.proofs.load.Statement.{statement}
 use Rattle.decoder_lanes.proofs.load.Tie as tie
@@ -51,13 +52,13 @@ sub-w : tie.Need-sub-w Inv-loop μ-loop
 sub-w c = omega (arith, c .before .if1 .taken)
 
 cast-w : tie.Need-cast-w Inv-loop μ-loop
-cast-w c = omega (arith, c .before .before .before .before .before .before .pre .1 .1 (c .before .before .before .loop .l) (c .before .before .loop-test .taken) (c .before .if1 .taken), c .before .before .before .before .before .before .pre .0 .0 .few-words)
+cast-w c = omega (arith, c .before .before .before .before .before .before .pre .1 .1 (c .before .before .before .loop .l) (c .before .before .loop-test .taken) (c .before .if1 .taken), c .before .before .before .before .before .before .pre .0 .0 .fair .few-words)
 
 mul-a : tie.Need-mul-a Inv-loop μ-loop
-mul-a c = let h = c .before .before .before .before .before .before .pre .1 .1 (c .before .before .before .loop .l) (c .before .before .loop-test .taken) (c .before .if1 .taken) in omega (arith, word-ends (c .before .before .before .before .before .before .args .plan .n) _ (c .before .before .before .before .before .before .args .plan .words) h, all-le _ _ _ (c .before .before .before .before .before .before .pre .0 .0))
+mul-a c = let h = c .before .before .before .before .before .before .pre .1 .1 (c .before .before .before .loop .l) (c .before .before .loop-test .taken) (c .before .if1 .taken) in omega (arith, word-ends (c .before .before .before .before .before .before .args .plan .n) _ (c .before .before .before .before .before .before .args .plan .words) h, all-le _ (c .before .before .before .before .before .before .pre .0 .0 .fair))
 
 add-b : tie.Need-add-b Inv-loop μ-loop
-add-b c = let h = c .before .before .before .before .before .before .pre .1 .1 (c .before .before .before .loop .l) (c .before .before .loop-test .taken) (c .before .if1 .taken) in omega (arith, word-ends (c .before .before .before .before .before .before .args .plan .n) _ (c .before .before .before .before .before .before .args .plan .words) h, all-le _ _ _ (c .before .before .before .before .before .before .pre .0 .0))
+add-b c = let h = c .before .before .before .before .before .before .pre .1 .1 (c .before .before .before .loop .l) (c .before .before .loop-test .taken) (c .before .if1 .taken) in omega (arith, word-ends (c .before .before .before .before .before .before .args .plan .n) _ (c .before .before .before .before .before .before .args .plan .words) h, all-le _ (c .before .before .before .before .before .before .pre .0 .0 .fair))
 
 sub-load : tie.Need-sub-load Inv-loop μ-loop
 sub-load c = search needs
@@ -70,7 +71,7 @@ part-load-end c = let h = c .before .before .before .before .before .before .bef
 
 load-requires : tie.Need-load-requires Inv-loop μ-loop
 load-requires c κs = let h = c .before .before .before .before .before .before .before .before .pre .1 .1 (c .before .before .before .before .before .loop .l) (c .before .before .before .before .loop-test .taken) (c .before .before .before .if1 .taken) in
-    (omega (arith, rows-fit _ _ _ (c .before .before .before .before .before .before .before .before .pre .0 .0), c .before .before .before .before .before .loop .inv .1), (c .before .before .before .before .loop-test .taken, middle (c .before .before .before .before .before .before .before .before .args .plan .n) (c .before .before .before .before .before .before .before .before .args .plan .words) _ (c .before .before .before .before .before .before .before .before .args .soft .now) h (omega (arith, c .before .before .before .before .before .before .before .before .pre .0 .2))))
+    (omega (arith, rows-fit _ _ _ (c .before .before .before .before .before .before .before .before .pre .0 .0), c .before .before .before .before .before .loop .inv .1), (c .before .before .before .before .loop-test .taken, middle (c .before .before .before .before .before .before .before .before .args .plan .n) _ (c .before .before .before .before .before .before .before .before .args .soft .now) (c .before .before .before .before .before .before .before .before .args .plan .words) h (omega (arith, c .before .before .before .before .before .before .before .before .pre .0 .2))))
 
 array-write-fresh : tie.Need-array-write-fresh Inv-loop μ-loop
 array-write-fresh c = omega (arith, c .before .before .before .before .before .before .loop-test .taken, c .before .before .before .before .before .before .before .before .before .before .pre .0 .0 .memory .few-lanes, c .before .before .before .before .before .before .before .loop .inv .2 .size)

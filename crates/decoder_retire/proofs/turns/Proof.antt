@@ -39,7 +39,7 @@ array-read-i c = omega (arith, c .before .loop-test .taken, c .before .before .l
 add-i : tie.Need-add-i Inv-loop μ-loop
 add-i c = let inl : c .before .before .loop .l < c .before .before .before .before .before .before .before .before .before .before .before .before .args .plan .lanes = omega (arith, c .before .loop-test .taken, c .before .before .loop .inv .0) in
     let u = c .before .before .loop .inv .3 .untouched (c .before .before .loop .l) (omega arith) in
-    omega (arith, u .1, c .before .before .before .before .before .before .before .before .before .before .before .before .pre .1 .1 .0 .1 .short (c .before .before .loop .l) inl (λ e. c .if1 .taken (u .0 ∙ e)), c .before .before .before .before .before .before .before .before .before .before .before .before .pre .0 .limit-fits)
+    omega (arith, u .1, c .before .before .before .before .before .before .before .before .before .before .before .before .pre .1 .1 .0 .1 .short (c .before .before .loop .l) inl (λ e. c .if1 .taken (u .0 ∙ e)), c .before .before .before .before .before .before .before .before .before .before .before .before .pre .0 .fair .limit-fits)
 
 mul-iters : tie.Need-mul-iters Inv-loop μ-loop
 mul-iters c = search needs
@@ -59,7 +59,7 @@ sub-w c = omega (arith, c .before .before .if1 .taken)
 cast-w : tie.Need-cast-w Inv-loop μ-loop
 cast-w c = let inl : c .before .before .before .before .loop .l < c .before .before .before .before .before .before .before .before .before .before .before .before .before .before .args .plan .lanes = omega (arith, c .before .before .before .loop-test .taken, c .before .before .before .before .loop .inv .0) in
     let u = c .before .before .before .before .loop .inv .3 .untouched (c .before .before .before .before .loop .l) (omega arith) in
-    omega (arith, u .0, c .before .before .before .before .before .before .before .before .before .before .before .before .before .before .pre .1 .1 .0 .1 .known (c .before .before .before .before .loop .l) inl (λ e. c .before .before .if1 .taken (u .0 ∙ e)), c .before .before .before .before .before .before .before .before .before .before .before .before .before .before .pre .0 .few-words)
+    omega (arith, u .0, c .before .before .before .before .before .before .before .before .before .before .before .before .before .before .pre .1 .1 .0 .1 .known (c .before .before .before .before .loop .l) inl (λ e. c .before .before .if1 .taken (u .0 ∙ e)), c .before .before .before .before .before .before .before .before .before .before .before .before .before .before .pre .0 .fair .few-words)
 
 mul-leave : tie.Need-mul-leave Inv-loop μ-loop
 mul-leave c = search needs

@@ -32,7 +32,7 @@ sub-w c = omega (arith, c .if1 .taken)
 
 cast-w : tie.Need-cast-w Inv-loop μ-loop
 cast-w c = let inl : c .before .before .loop .l < c .before .before .before .before .before .before .before .before .before .before .args .plan .lanes = omega (arith, c .before .loop-test .taken, c .before .before .loop .inv .0) in
-    omega (arith, c .before .before .before .before .before .before .before .before .before .before .pre .1 .1 .0 .1 .known (c .before .before .loop .l) inl (c .if1 .taken), c .before .before .before .before .before .before .before .before .before .before .pre .0 .few-words)
+    omega (arith, c .before .before .before .before .before .before .before .before .before .before .pre .1 .1 .0 .1 .known (c .before .before .loop .l) inl (c .if1 .taken), c .before .before .before .before .before .before .before .before .before .before .pre .0 .fair .few-words)
 
 mul-hold : tie.Need-mul-hold Inv-loop μ-loop
 mul-hold c = search needs

@@ -8,9 +8,10 @@ use native.Mathlib.Omega.{arith}
 use borrow.Author.Needs.{needs}
 use lib.Dec.{eqb}
 use lib.IntN.{ℤ}
-use Rattle.outcome.specs.Code.{codeOf}
+use Rattle.fixed_code.specs.Code.{codeOf}
 use Rattle.outcome.specs.Outcome.{begin, metOf}
-use Rattle.decoder_words.specs.Given.{all-le, own-within, own-soft, own-lent}
+use Rattle.decoder_words.specs.Part.{word-ends, own}
+use Rattle.decoder_words.specs.Given.{all-le, own-lent}
 use Rattle.decoder_words.proofs.at_once.Statement.{statement}
 use Rattle.decoder_words.proofs.at_once.Tie as tie
 
@@ -18,10 +19,10 @@ cast-n : tie.Need-cast-n
 cast-n c = search needs
 
 mul-a : tie.Need-mul-a
-mul-a c = omega (arith, own-within _ _ _ _ _ (c .before .before .before .before .pre .0) (c .before .before .before .before .args .w) (c .before .before .before .before .pre .1), all-le _ _ _ _ _ (c .before .before .before .before .pre .0))
+mul-a c = omega (arith, word-ends (c .before .before .before .before .args .plan .n) (c .before .before .before .before .args .w) (c .before .before .before .before .args .plan .words) (c .before .before .before .before .pre .1), all-le _ (c .before .before .before .before .pre .0 .fair))
 
 add-b : tie.Need-add-b
-add-b c = omega (arith, own-within _ _ _ _ _ (c .before .before .before .before .pre .0) (c .before .before .before .before .args .w) (c .before .before .before .before .pre .1), all-le _ _ _ _ _ (c .before .before .before .before .pre .0))
+add-b c = omega (arith, word-ends (c .before .before .before .before .args .plan .n) (c .before .before .before .before .args .w) (c .before .before .before .before .args .plan .words) (c .before .before .before .before .pre .1), all-le _ (c .before .before .before .before .pre .0 .fair))
 
 sub-soft-met : tie.Need-sub-soft-met
 sub-soft-met c = search needs
@@ -30,17 +31,17 @@ part-soft-met-start : tie.Need-part-soft-met-start
 part-soft-met-start c = search needs
 
 part-soft-met-end : tie.Need-part-soft-met-end
-part-soft-met-end c = omega (arith, own-within _ _ _ _ _ (c .before .before .before .before .pre .0) (c .before .before .before .before .args .w) (c .before .before .before .before .pre .1), c .before .before .before .before .pre .0 .soft-long)
+part-soft-met-end c = omega (arith, word-ends (c .before .before .before .before .args .plan .n) (c .before .before .before .before .args .w) (c .before .before .before .before .args .plan .words) (c .before .before .before .before .pre .1), c .before .before .before .before .pre .0 .soft-long)
 
 soft-met-requires : tie.Need-soft-met-requires
 soft-met-requires c κs = own-lent _ _ _ _ _ (c .before .before .before .before .before .pre .0) (c .before .before .before .before .before .args .w) (c .before .before .before .before .before .pre .1)
 
 returns : tie.Need-returns
-returns c = let e = ap₂ (λ (q : ℕ) (s : List ℤ). metOf (codeOf (c .before .before .before .before .before .before .before .args .plan .n) (c .before .before .before .before .before .before .before .args .lens .now) (c .before .before .before .before .before .before .before .args .addrs .now)) q (begin (c .before .before .before .before .before .before .before .args .plan .n) s)) (c .before .before .before .before .before .before .before .pre .0 .checks) (sym (own-soft _ _ _ _ _ (c .before .before .before .before .before .before .before .pre .0) (c .before .before .before .before .before .before .before .args .w) (c .before .before .before .before .before .before .before .pre .1))) ∙ sym (c .before .soft-met .ensures) ∙ c .if1 .taken in
+returns c = let e = ap₂ (λ (q : ℕ) (s : List ℤ). metOf (codeOf (c .before .before .before .before .before .before .before .args .plan .n) (c .before .before .before .before .before .before .before .args .lens .now) (c .before .before .before .before .before .before .before .args .addrs .now)) q (begin (c .before .before .before .before .before .before .before .args .plan .n) s)) (c .before .before .before .before .before .before .before .pre .0 .coded .checks) (sym (own (c .before .before .before .before .before .before .before .args .plan .n) (c .before .before .before .before .before .before .before .args .w) (c .before .before .before .before .before .before .before .args .soft .now))) ∙ sym (c .before .soft-met .ensures) ∙ c .if1 .taken in
     sym (λ i. e i || eqb 0 (c .before .before .before .before .before .before .before .args .plan .limit))
 
 returns-2 : tie.Need-returns-2
-returns-2 c = let e = ap₂ (λ (q : ℕ) (s : List ℤ). metOf (codeOf (c .before .before .before .before .before .before .before .before .args .plan .n) (c .before .before .before .before .before .before .before .before .args .lens .now) (c .before .before .before .before .before .before .before .before .args .addrs .now)) q (begin (c .before .before .before .before .before .before .before .before .args .plan .n) s)) (c .before .before .before .before .before .before .before .before .pre .0 .checks) (sym (own-soft _ _ _ _ _ (c .before .before .before .before .before .before .before .before .pre .0) (c .before .before .before .before .before .before .before .before .args .w) (c .before .before .before .before .before .before .before .before .pre .1))) ∙ sym (c .before .before .soft-met .ensures) ∙ c .before .if1 .left in
+returns-2 c = let e = ap₂ (λ (q : ℕ) (s : List ℤ). metOf (codeOf (c .before .before .before .before .before .before .before .before .args .plan .n) (c .before .before .before .before .before .before .before .before .args .lens .now) (c .before .before .before .before .before .before .before .before .args .addrs .now)) q (begin (c .before .before .before .before .before .before .before .before .args .plan .n) s)) (c .before .before .before .before .before .before .before .before .pre .0 .coded .checks) (sym (own (c .before .before .before .before .before .before .before .before .args .plan .n) (c .before .before .before .before .before .before .before .before .args .w) (c .before .before .before .before .before .before .before .before .args .soft .now))) ∙ sym (c .before .before .soft-met .ensures) ∙ c .before .if1 .left in
     sym (λ i. e i || eqb 0 (c .before .before .before .before .before .before .before .before .args .plan .limit))
 
 pub at-once-spec : {M : Type 1} → statement M

@@ -11,8 +11,8 @@ use Rattle.outcome.specs.Outcome.{begin, bitsOf, bchOf, corrected}
 use Rattle.outcome.specs.Laws.{bits-length, corrected-length}
 use Rattle.decoder_words.specs.Book.{View}
 use Rattle.decoder_words.specs.Tells.{Ends}
-use Rattle.decoder_words.specs.Part.{written-view, written-only}
-use Rattle.decoder_words.specs.Given.{all-le, own-within, own-soft, own-lent, own-middle}
+use Rattle.decoder_words.specs.Part.{word-ends, own, middle, written-view, written-only}
+use Rattle.decoder_words.specs.Given.{all-le, own-lent}
 use Rattle.decoder_words.specs.Finish.{counted-to, ended}
 use Rattle.decoder_words.proofs.finish_soft.Statement.{statement}
 use Rattle.decoder_words.proofs.finish_soft.Tie as tie
@@ -21,10 +21,10 @@ cast-n : tie.Need-cast-n
 cast-n c = search needs
 
 mul-a : tie.Need-mul-a
-mul-a c = omega (arith, own-within _ _ _ _ _ (c .before .before .before .before .before .before .before .before .before .before .pre .0 .0) (c .before .before .before .before .before .before .before .before .before .before .args .w) (c .before .before .before .before .before .before .before .before .before .before .pre .0 .1), all-le _ _ _ _ _ (c .before .before .before .before .before .before .before .before .before .before .pre .0 .0))
+mul-a c = omega (arith, word-ends (c .before .before .before .before .before .before .before .before .before .before .args .plan .n) (c .before .before .before .before .before .before .before .before .before .before .args .w) (c .before .before .before .before .before .before .before .before .before .before .args .plan .words) (c .before .before .before .before .before .before .before .before .before .before .pre .0 .1), all-le _ (c .before .before .before .before .before .before .before .before .before .before .pre .0 .0 .fair))
 
 add-b : tie.Need-add-b
-add-b c = omega (arith, own-within _ _ _ _ _ (c .before .before .before .before .before .before .before .before .before .before .pre .0 .0) (c .before .before .before .before .before .before .before .before .before .before .args .w) (c .before .before .before .before .before .before .before .before .before .before .pre .0 .1), all-le _ _ _ _ _ (c .before .before .before .before .before .before .before .before .before .before .pre .0 .0))
+add-b c = omega (arith, word-ends (c .before .before .before .before .before .before .before .before .before .before .args .plan .n) (c .before .before .before .before .before .before .before .before .before .before .args .w) (c .before .before .before .before .before .before .before .before .before .before .args .plan .words) (c .before .before .before .before .before .before .before .before .before .before .pre .0 .1), all-le _ (c .before .before .before .before .before .before .before .before .before .before .pre .0 .0 .fair))
 
 sub-soft-unmet : tie.Need-sub-soft-unmet
 sub-soft-unmet c = search needs
@@ -33,7 +33,7 @@ part-soft-unmet-start : tie.Need-part-soft-unmet-start
 part-soft-unmet-start c = search needs
 
 part-soft-unmet-end : tie.Need-part-soft-unmet-end
-part-soft-unmet-end c = omega (arith, own-within _ _ _ _ _ (c .before .before .before .before .before .before .before .before .before .before .pre .0 .0) (c .before .before .before .before .before .before .before .before .before .before .args .w) (c .before .before .before .before .before .before .before .before .before .before .pre .0 .1), c .before .before .before .before .before .before .before .before .before .before .pre .0 .0 .soft-long)
+part-soft-unmet-end c = omega (arith, word-ends (c .before .before .before .before .before .before .before .before .before .before .args .plan .n) (c .before .before .before .before .before .before .before .before .before .before .args .w) (c .before .before .before .before .before .before .before .before .before .before .args .plan .words) (c .before .before .before .before .before .before .before .before .before .before .pre .0 .1), c .before .before .before .before .before .before .before .before .before .before .pre .0 .0 .soft-long)
 
 soft-unmet-requires : tie.Need-soft-unmet-requires
 soft-unmet-requires c κs = own-lent _ _ _ _ _ (c .before .before .before .before .before .before .before .before .before .before .before .pre .0 .0) (c .before .before .before .before .before .before .before .before .before .before .before .args .w) (c .before .before .before .before .before .before .before .before .before .before .before .pre .0 .1)
@@ -45,7 +45,7 @@ part-soft-part-start : tie.Need-part-soft-part-start
 part-soft-part-start c = search needs
 
 part-soft-part-end : tie.Need-part-soft-part-end
-part-soft-part-end c = omega (arith, own-within _ _ _ _ _ (c .before .before .before .before .before .before .before .before .before .before .before .before .pre .0 .0) (c .before .before .before .before .before .before .before .before .before .before .before .before .args .w) (c .before .before .before .before .before .before .before .before .before .before .before .before .pre .0 .1), c .before .before .before .before .before .before .before .before .before .before .before .before .pre .0 .0 .soft-long)
+part-soft-part-end c = omega (arith, word-ends (c .before .before .before .before .before .before .before .before .before .before .before .before .args .plan .n) (c .before .before .before .before .before .before .before .before .before .before .before .before .args .w) (c .before .before .before .before .before .before .before .before .before .before .before .before .args .plan .words) (c .before .before .before .before .before .before .before .before .before .before .before .before .pre .0 .1), c .before .before .before .before .before .before .before .before .before .before .before .before .pre .0 .0 .soft-long)
 
 sub-soft-part-2 : tie.Need-sub-soft-part-2
 sub-soft-part-2 c = search needs
@@ -54,16 +54,16 @@ part-soft-part-start-2 : tie.Need-part-soft-part-start-2
 part-soft-part-start-2 c = search needs
 
 part-soft-part-end-2 : tie.Need-part-soft-part-end-2
-part-soft-part-end-2 c = omega (arith, own-within _ _ _ _ _ (c .before .before .before .before .before .before .before .before .before .before .before .before .before .pre .0 .0) (c .before .before .before .before .before .before .before .before .before .before .before .before .before .args .w) (c .before .before .before .before .before .before .before .before .before .before .before .before .before .pre .0 .1), c .before .before .before .before .before .before .before .before .before .before .before .before .before .pre .1 .out)
+part-soft-part-end-2 c = omega (arith, word-ends (c .before .before .before .before .before .before .before .before .before .before .before .before .before .args .plan .n) (c .before .before .before .before .before .before .before .before .before .before .before .before .before .args .w) (c .before .before .before .before .before .before .before .before .before .before .before .before .before .args .plan .words) (c .before .before .before .before .before .before .before .before .before .before .before .before .before .pre .0 .1), c .before .before .before .before .before .before .before .before .before .before .before .before .before .pre .1 .out)
 
 soft-part-requires : tie.Need-soft-part-requires
-soft-part-requires c κs = (own-lent _ _ _ _ _ (c .before .before .before .before .before .before .before .before .before .before .before .before .before .before .pre .0 .0) (c .before .before .before .before .before .before .before .before .before .before .before .before .before .before .args .w) (c .before .before .before .before .before .before .before .before .before .before .before .before .before .before .pre .0 .1) .word, own-middle _ _ _ _ _ (c .before .before .before .before .before .before .before .before .before .before .before .before .before .before .pre .0 .0) (c .before .before .before .before .before .before .before .before .before .before .before .before .before .before .args .w) (c .before .before .before .before .before .before .before .before .before .before .before .before .before .before .pre .0 .1) (c .before .before .before .before .before .before .before .before .before .before .before .before .before .before .args .out .now) (c .before .before .before .before .before .before .before .before .before .before .before .before .before .before .pre .1 .out), c .before .before .before .before .before .before .before .before .before .before .before .before .before .before .pre .0 .0 .part-within, c .before .before .before .before .before .before .before .before .before .before .before .before .before .before .pre .0 .0 .part-long, c .before .before .before .before .before .before .before .before .before .before .before .before .before .before .pre .0 .0 .part-short)
+soft-part-requires c κs = (own-lent _ _ _ _ _ (c .before .before .before .before .before .before .before .before .before .before .before .before .before .before .pre .0 .0) (c .before .before .before .before .before .before .before .before .before .before .before .before .before .before .args .w) (c .before .before .before .before .before .before .before .before .before .before .before .before .before .before .pre .0 .1) .word, middle (c .before .before .before .before .before .before .before .before .before .before .before .before .before .before .args .plan .n) (c .before .before .before .before .before .before .before .before .before .before .before .before .before .before .args .w) (c .before .before .before .before .before .before .before .before .before .before .before .before .before .before .args .out .now) (c .before .before .before .before .before .before .before .before .before .before .before .before .before .before .args .plan .words) (c .before .before .before .before .before .before .before .before .before .before .before .before .before .before .pre .0 .1) (c .before .before .before .before .before .before .before .before .before .before .before .before .before .before .pre .1 .out), c .before .before .before .before .before .before .before .before .before .before .before .before .before .before .pre .0 .0 .fair .part-within, c .before .before .before .before .before .before .before .before .before .before .before .before .before .before .pre .0 .0 .fair .part-long, c .before .before .before .before .before .before .before .before .before .before .before .before .before .before .pre .0 .0 .fair .part-short)
 
 state-of-requires : tie.Need-state-of-requires
 state-of-requires c κs = search needs
 
 note-requires : tie.Need-note-requires
-note-requires c κs = (omega (arith, c .before .before .before .before .before .before .before .before .before .before .before .before .before .before .before .before .before .before .before .before .before .before .before .before .pre .1 .state, c .before .before .before .before .before .before .before .before .before .before .before .before .before .before .before .before .before .before .before .before .before .before .before .before .pre .0 .0 .few-words, c .before .before .before .before .before .before .before .before .before .before .before .before .before .before .before .before .before .before .before .before .before .before .before .before .pre .0 .1), omega (arith, c .before .before .before .before .before .before .before .before .before .before .before .before .before .before .before .before .before .before .before .before .before .before .before .before .pre .1 .iterations, c .before .before .before .before .before .before .before .before .before .before .before .before .before .before .before .before .before .before .before .before .before .before .before .before .pre .0 .0 .few-words, c .before .before .before .before .before .before .before .before .before .before .before .before .before .before .before .before .before .before .before .before .before .before .before .before .pre .0 .1), omega (arith, c .before .before .before .before .before .before .before .before .before .before .before .before .before .before .before .before .before .before .before .before .before .before .before .before .pre .1 .unsatisfied, c .before .before .before .before .before .before .before .before .before .before .before .before .before .before .before .before .before .before .before .before .before .before .before .before .pre .0 .0 .few-words, c .before .before .before .before .before .before .before .before .before .before .before .before .before .before .before .before .before .before .before .before .before .before .before .before .pre .0 .1), omega (arith, c .before .before .before .before .before .before .before .before .before .before .before .before .before .before .before .before .before .before .before .before .before .before .before .before .pre .1 .check, c .before .before .before .before .before .before .before .before .before .before .before .before .before .before .before .before .before .before .before .before .before .before .before .before .pre .0 .0 .few-words, c .before .before .before .before .before .before .before .before .before .before .before .before .before .before .before .before .before .before .before .before .before .before .before .before .pre .0 .1), omega (arith, c .before .before .before .before .before .before .before .before .before .before .before .before .before .before .before .before .before .before .before .before .before .before .before .before .pre .1 .bch, c .before .before .before .before .before .before .before .before .before .before .before .before .before .before .before .before .before .before .before .before .before .before .before .before .pre .0 .0 .few-words, c .before .before .before .before .before .before .before .before .before .before .before .before .before .before .before .before .before .before .before .before .before .before .before .before .pre .0 .1))
+note-requires c κs = (omega (arith, c .before .before .before .before .before .before .before .before .before .before .before .before .before .before .before .before .before .before .before .before .before .before .before .before .pre .1 .state, c .before .before .before .before .before .before .before .before .before .before .before .before .before .before .before .before .before .before .before .before .before .before .before .before .pre .0 .0 .fair .few-words, c .before .before .before .before .before .before .before .before .before .before .before .before .before .before .before .before .before .before .before .before .before .before .before .before .pre .0 .1), omega (arith, c .before .before .before .before .before .before .before .before .before .before .before .before .before .before .before .before .before .before .before .before .before .before .before .before .pre .1 .iterations, c .before .before .before .before .before .before .before .before .before .before .before .before .before .before .before .before .before .before .before .before .before .before .before .before .pre .0 .0 .fair .few-words, c .before .before .before .before .before .before .before .before .before .before .before .before .before .before .before .before .before .before .before .before .before .before .before .before .pre .0 .1), omega (arith, c .before .before .before .before .before .before .before .before .before .before .before .before .before .before .before .before .before .before .before .before .before .before .before .before .pre .1 .unsatisfied, c .before .before .before .before .before .before .before .before .before .before .before .before .before .before .before .before .before .before .before .before .before .before .before .before .pre .0 .0 .fair .few-words, c .before .before .before .before .before .before .before .before .before .before .before .before .before .before .before .before .before .before .before .before .before .before .before .before .pre .0 .1), omega (arith, c .before .before .before .before .before .before .before .before .before .before .before .before .before .before .before .before .before .before .before .before .before .before .before .before .pre .1 .check, c .before .before .before .before .before .before .before .before .before .before .before .before .before .before .before .before .before .before .before .before .before .before .before .before .pre .0 .0 .fair .few-words, c .before .before .before .before .before .before .before .before .before .before .before .before .before .before .before .before .before .before .before .before .before .before .before .before .pre .0 .1), omega (arith, c .before .before .before .before .before .before .before .before .before .before .before .before .before .before .before .before .before .before .before .before .before .before .before .before .pre .1 .bch, c .before .before .before .before .before .before .before .before .before .before .before .before .before .before .before .before .before .before .before .before .before .before .before .before .pre .0 .0 .fair .few-words, c .before .before .before .before .before .before .before .before .before .before .before .before .before .before .before .before .before .before .before .before .before .before .before .before .pre .0 .1))
 
 same-length : tie.Need-same-length
 same-length c = search needs
@@ -88,19 +88,19 @@ returns c = let G = c .before .before .before .before .before .before .before .b
     let n = c .before .before .before .before .before .before .before .before .before .before .before .before .before .before .before .before .before .before .before .before .before .before .before .before .before .before .before .before .before .before .before .before .before .before .before .args .plan .n in
     let w = c .before .before .before .before .before .before .before .before .before .before .before .before .before .before .before .before .before .before .before .before .before .before .before .before .before .before .before .before .before .before .before .before .before .before .before .args .w in
     let u = c .before .before .before .before .before .before .before .before .before .before .before .before .before .before .before .before .before .before .before .before .before .before .before .soft-unmet .result in
-    let own = own-soft _ _ _ _ _ G w (c .before .before .before .before .before .before .before .before .before .before .before .before .before .before .before .before .before .before .before .before .before .before .before .before .before .before .before .before .before .before .before .before .before .before .before .pre .0 .1) in
+    let own-is = own n w (c .before .before .before .before .before .before .before .before .before .before .before .before .before .before .before .before .before .before .before .before .before .before .before .before .before .before .before .before .before .before .before .before .before .before .before .args .soft .now) in
     let x : View = record { state = c .before .before .before .before .before .before .before .before .before .before .before .before .before .before .before .before .state-of .result; iterations = 0; unsatisfied = u .count; check = u .check; bch = c .before .before .before .before .before .before .before .before .before .before .before .before .before .before .before .before .before .before .before .before .soft-part .result; bits = c .before .before .before .before .before .before .before .before .before .before .before .before .before .before .before .before .before .before .before .before .soft-part .last .1 .1 .0 } in
-    let bits-are = c .before .before .before .before .before .before .before .before .before .before .before .before .before .before .before .before .before .before .before .before .soft-part .ensures .1 ∙ ap (λ (s : List ℤ). corrected (c .before .before .before .before .before .before .before .before .before .before .before .before .before .before .before .before .before .before .before .before .before .before .before .before .before .before .before .before .before .before .before .before .before .before .before .args .plan .first) (c .before .before .before .before .before .before .before .before .before .before .before .before .before .before .before .before .before .before .before .before .before .before .before .before .before .before .before .before .before .before .before .before .before .before .before .args .plan .size) (bitsOf n (begin n s))) own in
+    let bits-are = c .before .before .before .before .before .before .before .before .before .before .before .before .before .before .before .before .before .before .before .before .soft-part .ensures .1 ∙ ap (λ (s : List ℤ). corrected (c .before .before .before .before .before .before .before .before .before .before .before .before .before .before .before .before .before .before .before .before .before .before .before .before .before .before .before .before .before .before .before .before .before .before .before .args .plan .first) (c .before .before .before .before .before .before .before .before .before .before .before .before .before .before .before .before .before .before .before .before .before .before .before .before .before .before .before .before .before .before .before .before .before .before .before .args .plan .size) (bitsOf n (begin n s))) own-is in
     let long : length (x .bits) ≡ n = ap length bits-are ∙ corrected-length _ _ _ ∙ bits-length n _ in
     let room = c .before .before .before .before .before .before .before .before .before .before .before .before .before .before .before .before .before .before .before .before .before .before .before .before .before .before .before .before .before .before .before .before .before .before .before .pre .1 in
-    let few : w < 4096 = omega (arith, G .few-words, c .before .before .before .before .before .before .before .before .before .before .before .before .before .before .before .before .before .before .before .before .before .before .before .before .before .before .before .before .before .before .before .before .before .before .before .pre .0 .1) in
-    let fits : w * n + n ≤ length (c .before .before .before .before .before .before .before .before .before .before .before .before .before .before .before .before .before .before .before .before .before .before .before .before .before .before .before .before .before .before .before .before .before .before .before .args .out .now) = omega (arith, own-within _ _ _ _ _ G w (c .before .before .before .before .before .before .before .before .before .before .before .before .before .before .before .before .before .before .before .before .before .before .before .before .before .before .before .before .before .before .before .before .before .before .before .pre .0 .1), room .out) in
+    let few : w < 4096 = omega (arith, G .fair .few-words, c .before .before .before .before .before .before .before .before .before .before .before .before .before .before .before .before .before .before .before .before .before .before .before .before .before .before .before .before .before .before .before .before .before .before .before .pre .0 .1) in
+    let fits : w * n + n ≤ length (c .before .before .before .before .before .before .before .before .before .before .before .before .before .before .before .before .before .before .before .before .before .before .before .before .before .before .before .before .before .before .before .before .before .before .before .args .out .now) = omega (arith, word-ends n w _ (c .before .before .before .before .before .before .before .before .before .before .before .before .before .before .before .before .before .before .before .before .before .before .before .before .before .before .before .before .before .before .before .before .before .before .before .pre .0 .1), room .out) in
     let k-is : w * n + n - w * n ≡ n = omega arith in
     let e = c .before .before .before .before .before .before .before .before .before .before .note .ensures in (
       written-only _ _ w _ _ x room few fits _ (e .0) (e .1) (e .2) (e .3) (e .4) refl k-is long,
       subst (Ends _ n _ _ _ _ 0) (sym (written-view _ _ w _ _ x room few fits _ (e .0) (e .1) (e .2) (e .3) (e .4) refl k-is long))
-          (ended _ n _ _ _ _ 0 x (counted-to (sym (G .checks)) (ap (begin n) own) (c .before .before .before .before .before .before .before .before .before .before .before .before .before .before .before .before .before .before .before .before .before .before .before .soft-unmet .ensures)) refl (c .before .before .before .before .before .before .before .before .before .before .before .before .before .before .before .before .state-of .ensures)
-          (c .before .before .before .before .before .before .before .before .before .before .before .before .before .before .before .before .before .before .before .before .soft-part .ensures .0 ∙ ap (λ (s : List ℤ). bchOf (c .before .before .before .before .before .before .before .before .before .before .before .before .before .before .before .before .before .before .before .before .before .before .before .before .before .before .before .before .before .before .before .before .before .before .before .args .plan .first) (c .before .before .before .before .before .before .before .before .before .before .before .before .before .before .before .before .before .before .before .before .before .before .before .before .before .before .before .before .before .before .before .before .before .before .before .args .plan .size) (bitsOf n (begin n s))) own) bits-are),
+          (ended _ n _ _ _ _ 0 x (counted-to (sym (G .coded .checks)) (ap (begin n) own-is) (c .before .before .before .before .before .before .before .before .before .before .before .before .before .before .before .before .before .before .before .before .before .before .before .soft-unmet .ensures)) refl (c .before .before .before .before .before .before .before .before .before .before .before .before .before .before .before .before .state-of .ensures)
+          (c .before .before .before .before .before .before .before .before .before .before .before .before .before .before .before .before .before .before .before .before .soft-part .ensures .0 ∙ ap (λ (s : List ℤ). bchOf (c .before .before .before .before .before .before .before .before .before .before .before .before .before .before .before .before .before .before .before .before .before .before .before .before .before .before .before .before .before .before .before .before .before .before .before .args .plan .first) (c .before .before .before .before .before .before .before .before .before .before .before .before .before .before .before .before .before .before .before .before .before .before .before .before .before .before .before .before .before .before .before .before .before .before .before .args .plan .size) (bitsOf n (begin n s))) own-is) bits-are),
     )
 
 pub finish-soft-spec : {M : Type 1} → statement M

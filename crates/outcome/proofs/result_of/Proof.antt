@@ -1,5 +1,5 @@
 use mathlib.Core.Path.{sym, ap}
-use Rattle.outcome.specs.Outcome.{resultOf, lost}
+use Rattle.outcome.specs.Outcome.{bchResult, lost}
 use borrow.Author.Needs.{needs}
 use Rattle.outcome.proofs.result_of.Statement.{statement}
 use Rattle.outcome.proofs.result_of.Tie as tie
@@ -14,16 +14,16 @@ enum-told-2 : tie.Need-enum-told-2
 enum-told-2 c = search needs
 
 returns : tie.Need-returns
-unfolding resultOf
-returns c = sym (ap resultOf (c .before .answer .given .1))
+unfolding bchResult
+returns c = sym (ap bchResult (c .before .answer .given .1))
 
 returns-2 : tie.Need-returns-2
-unfolding resultOf lost
-returns-2 c = sym (ap resultOf (c .enum-told .given .1))
+unfolding bchResult lost
+returns-2 c = sym (ap bchResult (c .enum-told .given .1))
 
 returns-3 : tie.Need-returns-3
-unfolding resultOf lost
-returns-3 c = sym (ap resultOf (c .enum-told2 .given .1))
+unfolding bchResult lost
+returns-3 c = sym (ap bchResult (c .enum-told2 .given .1))
 
 pub result-of-spec : {M : Type 1} → statement M
 result-of-spec =

@@ -4,7 +4,7 @@ use mathlib.Core.Path.{_≡_, sym}
 use mathlib.Core.Bool.{true, false}
 use Prim.Native.Nat.{_-_, _≤_}
 use Rattle.ldpc_shape.specs.Shape.{pOf}
-use Rattle.outcome.specs.Code.{codeOf}
+use Rattle.fixed_code.specs.Code.{codeOf}
 use Rattle.outcome.specs.Outcome.{begin, unmetOf}
 use Rattle.outcome.specs.Index.{odd-is, listed}
 use Rattle.outcome.specs.Scan.{met-start, met-again, met-end, met-not}

@@ -5,7 +5,7 @@ use Rattle.ldpc_shape.specs.Accepted.{accepted, p-le}
 use mathlib.Core.Bool.{true, false}
 use Prim.Native.Nat.{_-_, _≤_}
 use Rattle.ldpc_shape.specs.Shape.{pOf}
-use Rattle.outcome.specs.Code.{codeOf}
+use Rattle.fixed_code.specs.Code.{codeOf}
 use Rattle.outcome.specs.Outcome.{begin}
 use Rattle.outcome.specs.Index.{odd-is, listed}
 use Rattle.outcome.specs.Scan.{Counted, counted-start, counted-more, counted-same, counted-end, counted-le, named-le}

@@ -3,7 +3,7 @@ use mathlib.Core.List.{List}
 use mathlib.Core.Path.{sym, ap, _∙_, subst}
 use Prim.Native.Nat.{ℕ}
 use borrow.Author.Needs.{needs}
-use Rattle.outcome.specs.Outcome.{lost, resultOf}
+use Rattle.outcome.specs.Outcome.{lost, bchResult}
 use Rattle.bch.specs.declared.Decoded.{Decoded}
 use Rattle.bch.specs.Answers.{decodedOf, Decodes}
 use Rattle.raxdov.specs.Numbers.{decodedNumber, resultInto}
@@ -29,7 +29,7 @@ same-length : tie.Need-same-length
 same-length c = search needs
 
 returns : tie.Need-returns
-unfolding resultOf
+unfolding bchResult
 returns c =
     let d = c .before .before .before .before .before .decode .ensures in
     let e = sym (c .before .answer .given .1) ∙ d .answer in
@@ -39,7 +39,7 @@ same-length-2 : tie.Need-same-length-2
 same-length-2 c = search needs
 
 returns-2 : tie.Need-returns-2
-unfolding resultOf lost
+unfolding bchResult lost
 returns-2 c =
     let d = c .before .before .before .before .decode .ensures in
     let e = sym (c .enum-told .given .1) ∙ d .answer in
