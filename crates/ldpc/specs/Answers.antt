@@ -1,7 +1,9 @@
 -- What the entry points answer, and what they leave in the lent slices: the first refusal that applies, and then nothing is changed.
+use mathlib.Core.Path.{_≡_, sym, ap, _∙_}
 use mathlib.Core.Bool.{cond}
 use mathlib.Core.List.{List, _++_}
 use Prim.Native.Nat.{ℕ, suc, _+_}
+use borrow.Author.Tests.{eq-eqb, ne-eqb}
 use lib.Dec.{eqb, ltb, leb}
 use lib.ListN.{length, drop}
 use Rattle.ldpc_shape.specs.Shape.{kOf, pOf, qOf, eOf, refusalOf}
@@ -30,6 +32,14 @@ writtenNumber written.Done = 0
 -- a if it is a refusal, else b
 unfoldable pub orElse : ℕ → ℕ → ℕ
 orElse a b = cond (eqb a 0) b a
+
+pub or-first : (a b r : ℕ) → r ≡ a → (r ≡ 0 → ⊥) → r ≡ orElse a b
+unfolding orElse
+or-first a b r e ne = e ∙ sym (ap (λ t. cond t b a) (ne-eqb a 0 (λ f. ne (e ∙ f))))
+
+pub or-next : (a b r : ℕ) → a ≡ 0 → r ≡ b → r ≡ orElse a b
+unfolding orElse
+or-next a b r e f = f ∙ sym (ap (λ t. cond t b a) (eq-eqb a 0 e))
 
 -- "a lent output or work slice is too short": `needed` of `size` numbers
 unfoldable pub shortOf : ℕ → ℕ → ℕ

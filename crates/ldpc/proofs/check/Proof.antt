@@ -1,5 +1,6 @@
 -- `ldpc::check` meets its contract. Assumes nothing.
-use Rattle.ldpc.proofs.Exits.{fits, check-refused, check-beyond, check-below, check-small, check-short, check-done}
+use Rattle.ldpc_shape.specs.Worked.{fits}
+use Rattle.ldpc.proofs.Exits.{check-refused, check-beyond, check-below, check-small, check-short, check-done}
 use lib.ListN.{length}
 use Prim.Native.Nat.{ℕ, _≤_}
 use mathlib.Core.Path.{_≡_, refl, sym, ap, _∙_, subst}

@@ -1,5 +1,6 @@
 -- `ldpc::encode` meets its contract. Assumes nothing.
-use Rattle.ldpc.proofs.Exits.{fits, encode-refused, encode-other, encode-short, encode-ready, encode-done}
+use Rattle.ldpc_shape.specs.Worked.{fits}
+use Rattle.ldpc.proofs.Exits.{encode-refused, encode-other, encode-short, encode-ready, encode-done}
 use lib.Seq.{length-take-le}
 use mathlib.Core.Path.{_≡_, refl, sym, ap, _∙_}
 use native.Mathlib.Omega.{arith}

@@ -1,5 +1,6 @@
 -- `ldpc::new` meets its contract. Assumes nothing.
-use Rattle.ldpc.proofs.Exits.{fits, new-refused, new-short, new-ready, new-done}
+use Rattle.ldpc_shape.specs.Worked.{fits}
+use Rattle.ldpc.proofs.Exits.{new-refused, new-short, new-ready, new-done}
 use lib.Seq.{length-take-le}
 use mathlib.Core.Path.{_≡_, refl, sym, ap, _∙_}
 use native.Mathlib.Omega.{arith}

@@ -1,5 +1,6 @@
 -- `ldpc::parity` meets its contract. Assumes nothing.
-use Rattle.ldpc.proofs.Exits.{fits, parity-refused, parity-other, parity-short, parity-ready, parity-done}
+use Rattle.ldpc_shape.specs.Worked.{fits}
+use Rattle.ldpc.proofs.Exits.{parity-refused, parity-other, parity-short, parity-ready, parity-done}
 use lib.Seq.{length-take-le}
 use Prim.Native.Nat.{ℕ, _-_}
 use mathlib.Core.Path.{_≡_, refl, sym, ap, _∙_}
