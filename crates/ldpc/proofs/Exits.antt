@@ -23,6 +23,10 @@ use Rattle.ldpc.specs.declared.Counted.the-variants as counted
 use Rattle.ldpc.specs.declared.Written.the-variants as written
 use Rattle.ldpc.specs.Answers.{orElse, shortOf, otherOf, beyondOf, inFront, newRefusal, checkRefusal, parityRefusal, encodeRefusal, weightRefusal, newAnswer, checkAnswer, parityAnswer, encodeAnswer, weightAnswer, newInto, checkInto, parityInto, encodeInto, or-first, or-next}
 
+-- ---- an answer with its number
+pub with-number : {A X : Type 0} (number : A → ℕ) {a b : A} {f : ℕ} → number b ≡ f → (a ≡ b) × X → ((a ≡ b) × X) × (number a ≡ f)
+with-number number e h = (h, ap number (h .0) ∙ e)
+
 -- ---- which number it is
 short : (needed size : ℕ) → size < needed → 13 ≡ shortOf needed size
 unfolding shortOf

@@ -1,38 +1,18 @@
--- Each answer as numbers: the one that is returned (0, or the refusal's), and those that are written (as they were where the call is refused).
--- `ldpc` has its own for its answers.
+-- The numbers that are written for each answer, as they were where the call is refused. The number that is returned, 0 or the refusal's, stands
+-- beside each answer (`quantise`, `ldpc`, `bch`).
 use mathlib.Core.Bool.{cond}
 use mathlib.Core.List.{List, [], _∷_}
 use Prim.Native.Nat.{ℕ, suc, _+_}
 use lib.Dec.{eqb}
 use Rattle.ldpc_shape.specs.Shape.{kOf, pOf, qOf, eOf, refusalOf}
-use Rattle.quantise.specs.declared.Quantised.{Quantised}
-use Rattle.quantise.specs.declared.Quantised.the-variants as quantised
 use Rattle.ldpc.specs.declared.Made.{Made}
 use Rattle.ldpc.specs.declared.Made.the-variants as made
 use Rattle.ldpc.specs.declared.Counted.{Counted}
 use Rattle.ldpc.specs.declared.Counted.the-variants as counted
-use Rattle.bch.specs.declared.Encoded.{Encoded}
-use Rattle.bch.specs.declared.Encoded.the-variants as encoded
 use Rattle.bch.specs.declared.Decoded.{Decoded}
 use Rattle.bch.specs.declared.Decoded.the-variants as decoded
 use Rattle.outcome.specs.Outcome.{resultOf}
 
--- ---- returned
-abbrev pub quantisedNumber : Quantised → ℕ
-quantisedNumber quantised.Done = 0
-quantisedNumber (quantised.Refused r) = r
-
-abbrev pub encodedNumber : Encoded → ℕ
-encodedNumber encoded.Done = 0
-encodedNumber (encoded.Refused r) = r
-
--- "lost" and "uncorrectable" are answers and no refusals
-abbrev pub decodedNumber : Decoded → ℕ
-decodedNumber (decoded.Corrected m) = 0
-decodedNumber decoded.Uncorrectable = 0
-decodedNumber (decoded.Refused r) = r
-
--- ---- written
 -- k, P, q, E
 abbrev pub numbersInto : Made → List ℕ → List ℕ
 numbersInto (made.Refused r) code = code
