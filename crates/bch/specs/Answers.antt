@@ -27,6 +27,12 @@ unfoldable pub messageRefusal : ℕ → ℕ → ℕ → ℕ
 messageRefusal k need out = ite (decLt 65343 k) 11 (ite (decLt out need) 13 0)
 
 -- ---- parity, encode
+-- the scope's number of each answer, 0 where nothing is refused
+abbrev pub encodedNumber : Encoded → ℕ
+encodedNumber encode.Done = 0
+encodedNumber (encode.Refused f) = f
+
+-- and the answer to each number
 unfoldable pub encodedOf : ℕ → Encoded
 encodedOf f = ite (ℕ-discrete f 0) encode.Done (encode.Refused f)
 
@@ -43,6 +49,12 @@ unfoldable pub encodeOut : List ℕ → List ℕ → List ℕ
 encodeOut m out = outIf (messageRefusal (length m) (length m + 192) (length out)) (m ++ (parityBits (parityOf m) ++ drop (length m + 192) out)) out
 
 -- ---- decode
+-- the scope's number of each answer: "lost" and "uncorrectable" are answers and no refusals
+abbrev pub decodedNumber : Decoded → ℕ
+decodedNumber (decode.Corrected m) = 0
+decodedNumber decode.Uncorrectable = 0
+decodedNumber (decode.Refused f) = f
+
 unfoldable pub decodedOf : List ℕ → Decoded
 decodedOf w = ite (ℕ-discrete (wordRefusal (length w)) 0) (answerOf w) (decode.Refused (wordRefusal (length w)))
 
@@ -57,6 +69,7 @@ pub record Located (w w′ : List ℕ) (r : Decoded) : Type 0 where
 -- what `decode` promises of the word w, which w′ is left of, and the answer r
 pub record Decodes (w w′ : List ℕ) (r : Decoded) : Type 0 where
   pub answer : r ≡ decodedOf w
+  pub number : decodedNumber r ≡ wordRefusal (length w)
   pub word : w′ ≡ wordOut w
   pub exact : wordRefusal (length w) ≡ 0 → Exact w w′ r
 

@@ -14,12 +14,10 @@ use Rattle.algebra.specs.Errors.{weight-ext}
 use Rattle.algebra.specs.Corrects.{Found, corrected, binary}
 use Rattle.algebra.specs.GfField.{El}
 use Rattle.gf16.specs.Field16.{gf16}
-use Rattle.gf16.specs.Alpha.{R16, α, α-nz, α-distinct}
+use Rattle.gf16.specs.Alpha.{R16, α, α-nz, α-apart}
 use Rattle.gf16.specs.Roots16.{vanishing-multiple}
-use Rattle.bch_remainder.specs.Word.{number, remainderOf}
-use Rattle.bch_remainder.specs.Laws.{number-lt}
-use Rattle.bch_remainder.specs.Word.{Codeword}
-use Rattle.bch_remainder.specs.Laws.{remainder-codeword}
+use Rattle.bch_remainder.specs.Word.{number, remainderOf, Codeword}
+use Rattle.bch_remainder.specs.Laws.{number-lt, remainder-codeword}
 use Rattle.bch.specs.Distance.{distance}
 use Rattle.bch_locator.specs.Places.{valueAt}
 use Rattle.bch.specs.Decode.{syndrome, flipped, flips}
@@ -40,7 +38,7 @@ zero-syndromes-codeword w z = remainder-codeword w (vanishing-multiple (length w
 module _ (w : List ℕ) (size : length w ≤ 65535) (c : ℕ → El 15) (l : ℕ) (S : Shortest R16 (syndrome w) 24 c l) (short : l ≤ 12)
     (full : flips c l (length w) ≡ l) where
   distinct : Distinct (length w) (pow R16 α)
-  distinct i j h h′ = α-distinct i j h (omega arith)
+  distinct = α-apart size
 
   told : (ε : ℕ → El 15) × Found gf16 (length w) (pow R16 α) 1 24 (syndrome w) c l ε
   unfolding flips

@@ -11,7 +11,7 @@ use Rattle.algebra.specs.Massey.{Shortest}
 use Rattle.algebra.specs.Errors.{weight, weight-none, weight-same, weight-mono, min-distance}
 use Rattle.algebra.specs.GfField.{El}
 use Rattle.gf16.specs.Field16.{gf16}
-use Rattle.gf16.specs.Alpha.{R16, α, α-nz, α-distinct}
+use Rattle.gf16.specs.Alpha.{R16, α, α-nz, α-apart}
 use Rattle.bch_remainder.specs.Word.{remainderOf, Codeword}
 use Rattle.bch_remainder.specs.Laws.{remainder-codeword, codeword-remainder}
 use Rattle.bch.specs.Distance.{distance, lowBits, highBits}
@@ -149,7 +149,7 @@ minimum-distance u v C D e size near =
   where
     zero-at : (p : ℕ) → p < length u → difference u v p ≡ R16 .𝟘
     zero-at =
-        min-distance gf16 (length u) (pow R16 α) (λ p _. α-nz p) (λ i j h h′. α-distinct i j h (omega arith)) 1 24 (difference u v) (omega (arith, weight-distance u v e))
+        min-distance gf16 (length u) (pow R16 α) (λ p _. α-nz p) (α-apart (omega arith)) 1 24 (difference u v) (omega (arith, weight-distance u v e))
         (λ j h. sym (syndrome-difference u v j e D h) ∙ codeword-syndrome u j C h)
 
     none : weight gf16 (length u) (difference u v) ≡ 0

@@ -13,7 +13,7 @@ use Rattle.algebra.specs.Errors.{weight, Syndromes}
 use Rattle.algebra.specs.Corrects.{Found, found, found-count}
 use Rattle.algebra.specs.GfField.{El}
 use Rattle.gf16.specs.Field16.{gf16}
-use Rattle.gf16.specs.Alpha.{R16, α, α-nz, α-distinct}
+use Rattle.gf16.specs.Alpha.{R16, α, α-nz, α-apart}
 use Rattle.bch_remainder.specs.Word.{Codeword}
 use Rattle.bch.specs.Distance.{distance, lowBits}
 use Rattle.bch_locator.specs.Places.{valueAt}
@@ -32,7 +32,7 @@ module _ (w v : List ℕ) (size : length w ≤ 65535) (same : length v ≡ lengt
   syndromes j h = syndrome-difference w v j same code h
 
   distinct : Distinct (length w) (pow R16 α)
-  distinct i j h h′ = α-distinct i j h (omega arith)
+  distinct = α-apart size
 
   light : weight gf16 (length w) ε ≡ distance w v
   unfolding ε

@@ -7,7 +7,7 @@ ghost use lib.ListN.{length, getD};
 ghost use Rattle.bch_table.specs.Step.{valueOf};
 ghost use Rattle.bch_remainder.specs.Word.{remainderOf};
 ghost use Rattle.bch.specs.Places.{flipAll};
-ghost use Rattle.bch.specs.Answers.{messageRefusal, encodedOf, parityOut, encodeOut, Located, Decodes};
+ghost use Rattle.bch.specs.Answers.{messageRefusal, encodedNumber, encodedOf, parityOut, encodeOut, Located, Decodes};
 use bch_table::Reg;
 
 // What `parity` and `encode` answer.
@@ -32,6 +32,7 @@ pub enum Decoded {
 pub fn parity(message: &[u8], out: &mut [u8]) -> Encoded
     ensures answer { λ r. ⌜ r ≡ encodedOf (messageRefusal (length (now (message .entry))) 192 (length (now (out .entry)))) ⌝ }
     ensures output { λ r. ⌜ now (out .exit) ≡ parityOut (now (message .entry)) (now (out .entry)) ⌝ }
+    ensures number { λ r. ⌜ encodedNumber r ≡ messageRefusal (length (now (message .entry))) 192 (length (now (out .entry))) ⌝ }
 {
     if 65343 < message.len() {
         return Encoded::Refused(11);
@@ -48,6 +49,7 @@ pub fn parity(message: &[u8], out: &mut [u8]) -> Encoded
 pub fn encode(message: &[u8], out: &mut [u8]) -> Encoded
     ensures answer { λ r. ⌜ r ≡ encodedOf (messageRefusal (length (now (message .entry))) (length (now (message .entry)) + 192) (length (now (out .entry)))) ⌝ }
     ensures output { λ r. ⌜ now (out .exit) ≡ encodeOut (now (message .entry)) (now (out .entry)) ⌝ }
+    ensures number { λ r. ⌜ encodedNumber r ≡ messageRefusal (length (now (message .entry))) (length (now (message .entry)) + 192) (length (now (out .entry))) ⌝ }
 {
     let k = message.len();
     if 65343 < k {

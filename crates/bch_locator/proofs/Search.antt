@@ -20,7 +20,7 @@ use Rattle.algebra.specs.Places.{zeros, zeros-none, zeros-more, zeros-same}
 use Rattle.algebra.specs.Corrects.{roots-fit}
 use Rattle.algebra.specs.GfField.{El}
 use Rattle.gf16.specs.Field16.{gf16}
-use Rattle.gf16.specs.Alpha.{R16, α, α-nz, α-distinct}
+use Rattle.gf16.specs.Alpha.{R16, α, α-nz, α-apart}
 use Rattle.bch_locator.specs.Element.{toEl, toEl-inj, toEl-xor, toEl-zero, toEl-one, poly}
 use Rattle.bch_locator.specs.Lanes.{Lanes, Products, PowersOf}
 use Rattle.bch_locator.specs.Places.{valueAt, Places-of, Reversed}
@@ -195,7 +195,7 @@ places-miss at count c l p D ne =
 pub count-fits : (at : List ℕ) (count : ℕ) (c : List ℕ) (l p : ℕ) → p < 65535 → poly c 0 ≡ R16 .𝟙 → Places-of at count c l p → valueAt (poly c) l p ≡ R16 .𝟘 → count < l
 count-fits at count c l p h head D z =
     let m = zeros-more gf16 p (valueAt (poly c) l) z in
-    let f = roots-fit gf16 (suc p) (pow R16 α) (λ q _. α-nz q) (λ i j a b. α-distinct i j a (omega arith)) (poly c) l head in
+    let f = roots-fit gf16 (suc p) (pow R16 α) (λ q _. α-nz q) (α-apart (omega arith)) (poly c) l head in
     omega (arith, m, f, D .many)
 
 pub places-hit : (at : List ℕ) (count : ℕ) (c : List ℕ) (l p : ℕ) → l ≤ 12 → p < 65535 → poly c 0 ≡ R16 .𝟙 → Places-of at count c l p

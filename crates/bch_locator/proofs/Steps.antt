@@ -67,9 +67,6 @@ pub record State (s c b : List ℕ) (l m e k : ℕ) : Type 0 where
   pub inv : Inv gf16 (poly s) k l (k + 1 - (l + m)) m (poly c) (poly b) (toEl e)
 
 module _ (s c b : List ℕ) (l m e k : ℕ) (S : State s c b l m e k) where
-  lb : ℕ
-  lb = k + 1 - (l + m)
-
   conv-is : (d : ℕ) → toEl d ≡ total c s k (l + 1) → toEl d ≡ conv R16 (poly c) (poly s) k
   unfolding total term
   conv-is d e′ = e′ ∙ ap (λ (n : ℕ). sum R16 n (term c s k)) (add-one l) ∙ discrepancy gf16 (poly s) k l (k + 1 - (l + m)) m (poly c) (poly b) (toEl e) (S .inv)

@@ -3,18 +3,18 @@
 use mathlib.Core.Path.{_≡_, refl, sym, ap, ap₂, _∙_, subst}
 use mathlib.Core.List.{List, _∷_, _++_, append-nil}
 use Prim.Native.Nat.{ℕ, zero, suc, _+_, _-_, _*_, _/_, _%_, _^_, _≤_, _<_}
-use native.Mathlib.Nat.{le-of-eq, zero-div, not-suc-le-zero, mod-lt, zero-add, add-mod, mul-comm, two-mul, mul-mod-left, mul-div-cancel, div-one, zero-mul, one-mul, lt-of-lt-of-le}
+use native.Mathlib.Nat.{le-of-eq, zero-div, not-suc-le-zero, zero-add, add-mod, mul-comm, two-mul, mul-mod-left, mul-div-cancel, div-one, zero-mul, one-mul, lt-of-lt-of-le}
 use native.Mathlib.Numerals.{add-one}
 use native.Mathlib.Omega.{arith}
 use lib.Arith.{le-zero}
-use lib.Bits.{bitXor, bitAnd, and-mask, and-comm}
+use lib.Bits.{bitXor, bitAnd, and-comm}
 use lib.ListN.{length, getD, replicate, drop, set, length-drop, drop-of-length-le}
 use lib.Seq.{paste, paste-suc, paste-zero, take-all, drop-cons}
 use lib.Pow.{pow-mono, shr-shr}
 use Rattle.laws.specs.Xor.{_⊕_, ⊕-mod, ⊕-div, ⊕-odd, two-cases, two-pos}
 use Rattle.laws.specs.Poly.{clmul, deeper}
 use Rattle.bch_table.specs.Generator.{masks, product, generator, digitsOf, polyOf}
-use Rattle.bch_table.specs.Digits.{length-digits, digit-at, poly-digit, poly-digits, poly-of-digits, digits-mod-pow, zero-digits, product-lt}
+use Rattle.bch_table.specs.Digits.{length-digits, digit-at, poly-digit, poly-digits, poly-of-digits, digits-mod-pow, zero-digits, product-lt, low-bit}
 
 -- ---- next_digit: after i turns the sum's first i digits are written, and what comes into digit i from below is kept
 abbrev pub sum : ℕ → List ℕ → List ℕ → ℕ
@@ -25,9 +25,6 @@ pub record Summed (t : ℕ) (a g out₀ out : List ℕ) (below i : ℕ) : Type 0
   pub long : length out₀ ≡ 193
   pub done : out ≡ paste out₀ 0 (digitsOf 193 (sum t g a)) i
   pub carried : below ≡ polyOf a * 2 / 2 ^ i % 2
-
-pub low-bit : (x : ℕ) → bitAnd x 1 ≡ x % 2
-low-bit x = and-mask x 1
 
 digit-times : (t : ℕ) → t < 2 → (g : List ℕ) (i : ℕ) → t * polyOf g / 2 ^ i % 2 ≡ bitAnd t (getD g i 0)
 digit-times t ht g i =
@@ -118,9 +115,6 @@ horner-next mask g (suc j) p h =
 
     below : mask / 2 ^ j / 2 ≡ mask / 2 ^ suc j
     below = shr-shr mask j 1 ∙ ap (λ (k : ℕ). mask / 2 ^ k) (add-one j)
-
-pub bit-lt : (x : ℕ) → bitAnd x 1 < 2
-bit-lt x = subst (λ (n : ℕ). n < 2) (sym (low-bit x)) (mod-lt x two-pos)
 
 pub times-long : (mask : ℕ) (g out : List ℕ) (j : ℕ) → Multiplied mask g out j → length out ≡ 193
 times-long mask g out j s = ap length (s .done) ∙ length-digits 193 (horner mask g j)

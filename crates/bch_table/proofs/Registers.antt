@@ -15,7 +15,7 @@ use lib.Pow.{pow-mono, pow-lt, shl-lt}
 use Rattle.laws.specs.Xor.{_⊕_, two-pos}
 use Rattle.laws.specs.Poly.{rem, into, shifted, rem-zero, rem-add, rem-digits, ⊕-join, ⊕-shift}
 use Rattle.bch_table.specs.Generator.{generator, generator-is}
-use Rattle.bch_table.specs.Table.{timesPower, wordOf, byteTable, table-length, table-at}
+use Rattle.bch_table.specs.Table.{timesPower, wordOf, byteTable, table-length, table-at, after-three}
 use Rattle.bch_table.proofs.Entries.{table}
 
 -- a list, and after it the same with r added to each
@@ -139,10 +139,7 @@ words-at (r ∷ rs) zero zero h hw = refl
 words-at (r ∷ rs) zero (suc zero) h hw = refl
 words-at (r ∷ rs) zero (suc (suc zero)) h hw = refl
 words-at (r ∷ rs) zero (suc (suc (suc w))) h hw = absurd (not-suc-le-zero (le-of-suc-le-suc (le-of-suc-le-suc (le-of-suc-le-suc hw))))
-words-at (r ∷ rs) (suc t) w h hw = ap (λ (n : ℕ). getD (words (r ∷ rs)) n 0) next ∙ words-at rs t w (le-of-suc-le-suc h) hw
-  where
-    next : suc t * 3 + w ≡ suc (suc (suc (t * 3 + w)))
-    next = omega arith
+words-at (r ∷ rs) (suc t) w h hw = ap (λ (n : ℕ). getD (words (r ∷ rs)) n 0) (after-three t w) ∙ words-at rs t w (le-of-suc-le-suc h) hw
 
 entry : (t w : ℕ) → t < 256 → w < 3 → getD table (t * 3 + w) 0 ≡ wordOf w (timesPower 192 t)
 entry t w ht hw =

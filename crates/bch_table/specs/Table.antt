@@ -40,6 +40,10 @@ pub table-length : length byteTable ≡ 768
 unfolding byteTable
 table-length = length-from 192 0 256
 
+-- word w of the register after that of t
+pub after-three : (t w : ℕ) → suc t * 3 + w ≡ suc (suc (suc (t * 3 + w)))
+after-three t w = omega arith
+
 at-from : (e t₀ n t w : ℕ) → t < n → w < 3 → getD (tableFrom e t₀ n) (t * 3 + w) 0 ≡ wordOf w (timesPower e (t₀ + t))
 unfolding tableFrom
 at-from e t₀ zero t w h hw = absurd (not-suc-le-zero h)
@@ -48,11 +52,8 @@ at-from e t₀ (suc n) zero (suc zero) h hw = ap (λ (t : ℕ). wordOf 1 (timesP
 at-from e t₀ (suc n) zero (suc (suc zero)) h hw = ap (λ (t : ℕ). wordOf 2 (timesPower e t)) (sym (add-zero t₀))
 at-from e t₀ (suc n) zero (suc (suc (suc w))) h hw = absurd (not-suc-le-zero (le-of-suc-le-suc (le-of-suc-le-suc (le-of-suc-le-suc hw))))
 at-from e t₀ (suc n) (suc t) w h hw =
-    ap (λ (m : ℕ). getD (tableFrom e t₀ (suc n)) m 0) next ∙ at-from e (suc t₀) n t w (le-of-suc-le-suc h) hw
+    ap (λ (m : ℕ). getD (tableFrom e t₀ (suc n)) m 0) (after-three t w) ∙ at-from e (suc t₀) n t w (le-of-suc-le-suc h) hw
     ∙ ap (λ (m : ℕ). wordOf w (timesPower e m)) (suc-add t₀ t ∙ sym (add-suc t₀ t))
-  where
-    next : suc t * 3 + w ≡ suc (suc (suc (t * 3 + w)))
-    next = omega arith
 
 pub table-at : (t w : ℕ) → t < 256 → w < 3 → getD byteTable (t * 3 + w) 0 ≡ wordOf w (timesPower 192 t)
 unfolding byteTable

@@ -2,7 +2,7 @@
 use mathlib.Core.Path.{_≡_, refl, sym, ap, _∙_, subst}
 use mathlib.Core.Logic.{_≢_}
 use mathlib.Core.Bool.{Bool}
-use Prim.Native.Nat.{ℕ, suc, _-_, _*_, _/_, _%_, _<_}
+use Prim.Native.Nat.{ℕ, suc, _-_, _*_, _/_, _%_, _≤_, _<_}
 use native.Mathlib.Omega.{arith}
 use lib.Dec.{T, eqb, eqb-refl, lit<}
 use Rattle.laws.specs.Xor.{_⊕_}
@@ -71,3 +71,7 @@ pub α-nz : (a : ℕ) → pow R16 α a ≢ R16 .𝟘
 
 pub α-distinct : Distinct 65535 (pow R16 α)
 α-distinct = power-distinct gf16 α 65535 α-full order16
+
+-- the powers of a word's positions
+pub α-apart : {n : ℕ} → n ≤ 65535 → Distinct n (pow R16 α)
+α-apart l i j h h′ = α-distinct i j h (omega arith)

@@ -4,34 +4,30 @@ use mathlib.Core.Bool.{Bool, true, false, cond}
 use mathlib.Core.List.{List, [], _∷_, _++_}
 use Prim.Native.Nat.{ℕ, zero, suc, _+_, _-_, _*_, _/_, _%_, _≤_, _<_}
 use native.Mathlib.Omega.{arith}
-use native.Mathlib.Nat.{mul-comm}
 use borrow.Author.Tests.{eq-eqb, ne-eqb, lt-ltb, le-ltb, le-leb, lt-leb}
 use lib.Dec.{eqb, ltb, leb}
 use lib.ListN.{length, take, drop}
 use lib.Seq.{length-take-le}
 use Rattle.ldpc_shape.specs.Shape.{kOf, pOf, qOf, eOf, refusalOf}
-use Rattle.ldpc_shape.specs.Accepted.{Accepted, accepted, p-pos, p-le, n-is, rows-le, addrs-le}
+use Rattle.ldpc_shape.specs.Accepted.{Accepted, accepted, p-pos, p-le}
+use Rattle.ldpc_shape.specs.Worked.{k-worked, p-worked, e-worked, lists-worked}
 use Rattle.ldpc_edges.specs.Code.{check, edgeLists, parity, encode, weight}
 use Rattle.ldpc_edges.specs.Degree.{degree-le}
 use Rattle.ldpc_edges.specs.Layout.{lists-length}
 use Rattle.ldpc_edges.specs.Encoder.{parity-length, encode-length}
 use Rattle.ldpc.specs.declared.Made.{Made}
-use Rattle.ldpc.specs.declared.Made.the-variants as made
 use Rattle.ldpc.specs.declared.Counted.{Counted}
-use Rattle.ldpc.specs.declared.Counted.the-variants as counted
 use Rattle.ldpc.specs.declared.Written.{Written}
+use Rattle.ldpc.specs.declared.Made.the-variants as made
+use Rattle.ldpc.specs.declared.Counted.the-variants as counted
 use Rattle.ldpc.specs.declared.Written.the-variants as written
-use Rattle.ldpc.specs.Answers.{orElse, shortOf, otherOf, beyondOf, inFront, newRefusal, checkRefusal, parityRefusal, encodeRefusal, weightRefusal, newAnswer, checkAnswer, parityAnswer, encodeAnswer, weightAnswer, newInto, checkInto, parityInto, encodeInto}
+use Rattle.ldpc.specs.Answers.{orElse, shortOf, otherOf, beyondOf, inFront, newRefusal, checkRefusal, parityRefusal, encodeRefusal, weightRefusal, newAnswer, checkAnswer, parityAnswer, encodeAnswer, weightAnswer, newInto, checkInto, parityInto, encodeInto, or-first, or-next}
+
+-- ---- an answer with its number
+pub with-number : {A X : Type 0} (number : A → ℕ) {a b : A} {f : ℕ} → number b ≡ f → (a ≡ b) × X → ((a ≡ b) × X) × (number a ≡ f)
+with-number number e h = (h, ap number (h .0) ∙ e)
 
 -- ---- which number it is
-or-first : (a b r : ℕ) → r ≡ a → (r ≡ 0 → ⊥) → r ≡ orElse a b
-unfolding orElse
-or-first a b r e ne = e ∙ sym (ap (λ t. cond t b a) (ne-eqb a 0 (λ f. ne (e ∙ f))))
-
-or-next : (a b r : ℕ) → a ≡ 0 → r ≡ b → r ≡ orElse a b
-unfolding orElse
-or-next a b r e f = f ∙ sym (ap (λ t. cond t b a) (eq-eqb a 0 e))
-
 short : (needed size : ℕ) → size < needed → 13 ≡ shortOf needed size
 unfolding shortOf
 short needed size h = sym (ap (λ t. cond t 13 0) (lt-ltb size needed h))
@@ -80,18 +76,6 @@ module _ (R : ℕ) (xs out : List ℕ) where
   puts e y s f g = ap₂ (λ (u : List ℕ) (v : ℕ). u ++ drop v out) f g ∙ sym (ap (λ t. cond t (xs ++ drop (length xs) out) out) (eq-eqb R 0 (sym e)))
 
 module _ (n : ℕ) (lens addrs : List ℕ) where
-  k-is : length lens * 374 ≡ kOf lens
-  unfolding kOf
-  k-is = mul-comm (length lens) 374
-
-  is-p : n - length lens * 374 ≡ pOf n lens
-  unfolding pOf
-  is-p = ap (λ (z : ℕ). n - z) k-is
-
-  -- the sizes that the code works out of an accepted code
-  pub fits : refusalOf n lens addrs ≡ 0 → (length lens ≤ 119) × (length addrs ≤ 15360) × (n ≤ 44880) × (length lens * 374 < n) × (kOf lens + pOf n lens ≡ n)
-  fits e = let A = accepted n lens addrs e in (rows-le n lens addrs A, addrs-le n lens addrs A, A .small, omega (arith, A .rows), n-is n lens addrs A)
-
   -- ---- new
   module _ (lists : List ℕ) where
     pub new-refused : (r : ℕ) → r ≡ refusalOf n lens addrs → (r ≡ 0 → ⊥)
@@ -102,12 +86,8 @@ module _ (n : ℕ) (lens addrs : List ℕ) where
         (says-no _ _ made.Refused r f ne, keeps _ _ lists r f ne)
 
     module _ (e : refusalOf n lens addrs ≡ 0) (size : ℕ) (s : size ≡ n - length lens * 374 + 1 + (length addrs * 374 + 2 * (n - length lens * 374) - 1)) where
-      e-is : length addrs * 374 + 2 * (n - length lens * 374) - 1 ≡ eOf n lens addrs
-      unfolding eOf
-      e-is = ap₂ (λ (y z : ℕ). y + 2 * z - 1) (mul-comm (length addrs) 374) is-p
-
       size-is : size ≡ suc (pOf n lens) + eOf n lens addrs
-      size-is = s ∙ ap₂ (λ (y z : ℕ). y + 1 + z) is-p e-is ∙ omega arith
+      size-is = s ∙ lists-worked n lens addrs
 
       pub new-short : length lists < size → (made.Refused 13 ≡ newAnswer n lens addrs (length lists)) × (lists ≡ newInto n lens addrs lists)
       unfolding newAnswer newRefusal newInto
@@ -122,8 +102,8 @@ module _ (n : ℕ) (lens addrs : List ℕ) where
           ≡ made.Code (kOf lens) (pOf n lens) (qOf n lens) (eOf n lens addrs)
       unfolding qOf
       made-is =
-          ap₂ (λ (y z : ℕ). made.Code y (n - length lens * 374) ((n - length lens * 374) / 374) z) k-is e-is
-          ∙ ap (λ (y : ℕ). made.Code (kOf lens) y (y / 374) (eOf n lens addrs)) is-p
+          ap₂ (λ (y z : ℕ). made.Code y (n - length lens * 374) ((n - length lens * 374) / 374) z) (k-worked lens) (e-worked n lens addrs)
+          ∙ ap (λ (y : ℕ). made.Code (kOf lens) y (y / 374) (eOf n lens addrs)) (p-worked n lens)
 
       pub new-done : size ≤ length lists → (y : List ℕ) → y ≡ edgeLists n lens addrs
           → (made.Code (length lens * 374) (n - length lens * 374) ((n - length lens * 374) / 374) (length addrs * 374 + 2 * (n - length lens * 374) - 1) ≡ newAnswer n lens addrs (length lists))
@@ -146,13 +126,13 @@ module _ (n : ℕ) (lens addrs : List ℕ) where
       pub check-beyond : n - length lens * 374 ≤ c → (counted.Refused 12 ≡ checkAnswer n lens addrs c (length out)) × (out ≡ checkInto n lens addrs c out)
       unfolding checkAnswer checkRefusal checkInto
       check-beyond h =
-          let g = beyond c (pOf n lens) (subst (λ (z : ℕ). z ≤ c) is-p h) in
+          let g = beyond c (pOf n lens) (subst (λ (z : ℕ). z ≤ c) (p-worked n lens) h) in
           let f = or-next (refusalOf n lens addrs) _ 12 e (or-first (beyondOf c (pOf n lens)) (shortOf (length (check n lens addrs c)) (length out)) 12 g twelve) in
           (says-no _ _ counted.Refused 12 f twelve, keeps _ _ out 12 f twelve)
 
       module _ (b : c < n - length lens * 374) where
         pub check-below : c < pOf n lens
-        check-below = subst (λ (z : ℕ). c < z) is-p b
+        check-below = subst (λ (z : ℕ). c < z) (p-worked n lens) b
 
         below-is : beyondOf c (pOf n lens) ≡ 0
         below-is = within c (pOf n lens) check-below

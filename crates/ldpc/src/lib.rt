@@ -2,7 +2,7 @@
 // A code is lent as n, the length of each row, and the rows' addresses one after the other. None of these has a requires.
 ghost use mathlib.Core.Path.{_≡_};
 ghost use lib.ListN.{length};
-ghost use Rattle.ldpc.specs.Answers.{newAnswer, newInto, checkAnswer, checkInto, parityAnswer, parityInto, encodeAnswer, encodeInto, weightAnswer};
+ghost use Rattle.ldpc.specs.Answers.{madeNumber, countedNumber, writtenNumber, newRefusal, checkRefusal, parityRefusal, encodeRefusal, weightRefusal, newAnswer, newInto, checkAnswer, checkInto, parityAnswer, parityInto, encodeAnswer, encodeInto, weightAnswer};
 
 // What `new` answers: a refusal's number, or the code's numbers.
 pub enum Made {
@@ -24,7 +24,8 @@ pub enum Written {
 
 // k, P, q and E; `lists` gets row_start (P + 1 numbers) and then rows (E bits).
 pub fn new(n: u32, lens: &[u32], addrs: &[u16], lists: &mut [u32]) -> Made
-    ensures { λ r. ⌜ (r ≡ newAnswer n (now (lens .entry)) (now (addrs .entry)) (length (now (lists .entry)))) × (now (lists .exit) ≡ newInto n (now (lens .entry)) (now (addrs .entry)) (now (lists .entry))) ⌝ }
+    ensures answer { λ r. ⌜ (r ≡ newAnswer n (now (lens .entry)) (now (addrs .entry)) (length (now (lists .entry)))) × (now (lists .exit) ≡ newInto n (now (lens .entry)) (now (addrs .entry)) (now (lists .entry))) ⌝ }
+    ensures number { λ r. ⌜ madeNumber r ≡ newRefusal n (now (lens .entry)) (now (addrs .entry)) (length (now (lists .entry))) ⌝ }
 {
     let r = ldpc_shape::refusal(n, lens, addrs);
     if r != 0 {
@@ -48,7 +49,8 @@ pub fn new(n: u32, lens: &[u32], addrs: &[u16], lists: &mut [u32]) -> Made
 
 // The bits of check c in order, in front of `out`, and how many they are.
 pub fn check(n: u32, lens: &[u32], addrs: &[u16], c: u32, out: &mut [u32]) -> Counted
-    ensures { λ r. ⌜ (r ≡ checkAnswer n (now (lens .entry)) (now (addrs .entry)) c (length (now (out .entry)))) × (now (out .exit) ≡ checkInto n (now (lens .entry)) (now (addrs .entry)) c (now (out .entry))) ⌝ }
+    ensures answer { λ r. ⌜ (r ≡ checkAnswer n (now (lens .entry)) (now (addrs .entry)) c (length (now (out .entry)))) × (now (out .exit) ≡ checkInto n (now (lens .entry)) (now (addrs .entry)) c (now (out .entry))) ⌝ }
+    ensures number { λ r. ⌜ countedNumber r ≡ checkRefusal n (now (lens .entry)) (now (addrs .entry)) c (length (now (out .entry))) ⌝ }
 {
     let r = ldpc_shape::refusal(n, lens, addrs);
     if r != 0 {
@@ -67,7 +69,8 @@ pub fn check(n: u32, lens: &[u32], addrs: &[u16], c: u32, out: &mut [u32]) -> Co
 
 // The P parity bits of the information, in front of `out`.
 pub fn parity(n: u32, lens: &[u32], addrs: &[u16], info: &[u8], out: &mut [u8]) -> Written
-    ensures { λ r. ⌜ (r ≡ parityAnswer n (now (lens .entry)) (now (addrs .entry)) (length (now (info .entry))) (length (now (out .entry)))) × (now (out .exit) ≡ parityInto n (now (lens .entry)) (now (addrs .entry)) (now (info .entry)) (now (out .entry))) ⌝ }
+    ensures answer { λ r. ⌜ (r ≡ parityAnswer n (now (lens .entry)) (now (addrs .entry)) (length (now (info .entry))) (length (now (out .entry)))) × (now (out .exit) ≡ parityInto n (now (lens .entry)) (now (addrs .entry)) (now (info .entry)) (now (out .entry))) ⌝ }
+    ensures number { λ r. ⌜ writtenNumber r ≡ parityRefusal n (now (lens .entry)) (now (addrs .entry)) (length (now (info .entry))) (length (now (out .entry))) ⌝ }
 {
     let r = ldpc_shape::refusal(n, lens, addrs);
     if r != 0 {
@@ -87,7 +90,8 @@ pub fn parity(n: u32, lens: &[u32], addrs: &[u16], info: &[u8], out: &mut [u8]) 
 
 // The information bytes and its parity bits, in front of `out`.
 pub fn encode(n: u32, lens: &[u32], addrs: &[u16], info: &[u8], out: &mut [u8]) -> Written
-    ensures { λ r. ⌜ (r ≡ encodeAnswer n (now (lens .entry)) (now (addrs .entry)) (length (now (info .entry))) (length (now (out .entry)))) × (now (out .exit) ≡ encodeInto n (now (lens .entry)) (now (addrs .entry)) (now (info .entry)) (now (out .entry))) ⌝ }
+    ensures answer { λ r. ⌜ (r ≡ encodeAnswer n (now (lens .entry)) (now (addrs .entry)) (length (now (info .entry))) (length (now (out .entry)))) × (now (out .exit) ≡ encodeInto n (now (lens .entry)) (now (addrs .entry)) (now (info .entry)) (now (out .entry))) ⌝ }
+    ensures number { λ r. ⌜ writtenNumber r ≡ encodeRefusal n (now (lens .entry)) (now (addrs .entry)) (length (now (info .entry))) (length (now (out .entry))) ⌝ }
 {
     let r = ldpc_shape::refusal(n, lens, addrs);
     if r != 0 {
@@ -106,7 +110,8 @@ pub fn encode(n: u32, lens: &[u32], addrs: &[u16], info: &[u8], out: &mut [u8]) 
 
 // The number of unsatisfied checks of the hard word.
 pub fn syndrome_weight(n: u32, lens: &[u32], addrs: &[u16], bits: &[u8]) -> Counted
-    ensures { λ r. ⌜ r ≡ weightAnswer n (now (lens .entry)) (now (addrs .entry)) (now (bits .entry)) ⌝ }
+    ensures answer { λ r. ⌜ r ≡ weightAnswer n (now (lens .entry)) (now (addrs .entry)) (now (bits .entry)) ⌝ }
+    ensures number { λ r. ⌜ countedNumber r ≡ weightRefusal n (now (lens .entry)) (now (addrs .entry)) (length (now (bits .entry))) ⌝ }
 {
     let r = ldpc_shape::refusal(n, lens, addrs);
     if r != 0 {

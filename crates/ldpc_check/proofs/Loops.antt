@@ -9,10 +9,12 @@ use native.Mathlib.Numerals.{add-one}
 use borrow.Author.Tests.{eq-eqb, ne-eqb, lt-ltb, le-ltb}
 use lib.Dec.{eqb, ltb}
 use lib.ListN.{length, take, drop, getD, set, length-append, length-take, length-drop, length-set, drop-of-length-le, take-append-drop}
-use lib.Seq.{drop-cons, drop-drop, drop-length, drop-set-lt, take-suc, take-suc-set, take-at, drop-at, take-all, take-append-le, drop-append-add, take-append-add, set-split, length-take-le}
+use lib.Seq.{drop-cons, drop-drop, drop-length, drop-set-lt, take-suc, take-suc-set, take-at, drop-at, take-append-le, drop-append-add, take-append-add, set-split, length-take-le}
 use Rattle.ldpc_shape.specs.Shape.{kOf, pOf, qOf, rowsOf, total, countMod, refusalOf}
-use Rattle.ldpc_shape.specs.Accepted.{Accepted, accepted, p-is, q-pos, q-le, rows-le, addrs-le, n-is}
+use Rattle.ldpc_shape.specs.Accepted.{Accepted, accepted, q-pos, q-le, rows-le, addrs-le, n-is}
+use Rattle.ldpc_shape.specs.Worked.{k-worked, q-beside, p-beside}
 use Rattle.ldpc_shape.specs.Counts.{Counted}
+use Rattle.ldpc_shape.specs.Lent.{lent-from, back-from}
 use Rattle.ldpc_edges.specs.Code.{Edge, ofBits, ofRows, meets, only, stairs, check}
 use Rattle.ldpc_edges.specs.Inside.{only-append}
 use Rattle.ldpc_edges.specs.Insert.{insert, insert-length, place, row-cons}
@@ -170,15 +172,10 @@ module _ (q c : ℕ) (lens addrs : List ℕ) (g from : ℕ) (h : g < length lens
 
 -- a list put in front of the part from n on
 module _ (out list ys : List ℕ) (n d : ℕ) (ed : d ≡ length list) (ey : ys ≡ list ++ drop d (take (length out - n) (drop n out))) (fit : n + d ≤ length out) where
-  whole : take (length out - n) (drop n out) ≡ drop n out
-  whole = take-all (length out - n) (drop n out) (omega (arith, length-drop n out))
-
   back : take n out ++ (ys ++ drop (length out - n) (drop n out)) ≡ (take n out ++ list) ++ drop (n + d) out
   back =
-      ap (λ (z : List ℕ). take n out ++ z)
-      (ap₂ (λ (y z : List ℕ). y ++ z) (ey ∙ ap (λ (z : List ℕ). list ++ drop d z) whole ∙ ap (λ (z : List ℕ). list ++ z) (drop-drop d n out))
-      (drop-of-length-le (drop n out) {i = length out - n} (omega (arith, length-drop n out)))
-      ∙ append-nil (list ++ drop (n + d) out))
+      back-from n out ys
+      ∙ ap (λ (z : List ℕ). take n out ++ z) (ey ∙ ap (λ (z : List ℕ). list ++ drop d z) (lent-from n out) ∙ ap (λ (z : List ℕ). list ++ z) (drop-drop d n out))
       ∙ sym (append-assoc (take n out) list (drop (n + d) out))
 
   front-length : length (take n out ++ list) ≡ n + d
@@ -252,20 +249,13 @@ module _ (n : ℕ) (lens addrs : List ℕ) (e : refusalOf n lens addrs ≡ 0) wh
   A : Accepted n lens addrs
   A = accepted n lens addrs e
 
-  is-q : n / 374 - length lens ≡ qOf n lens
-  unfolding qOf pOf kOf
-  is-q = omega (arith, A .whole)
-
-  is-p : pOf n lens ≡ 374 * (n / 374 - length lens)
-  is-p = p-is n lens addrs A ∙ ap (λ (z : ℕ). 374 * z) (sym is-q)
-
   pub sizes : (length lens ≤ 119) × (length lens ≤ n / 374) × (0 < n / 374 - length lens) × (n / 374 - length lens ≤ 120) × (length addrs ≤ 15360)
       × (total lens ≡ length addrs) × (n ≤ 44880) × (length lens * 374 ≤ n)
   sizes = (
     rows-le n lens addrs A,
     omega (arith, A .rows, A .whole),
-    omega (arith, is-q, q-pos n lens addrs A),
-    omega (arith, is-q, q-le n lens addrs A),
+    omega (arith, q-beside n lens (A .whole), q-pos n lens addrs A),
+    omega (arith, q-beside n lens (A .whole), q-le n lens addrs A),
     addrs-le n lens addrs A,
     A .adds,
     A .small,
@@ -273,7 +263,7 @@ module _ (n : ℕ) (lens addrs : List ℕ) (e : refusalOf n lens addrs ≡ 0) wh
   )
 
   pub c-inside : (c : ℕ) → c < pOf n lens → c < 374 * (n / 374 - length lens)
-  c-inside c h = subst (λ (z : ℕ). c < z) is-p h
+  c-inside c h = subst (λ (z : ℕ). c < z) (p-beside n lens addrs A) h
 
   pub sum-fits : (c : ℕ) → c < pOf n lens → length lens * 374 + c ≤ 44880
   unfolding pOf kOf
@@ -281,15 +271,11 @@ module _ (n : ℕ) (lens addrs : List ℕ) (e : refusalOf n lens addrs ≡ 0) wh
 
   all-is : (c : ℕ) → allOf (n / 374 - length lens) c lens addrs ≡ only c (meets n lens addrs)
   unfolding allOf meets
-  all-is c = ap₂ (λ (y z : ℕ). only c (ofRows y z 0 (rowsOf lens addrs))) (sym is-p) is-q
-
-  k-is : length lens * 374 ≡ kOf lens
-  unfolding kOf
-  k-is = omega arith
+  all-is c = ap₂ (λ (y z : ℕ). only c (ofRows y z 0 (rowsOf lens addrs))) (sym (p-beside n lens addrs A)) (q-beside n lens (A .whole))
 
   pub check-is : (c : ℕ) → check n lens addrs c ≡ allOf (n / 374 - length lens) c lens addrs ++ stairs (length lens * 374) c
   unfolding check
-  check-is c = ap₂ (λ (y : List ℕ) (z : ℕ). y ++ stairs z c) (sym (all-is c)) (sym k-is)
+  check-is c = ap₂ (λ (y : List ℕ) (z : ℕ). y ++ stairs z c) (sym (all-is c)) (sym (k-worked lens))
 
   -- how many bits, from the counts r
   pub degree-is : (r : List ℕ) → Counted r (n / 374 - length lens) addrs → (c : ℕ) → c < pOf n lens → (l m : ℕ) → l ≡ c % (n / 374 - length lens) → m ≡ getD r l 0
@@ -297,8 +283,8 @@ module _ (n : ℕ) (lens addrs : List ℕ) (e : refusalOf n lens addrs ≡ 0) wh
   degree-is r C c h l m el em =
       degree n lens addrs A c h
       ∙ ap (λ (z : ℕ). z + cond (eqb c 0) 1 2)
-      (ap (λ (z : ℕ). countMod z (c % z) addrs) (sym is-q)
-      ∙ sym (C (c % (n / 374 - length lens)) (mod-lt c (omega (arith, is-q, q-pos n lens addrs A)))) ∙ ap (λ (z : ℕ). getD r z 0) (sym el) ∙ sym em)
+      (ap (λ (z : ℕ). countMod z (c % z) addrs) (sym (q-beside n lens (A .whole)))
+      ∙ sym (C (c % (n / 374 - length lens)) (mod-lt c (omega (arith, q-beside n lens (A .whole), q-pos n lens addrs A)))) ∙ ap (λ (z : ℕ). getD r z 0) (sym el) ∙ sym em)
 
   check-length : (c : ℕ) → length (check n lens addrs c) ≡ length (allOf (n / 374 - length lens) c lens addrs) + length (stairs (length lens * 374) c)
   check-length c = ap length (check-is c) ∙ length-append (allOf (n / 374 - length lens) c lens addrs) (stairs (length lens * 374) c)

@@ -69,6 +69,10 @@ unfolding stairs
 stairs-length k zero = refl
 stairs-length k (suc c) = ap (λ b. cond b 1 2) (sym (ne-eqb (suc c) 0 (λ e. omega arith)))
 
+pub stairs-le : (first : Bool) → cond first 1 2 ≤ 2
+stairs-le true = omega arith
+stairs-le false = omega arith
+
 module _ (n : ℕ) (lens addrs : List ℕ) (A : Accepted n lens addrs) where
   pub met-by : (c : ℕ) → c < pOf n lens → length (only c (meets n lens addrs)) ≡ countMod (qOf n lens) (c % qOf n lens) addrs
   unfolding meets
@@ -83,8 +87,4 @@ module _ (n : ℕ) (lens addrs : List ℕ) (A : Accepted n lens addrs) where
       length-append (only c (meets n lens addrs)) (stairs (kOf lens) c) ∙ ap₂ (λ (x y : ℕ). x + y) (met-by c h) (stairs-length (kOf lens) c)
 
   pub degree-le : (c : ℕ) → c < pOf n lens → length (check n lens addrs c) ≤ 128
-  degree-le c h = omega (arith, degree c h, few n lens addrs A (c % qOf n lens) (mod-lt c (q-pos n lens addrs A)), two (eqb c 0))
-    where
-      two : (b : Bool) → cond b 1 2 ≤ 2
-      two true = omega arith
-      two false = omega arith
+  degree-le c h = omega (arith, degree c h, few n lens addrs A (c % qOf n lens) (mod-lt c (q-pos n lens addrs A)), stairs-le (eqb c 0))

@@ -3,6 +3,7 @@ use mathlib.Core.Path.{_≡_, refl, sym, ap, ap₂, _∙_, subst}
 use mathlib.Core.Bool.{Bool, true, false, cond}
 use mathlib.Core.List.{List, [], _∷_, _++_, append-nil}
 use Prim.Native.Nat.{ℕ, zero, suc, _+_, _%_, _≤_, _<_}
+use native.Mathlib.Nat.{zero-add}
 use native.Mathlib.Omega.{arith}
 use borrow.Author.Tests.{eqb-true, eqb-false}
 use lib.Bits.{bitXor}
@@ -132,10 +133,7 @@ module _ (n : ℕ) (lens addrs v : List ℕ) (some : 0 < pOf n lens) where
       flips-ones (kOf lens) c v w rest same (meets n lens addrs) (pOf n lens) (meets-inside n lens addrs some) (replicate (pOf n lens) 0)
       (subst (λ (z : ℕ). c < z) (sym (length-replicate _ 0)) h)
       ∙ ap (λ (z : ℕ). (z + ones w (only c (meets n lens addrs) ++ rest)) % 2) (getD-replicate _ c 0 0 h)
-      ∙ zero-first _
-    where
-      zero-first : (y : ℕ) → (0 + y) % 2 ≡ y % 2
-      zero-first y = omega arith
+      ∙ ap (λ (z : ℕ). z % 2) (zero-add (ones w (only c (meets n lens addrs) ++ rest)))
 
   -- what the parity starts from at check c: whether an odd number of its information bits is 1
   flipped-at : (c : ℕ) → c < pOf n lens → getD flipped c 0 ≡ ones v (only c (meets n lens addrs)) % 2

@@ -1,7 +1,7 @@
 -- Sums modulo 2: a row turned, the addresses of a row, all rows; the bits of the checks of one residue.
 use mathlib.Core.Path.{_≡_, refl, sym, ap, ap₂, _∙_, subst}
 use mathlib.Core.Bool.{Bool, true, false, cond}
-use mathlib.Core.List.{List, [], _∷_, _++_, append-nil}
+use mathlib.Core.List.{List, [], _∷_, _++_}
 use Prim.Native.Nat.{ℕ, zero, suc, _+_, _-_, _*_, _/_, _%_, _≤_, _<_}
 use native.Mathlib.Omega.{arith}
 use native.Mathlib.Nat.{mod-lt, mod-eq-of-lt, add-mul-div-right, add-mul-mod-self-right, div-eq-of-lt}
@@ -11,9 +11,10 @@ use borrow.Author.Tests.{eq-eqb, ne-eqb}
 use lib.Bits.{bitXor}
 use lib.Dec.{eqb}
 use lib.ListN.{length, take, drop, getD, set, length-take, length-drop, length-append, length-set, List·getD-append, drop-of-length-le}
-use lib.Seq.{drop-cons, drop-length, drop-drop, getD-take, getD-drop, getD-append-add, getD-set-same, getD-set-other, length-take-le, take-all}
+use lib.Seq.{drop-cons, drop-length, drop-drop, getD-take, getD-drop, getD-append-add, getD-set-same, getD-set-other, length-take-le}
 use Rattle.laws.specs.Modulo.{xor-parity}
 use Rattle.ldpc_edges.specs.Code.{ones}
+use Rattle.ldpc_shape.specs.Lent.{lent-from, back-from}
 use Rattle.ldpc_encode.specs.Sums.{xors, turnedBit, rowBit, infoBit, Added, Scattered, stairBit, unmetAt}
 use Rattle.ldpc_encode.proofs.Bytes.{xors-length, xors-at}
 
@@ -98,27 +99,18 @@ module _ (x w : List ℕ) (s : ℕ) (lx : length x ≡ 374) (lw : length w ≡ 3
 
   -- in the code's terms: u is what the first call leaves, v what the second does
   module _ (u : List ℕ) (e : u ≡ xors (take (length x - s) (drop s x)) (take (374 - s) w)) where
-    whole-x : take (length x - s) (drop s x) ≡ drop s x
-    whole-x = take-all (length x - s) (drop s x) (omega (arith, length-drop s x))
-
     high-is : take s x ++ (u ++ drop (length x - s) (drop s x)) ≡ high
     unfolding high
     high-is =
-        ap (λ (z : List ℕ). take s x ++ z)
-        (ap₂ (λ (y z : List ℕ). y ++ z) (e ∙ ap (λ (y : List ℕ). xors y (take (374 - s) w)) whole-x)
-        (drop-of-length-le (drop s x) {i = length x - s} (omega (arith, length-drop s x)))
-        ∙ append-nil (xors (drop s x) (take (374 - s) w)))
+        back-from s x u ∙ ap (λ (z : List ℕ). take s x ++ z) (e ∙ ap (λ (y : List ℕ). xors y (take (374 - s) w)) (lent-from s x))
 
     pub middle-length : length (take s x ++ (u ++ drop (length x - s) (drop s x))) ≡ 374
     middle-length = ap length high-is ∙ high-length
 
-    whole-w : take (length w - (374 - s)) (drop (374 - s) w) ≡ drop (374 - s) w
-    whole-w = take-all (length w - (374 - s)) (drop (374 - s) w) (omega (arith, length-drop (374 - s) w))
-
     pub second-fits : length (take s (take s x ++ (u ++ drop (length x - s) (drop s x)))) ≡ length (take (length w - (374 - s)) (drop (374 - s) w))
     second-fits =
         length-take-le s (take s x ++ (u ++ drop (length x - s) (drop s x))) (omega (arith, middle-length))
-        ∙ sym (ap length whole-w ∙ length-drop (374 - s) w ∙ omega arith)
+        ∙ sym (ap length (lent-from (374 - s) w) ∙ length-drop (374 - s) w ∙ omega arith)
 
     pub turned-done : (v : List ℕ)
         → v ≡ xors (take s (take s x ++ (u ++ drop (length x - s) (drop s x)))) (take (length w - (374 - s)) (drop (374 - s) w))
@@ -126,11 +118,11 @@ module _ (x w : List ℕ) (s : ℕ) (lx : length x ≡ 374) (lw : length w ≡ 3
     unfolding both
     turned-done v f =
         subst (λ (y : List ℕ). Added x y (turnedBit w s))
-        (sym (ap₂ (λ (y z : List ℕ). y ++ z) (f ∙ ap₂ (λ (y z : List ℕ). xors (take s y) z) high-is whole-w) (ap (drop s) high-is))) turned
+        (sym (ap₂ (λ (y z : List ℕ). y ++ z) (f ∙ ap₂ (λ (y z : List ℕ). xors (take s y) z) high-is (lent-from (374 - s) w)) (ap (drop s) high-is))) turned
 
   pub first-fits : length (take (length x - s) (drop s x)) ≡ length (take (374 - s) w)
   first-fits =
-      ap length (take-all (length x - s) (drop s x) (omega (arith, length-drop s x))) ∙ length-drop s x
+      ap length (lent-from s x) ∙ length-drop s x
       ∙ sym (length-take-le (374 - s) w (omega arith) ∙ omega arith)
 
 -- ---- what is left to add: the sums x and f come to the sums x₀ and g

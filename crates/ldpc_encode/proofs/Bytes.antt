@@ -5,8 +5,9 @@ use Prim.Native.Nat.{ℕ, zero, suc, _+_, _-_, _≤_, _<_}
 use native.Mathlib.Omega.{arith}
 use native.Mathlib.Numerals.{add-one}
 use lib.Bits.{bitXor}
-use lib.ListN.{length, take, drop, getD, set, length-take, length-drop, length-append, take-append-drop, drop-of-length-le}
+use lib.ListN.{length, take, drop, getD, set, length-take, length-drop, length-append, take-append-drop}
 use lib.Seq.{take-suc, take-suc-set, take-length, take-all, take-at, drop-cons, drop-drop, drop-length, drop-set-lt}
+use Rattle.ldpc_shape.specs.Lent.{back-from}
 use Rattle.ldpc_edges.specs.Code.{sums}
 use Rattle.ldpc_encode.specs.Sums.{xors}
 
@@ -81,6 +82,4 @@ rest-length w x₀ x h e =
 pub put-behind : (w x₀ x par : List ℕ) → length w ≤ length x₀ → x ≡ w ++ drop (length w) x₀
     → take (length w) x ++ (par ++ drop (length x - length w) (drop (length w) x)) ≡ w ++ par
 put-behind w x₀ x par h e =
-    ap₂ (λ (y z : List ℕ). y ++ (par ++ z)) (ap (take (length w)) e ∙ take-at w (drop (length w) x₀) (length w) refl)
-    (drop-of-length-le (drop (length w) x) {i = length x - length w} (omega (arith, length-drop (length w) x)))
-    ∙ ap (λ (z : List ℕ). w ++ z) (append-nil par)
+    back-from (length w) x par ∙ ap (λ (y : List ℕ). y ++ par) (ap (take (length w)) e ∙ take-at w (drop (length w) x₀) (length w) refl)

@@ -4,14 +4,16 @@ use mathlib.Core.Bool.{Bool, true, false, cond}
 use mathlib.Core.List.{List, [], _∷_, _++_}
 use Prim.Native.Nat.{ℕ, zero, suc, _+_, _-_, _*_, _/_, _%_, _≤_, _<_}
 use native.Mathlib.Omega.{arith}
-use native.Mathlib.Nat.{mod-lt, mul-lt-mul-of-pos-right, div-add-mod', div-lt-iff-lt-mul}
+use native.Mathlib.Nat.{mod-lt, mul-lt-mul-of-pos-right, div-add-mod', div-lt-iff-lt-mul, zero-add}
 use native.Mathlib.Numerals.{add-one}
 use native.Mathlib.Decide.{ℕ-discrete}
 use lib.ListN.{length, take, drop, getD, set, replicate, length-set, length-drop, getD-replicate}
-use lib.Seq.{getD-set-same, getD-set-other, getD-drop, take-all}
+use lib.Seq.{getD-set-same, getD-set-other, getD-drop}
 use Rattle.laws.specs.Modulo.{sumTo, sum-none, sum-more, sum-same, sum-grid}
 use Rattle.ldpc_shape.specs.Shape.{kOf, pOf, qOf, rowsOf, total, refusalOf}
 use Rattle.ldpc_shape.specs.Accepted.{Accepted, accepted, p-is, p-pos, p-le, n-is, q-pos, q-le, rows-le}
+use Rattle.ldpc_shape.specs.Worked.{q-beside}
+use Rattle.ldpc_shape.specs.Lent.{lent-from}
 use Rattle.ldpc_edges.specs.Code.{ofRows, meets, only, ones, stairs, check, sums, parity, unmet, unmets, weight}
 use Rattle.ldpc_edges.specs.Encoder.{parity-from}
 use Rattle.ldpc_encode.specs.Sums.{Added, infoBit, Scattered, stairBit, unmetAt}
@@ -90,10 +92,6 @@ module _ (n : ℕ) (lens addrs : List ℕ) (e : refusalOf n lens addrs ≡ 0) wh
   pub rows-fit : (length lens ≤ 119) × (length lens ≤ n / 374)
   rows-fit = (rows-le n lens addrs A, omega (arith, A .rows, A .whole))
 
-  is-q : n / 374 - length lens ≡ qOf n lens
-  unfolding qOf pOf kOf
-  is-q = omega (arith, A .whole)
-
   pub n-parts : kOf lens + pOf n lens ≡ n
   n-parts = n-is n lens addrs A
 
@@ -110,7 +108,7 @@ module _ (n : ℕ) (lens addrs : List ℕ) (e : refusalOf n lens addrs ≡ 0) wh
 
   module _ (s : ℕ) (sq : s ≡ n / 374 - length lens) where
     s-is : s ≡ qOf n lens
-    s-is = sq ∙ is-q
+    s-is = sq ∙ q-beside n lens (A .whole)
 
     pub s-fits : (s ≤ 120) × (pOf n lens ≡ 374 * s)
     s-fits = (omega (arith, s-is, q-le n lens addrs A), p-is n lens addrs A ∙ ap (λ (z : ℕ). 374 * z) (sym s-is))
@@ -118,7 +116,7 @@ module _ (n : ℕ) (lens addrs : List ℕ) (e : refusalOf n lens addrs ≡ 0) wh
     pub info-is : (w : List ℕ) (l i : ℕ) → infoBit (n / 374 - length lens) l w lens addrs i ≡ infoOnes n lens addrs w (l + i * s)
     unfolding infoBit infoOnes meets
     info-is w l i =
-        ap (λ (z : ℕ). ones w (only (l + i * z) (ofRows (374 * z) z 0 (rowsOf lens addrs)))) is-q
+        ap (λ (z : ℕ). ones w (only (l + i * z) (ofRows (374 * z) z 0 (rowsOf lens addrs)))) (q-beside n lens (A .whole))
         ∙ ap₂ (λ (y z : ℕ). ones w (only (l + i * y) (ofRows z (qOf n lens) 0 (rowsOf lens addrs)))) (sym s-is) (sym (p-is n lens addrs A))
 
     pub parity-done : (w out : List ℕ) → length out ≡ pOf n lens → (l : ℕ) → s ≤ l → Done s l out (infoOnes n lens addrs w) → sums 0 out ≡ parity n lens addrs w
@@ -129,7 +127,7 @@ module _ (n : ℕ) (lens addrs : List ℕ) (e : refusalOf n lens addrs ≡ 0) wh
 
     -- the parity part of a word, as it is lent
     part-is : (w : List ℕ) (k : ℕ) → k ≡ kOf lens → take (length w - k) (drop k w) ≡ drop (kOf lens) w
-    part-is w k f = take-all (length w - k) (drop k w) (omega (arith, length-drop k w)) ∙ ap (λ (z : ℕ). drop z w) f
+    part-is w k f = lent-from k w ∙ ap (λ (z : ℕ). drop z w) f
 
     pub parity-size : (w : List ℕ) → length w ≡ n → (k : ℕ) → k ≡ kOf lens → length (take (length w - k) (drop k w)) ≡ 374 * s
     parity-size w g k f = ap length (part-is w k f) ∙ length-drop (kOf lens) w ∙ omega (arith, n-is n lens addrs A, s-fits .1)
@@ -184,10 +182,7 @@ module _ (n : ℕ) (lens addrs : List ℕ) (e : refusalOf n lens addrs ≡ 0) wh
 
 -- ---- a fresh array of sums
 pub from-zeros : (x : List ℕ) (f : ℕ → ℕ) → Added (replicate 374 0) x f → (i : ℕ) → i < 374 → getD x i 0 % 2 ≡ f i % 2
-from-zeros x f a i h = a .sum i h ∙ ap (λ (z : ℕ). (z + f i) % 2) (getD-replicate 374 i 0 0 h) ∙ zero-first (f i)
-  where
-    zero-first : (y : ℕ) → (0 + y) % 2 ≡ y % 2
-    zero-first y = omega arith
+from-zeros x f a i h = a .sum i h ∙ ap (λ (z : ℕ). (z + f i) % 2) (getD-replicate 374 i 0 0 h) ∙ ap (λ (z : ℕ). z % 2) (zero-add (f i))
 
 pub scatter-end : (q l : ℕ) (x out out′ : List ℕ) (i : ℕ) → i ≡ 374 → Scattered i q l x out out′ → Scattered 374 q l x out out′
 scatter-end q l x out out′ i e S = subst (λ (z : ℕ). Scattered z q l x out out′) e S

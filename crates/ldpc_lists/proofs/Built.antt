@@ -12,6 +12,7 @@ use lib.Seq.{slice, getD-take, length-take-le, ext-getD, drop-drop}
 use Rattle.laws.specs.Lists.{drop-take}
 use Rattle.ldpc_shape.specs.Shape.{kOf, pOf, qOf, eOf, rowsOf, total, countMod, refusalOf}
 use Rattle.ldpc_shape.specs.Accepted.{Accepted, accepted, p-is, p-pos, p-le, n-is, q-pos, q-le, rows-le, addrs-le, few}
+use Rattle.ldpc_shape.specs.Worked.{k-worked, p-worked, q-worked}
 use Rattle.ldpc_shape.specs.Counts.{Counted}
 use Rattle.ldpc_edges.specs.Code.{Edge, ofRows, meets, only, stairs, check, startOf, starts, joined, rowStart, rows, edgeLists}
 use Rattle.ldpc_edges.specs.Degree.{degree}
@@ -125,30 +126,18 @@ module _ (n : ℕ) (lens addrs : List ℕ) (e : refusalOf n lens addrs ≡ 0) wh
   A : Accepted n lens addrs
   A = accepted n lens addrs e
 
-  k-is : length lens * 374 ≡ kOf lens
-  unfolding kOf
-  k-is = omega arith
-
   pub k-fits : length lens * 374 ≤ n × (n ≤ 44880)
   k-fits = (omega (arith, A .rows), A .small)
 
-  is-p : n - length lens * 374 ≡ pOf n lens
-  unfolding pOf
-  is-p = ap (λ (z : ℕ). n - z) k-is
-
-  is-q : (n - length lens * 374) / 374 ≡ qOf n lens
-  unfolding qOf
-  is-q = ap (λ (z : ℕ). z / 374) is-p
-
   pub counts-ready : (0 < (n - length lens * 374) / 374) × ((n - length lens * 374) / 374 ≤ 120) × (length addrs ≤ 15360)
-  counts-ready = (omega (arith, is-q, q-pos n lens addrs A), omega (arith, is-q, q-le n lens addrs A), addrs-le n lens addrs A)
+  counts-ready = (omega (arith, q-worked n lens, q-pos n lens addrs A), omega (arith, q-worked n lens, q-le n lens addrs A), addrs-le n lens addrs A)
 
   module _ (c s : ℕ) (cp : c ≡ n - length lens * 374) (sq : s ≡ (n - length lens * 374) / 374) where
     c-is : c ≡ pOf n lens
-    c-is = cp ∙ is-p
+    c-is = cp ∙ p-worked n lens
 
     s-is : s ≡ qOf n lens
-    s-is = sq ∙ is-q
+    s-is = sq ∙ q-worked n lens
 
     pub ends-ready : (r xs : List ℕ) → Counted r ((n - length lens * 374) / 374) addrs → length xs ≡ suc (pOf n lens) + eOf n lens addrs
         → (0 < s) × (s ≤ 120) × (c ≤ 44880) × (c < length xs) × Few r s
@@ -157,16 +146,16 @@ module _ (n : ℕ) (lens addrs : List ℕ) (e : refusalOf n lens addrs ≡ 0) wh
       omega (arith, s-is, q-le n lens addrs A),
       omega (arith, c-is, p-le n lens addrs A),
       omega (arith, c-is, long),
-      subst (Few r) (sym s-is) (counted-few n lens addrs A r (subst (λ (z : ℕ). Counted r z addrs) is-q C)),
+      subst (Few r) (sym s-is) (counted-few n lens addrs A r (subst (λ (z : ℕ). Counted r z addrs) (q-worked n lens) C)),
     )
 
     pub sizes : (0 < n - length lens * 374) × (length lens * 374 ≡ 374 * length lens) × (length lens * 374 ≤ 44880) × (total lens ≡ length addrs) × (n ≡ length lens * 374 + c)
-    sizes = (omega (arith, is-p, p-pos n lens addrs A), omega arith, omega (arith, A .rows, A .small), A .adds, omega (arith, A .rows))
+    sizes = (omega (arith, p-worked n lens, p-pos n lens addrs A), omega arith, omega (arith, A .rows, A .small), A .adds, omega (arith, A .rows))
 
     module _ (r xs : List ℕ) (C : Counted r ((n - length lens * 374) / 374) addrs) (long : length xs ≡ suc (pOf n lens) + eOf n lens addrs)
         (E : Ends r s xs c) (L : getD xs c 0 ≡ ending r s c) where
       C′ : Counted r (qOf n lens) addrs
-      C′ = subst (λ (z : ℕ). Counted r z addrs) is-q C
+      C′ = subst (λ (z : ℕ). Counted r z addrs) (q-worked n lens) C
 
       E′ : Ends r (qOf n lens) xs (pOf n lens)
       E′ = subst (λ (z : ℕ). Ends r z xs (pOf n lens)) s-is (subst (Ends r s xs) c-is E)
@@ -178,11 +167,11 @@ module _ (n : ℕ) (lens addrs : List ℕ) (e : refusalOf n lens addrs ≡ 0) wh
       base-fits = omega (arith, c-is, long)
 
       stairs-is : toStairs (length lens * 374) 0 c ≡ toStairs (kOf lens) 0 (pOf n lens)
-      stairs-is = ap₂ (λ (x y : ℕ). toStairs x 0 y) k-is c-is
+      stairs-is = ap₂ (λ (x y : ℕ). toStairs x 0 y) (k-worked lens) c-is
 
       meets-is : ofRows (n - length lens * 374) ((n - length lens * 374) / 374) 0 (rowsOf lens addrs) ≡ meets n lens addrs
       unfolding meets
-      meets-is = ap₂ (λ (x y : ℕ). ofRows x y 0 (rowsOf lens addrs)) is-p is-q
+      meets-is = ap₂ (λ (x y : ℕ). ofRows x y 0 (rowsOf lens addrs)) (p-worked n lens) (q-worked n lens)
 
       pub stairs-ready : Room c (toStairs (length lens * 374) 0 c) (parts (c + 1) xs)
       stairs-ready =
@@ -198,7 +187,7 @@ module _ (n : ℕ) (lens addrs : List ℕ) (e : refusalOf n lens addrs ≡ 0) wh
         pub meets-ready : Room (n - length lens * 374) (ofRows (n - length lens * 374) ((n - length lens * 374) / 374) 0 (rowsOf lens addrs)) (parts (c + 1) ys)
         meets-ready =
             subst (λ (es : List Edge). Room (n - length lens * 374) es (parts (c + 1) ys)) (sym meets-is)
-            (subst (λ (z : ℕ). Room z (meets n lens addrs) (parts (c + 1) ys)) (sym is-p)
+            (subst (λ (z : ℕ). Room z (meets n lens addrs) (parts (c + 1) ys)) (sym (p-worked n lens))
             (subst (λ (z : ℕ). Room (pOf n lens) (meets n lens addrs) (parts (z + 1) ys)) (sym c-is)
             (subst (Room (pOf n lens) (meets n lens addrs)) (sym f′) (room-meets n lens addrs A r xs C′ long E′ L′))))
 

@@ -1,6 +1,6 @@
 -- The ends of the lists, worked out from the counts of the addresses modulo q.
 use mathlib.Core.Path.{_≡_, refl, sym, ap, _∙_}
-use mathlib.Core.Bool.{Bool, true, false, cond}
+use mathlib.Core.Bool.{cond}
 use mathlib.Core.List.{List, []}
 use Prim.Native.Nat.{ℕ, zero, suc, _+_, _*_, _%_, _≤_, _<_}
 use native.Mathlib.Omega.{arith}
@@ -10,6 +10,7 @@ use native.Mathlib.Decide.{ℕ-discrete}
 use lib.Dec.{eqb}
 use lib.ListN.{getD, set, length}
 use lib.Seq.{getD-set-same, getD-set-other}
+use Rattle.ldpc_edges.specs.Degree.{stairs-le}
 
 -- where the list of check c ends, and that of check c + 1 begins
 unfoldable pub ending : List ℕ → ℕ → ℕ → ℕ
@@ -20,14 +21,10 @@ ending r q (suc c) = ending r q c + (getD r (c % q) 0 + cond (eqb c 0) 1 2)
 abbrev pub Few : List ℕ → ℕ → Type 0
 Few r q = (l : ℕ) → l < q → getD r l 0 ≤ 126
 
-two-le : (b : Bool) → cond b 1 2 ≤ 2
-two-le true = omega arith
-two-le false = omega arith
-
 pub ending-le : (r : List ℕ) (q : ℕ) → 0 < q → Few r q → (c : ℕ) → ending r q c ≤ 128 * c
 unfolding ending
 ending-le r q pos F zero = omega arith
-ending-le r q pos F (suc c) = let ih = ending-le r q pos F c in omega (arith, F (c % q) (mod-lt c pos), two-le (eqb c 0))
+ending-le r q pos F (suc c) = let ih = ending-le r q pos F c in omega (arith, F (c % q) (mod-lt c pos), stairs-le (eqb c 0))
 
 -- the cursors below i are set
 pub record Ends (r : List ℕ) (q : ℕ) (at : List ℕ) (i : ℕ) : Type 0 where

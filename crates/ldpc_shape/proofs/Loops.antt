@@ -11,8 +11,9 @@ use lib.Dec.{eqb, ltb, leb}
 use lib.ListN.{length, take, drop, getD, set, replicate, length-take}
 use lib.Seq.{drop-cons, drop-length, getD-set-same, getD-set-other, take-suc, take-length}
 use Rattle.laws.specs.Lists.{or-left, or-right, zeros-at}
-use Rattle.ldpc_shape.specs.Shape.{kOf, pOf, qOf, total, anyOver, countMod, countsMod, badLength, refusalOf}
+use Rattle.ldpc_shape.specs.Shape.{qOf, total, anyOver, countMod, countsMod, badLength, refusalOf}
 use Rattle.ldpc_shape.specs.Accepted.{total-le}
+use Rattle.ldpc_shape.specs.Worked.{q-beside}
 use Rattle.ldpc_shape.specs.Counts.{Counted, Counts-of, tops, tops-counts}
 
 -- ---- counting
@@ -167,8 +168,7 @@ module _ (n : ℕ) (lens addrs : List ℕ) where
 
         module _ (adds : total lens ≡ length addrs) (q : ℕ) (r : List ℕ) (p : q ≡ n / 374 - length lens) (C : Counted r q addrs) where
           q-is : q ≡ qOf n lens
-          unfolding qOf pOf kOf
-          q-is = omega (arith, whole n ok)
+          q-is = p ∙ q-beside n lens (whole n ok)
 
           counts-over : anyOver 126 (tops r q) ≡ anyOver 126 (countsMod (qOf n lens) addrs (qOf n lens))
           counts-over = ap (anyOver 126) (tops-counts r q addrs C q (omega arith)) ∙ ap (λ (z : ℕ). anyOver 126 (countsMod z addrs z)) q-is

@@ -5,7 +5,7 @@ use mathlib.Core.List.{List, map, _++_}
 use Prim.Native.Nat.{ℕ, zero, suc, _+_, _*_, _/_, _%_, _<_, _≤_, min}
 use native.Mathlib.Nat.{div-add-mod', mod-lt}
 use native.Mathlib.Omega.{arith}
-use lib.Dec.{ltb}
+use lib.Dec.{eqb, ltb}
 use lib.IntN.{ℤ, pos, negℤ}
 use lib.Ieee.{Float, nan, inf, fin, up, down, binary32, mul}
 use lib.ListN.{length, drop}
@@ -36,7 +36,12 @@ softOf scale x = softValue (mul binary32 x scale)
 abbrev pub refusalOf : List Float → List ℤ → ℕ
 refusalOf llr out = cond (ltb (length out) (length llr)) 13 0
 
--- the answer to each number
+-- the scope's number of each answer, 0 where nothing is refused
+abbrev pub quantisedNumber : Quantised → ℕ
+quantisedNumber Done = 0
+quantisedNumber (Refused n) = n
+
+-- and the answer to each number
 abbrev pub answerOf : ℕ → Quantised
 answerOf zero = Done
 answerOf (suc n) = Refused (suc n)
@@ -47,7 +52,7 @@ writtenOf llr scale out = map (softOf scale) llr ++ drop (length llr) out
 
 -- the output at exit: a refusal changes nothing
 abbrev pub outputOf : List Float → Float → List ℤ → List ℤ
-outputOf llr scale out = cond (ltb (length out) (length llr)) out (writtenOf llr scale out)
+outputOf llr scale out = cond (eqb (refusalOf llr out) 0) (writtenOf llr scale out) out
 
 -- what `nearest` means: it is within a half of num / den, and of two whole numbers at a half it is the upper one
 pub nearest-within : (num den : ℕ) → 0 < den → (nearest num den * den * 2 ≤ num * 2 + den) × (num * 2 < nearest num den * den * 2 + den)

@@ -1,41 +1,22 @@
 -- The sizes of a code, as the archive works them out. Assumes nothing.
-use mathlib.Core.Path.{_≡_, sym, ap, _∙_}
+use mathlib.Core.Path.{_≡_, refl, sym, ap, _∙_}
 use mathlib.Core.Bool.{Bool, true, false, cond, _||_}
 use mathlib.Core.List.{List, [], _∷_}
 use Prim.Native.Nat.{ℕ, suc, _+_, _-_, _*_, _/_, _≤_, _<_}
-use native.Mathlib.Nat.{mul-comm}
 use native.Mathlib.Omega.{arith}
 use borrow.Author.Tests.{eq-eqb, ne-eqb, lt-ltb, le-ltb}
 use lib.Dec.{eqb, ltb}
 use lib.ListN.{length}
 use Rattle.ldpc_shape.specs.Shape.{kOf, pOf, qOf, eOf, refusalOf}
-use Rattle.ldpc_shape.specs.Accepted.{accepted, rows-le, addrs-le, p-le}
-use Rattle.ldpc.specs.Answers.{orElse}
+use Rattle.ldpc_shape.specs.Accepted.{accepted, p-le}
+use Rattle.ldpc_shape.specs.Worked.{k-worked, p-worked, q-worked, e-worked, lists-worked}
+use Rattle.ldpc.specs.Answers.{or-first, or-next}
 use Rattle.decoder_refuse.specs.Refusal.{badLanes, workNeed, indexNeed}
 use Rattle.decoder_refuse.specs.Accepted.{edges-few}
 use Rattle.raxdov.specs.Numbers.{sizesOf}
 use Rattle.raxdov.specs.Run.{sizesRefusal, workSizes}
 
 module _ (n : ℕ) (lens addrs : List ℕ) where
-  -- an accepted code's numbers are small
-  pub small : refusalOf n lens addrs ≡ 0 → (length lens ≤ 119) × (length addrs ≤ 15360) × (n ≤ 44880) × (length lens * 374 < n)
-  small e = let A = accepted n lens addrs e in (rows-le n lens addrs A, addrs-le n lens addrs A, A .small, omega (arith, A .rows))
-
-  k-is : length lens * 374 ≡ kOf lens
-  unfolding kOf
-  k-is = mul-comm (length lens) 374
-
-  p-is : n - length lens * 374 ≡ pOf n lens
-  unfolding pOf
-  p-is = ap (λ (z : ℕ). n - z) k-is
-
-  e-is : length addrs * 374 + 2 * (n - length lens * 374) - 1 ≡ eOf n lens addrs
-  unfolding eOf
-  e-is = λ i. mul-comm (length addrs) 374 i + 2 * p-is i - 1
-
-  rest : n - length lens * 374 + 1 + (length addrs * 374 + 2 * (n - length lens * 374) - 1) ≡ suc (pOf n lens) + eOf n lens addrs
-  rest = (λ i. p-is i + 1 + e-is i) ∙ omega arith
-
   pub sizes-refused : (sizes : List ℕ) (r : ℕ) → r ≡ refusalOf n lens addrs → (r ≡ 0 → ⊥) → sizes ≡ sizesOf n lens addrs sizes
   unfolding sizesOf
   sizes-refused sizes r e ne =
@@ -44,9 +25,9 @@ module _ (n : ℕ) (lens addrs : List ℕ) where
   pub sizes-accepted : (sizes : List ℕ) → refusalOf n lens addrs ≡ 0
       → length lens * 374 ∷ (n - length lens * 374) ∷ ((n - length lens * 374) / 374) ∷ (length addrs * 374 + 2 * (n - length lens * 374) - 1)
       ∷ (n - length lens * 374 + 1 + (length addrs * 374 + 2 * (n - length lens * 374) - 1)) ∷ [] ≡ sizesOf n lens addrs sizes
-  unfolding sizesOf qOf
+  unfolding sizesOf
   sizes-accepted sizes e =
-      (λ i. k-is i ∷ p-is i ∷ (p-is i / 374) ∷ e-is i ∷ rest i ∷ [])
+      (λ i. k-worked lens i ∷ p-worked n lens i ∷ q-worked n lens i ∷ e-worked n lens addrs i ∷ lists-worked n lens addrs i ∷ [])
       ∙ sym (ap (λ t. cond t (kOf lens ∷ pOf n lens ∷ qOf n lens ∷ eOf n lens addrs ∷ (suc (pOf n lens) + eOf n lens addrs) ∷ []) sizes) (eq-eqb (refusalOf n lens addrs) 0 e))
 
   -- ---- the sizes of a run's work
@@ -60,15 +41,13 @@ module _ (n : ℕ) (lens addrs : List ℕ) where
         sym (ap (λ t. cond t (workNeed n (eOf n lens addrs) lanes ∷ indexNeed (pOf n lens) (eOf n lens addrs) ∷ []) sizes) (ne-eqb (sizesRefusal n lens addrs lanes) 0 (λ f. ne (e ∙ f))))
 
     pub run-refused : (r : ℕ) → r ≡ refusalOf n lens addrs → (r ≡ 0 → ⊥) → (r ≡ sizesRefusal n lens addrs lanes) × (sizes ≡ workSizes n lens addrs lanes sizes)
-    unfolding sizesRefusal orElse
-    run-refused r e ne =
-        let f = e ∙ sym (ap (λ t. cond t (cond (badLanes lanes) 7 0) (refusalOf n lens addrs)) (ne-eqb (refusalOf n lens addrs) 0 (λ z. ne (e ∙ z)))) in
-        (f, keeps r f ne)
+    unfolding sizesRefusal
+    run-refused r e ne = let f = or-first (refusalOf n lens addrs) (cond (badLanes lanes) 7 0) r e ne in (f, keeps r f ne)
 
     module _ (e : refusalOf n lens addrs ≡ 0) where
       next : cond (badLanes lanes) 7 0 ≡ sizesRefusal n lens addrs lanes
-      unfolding sizesRefusal orElse
-      next = sym (ap (λ t. cond t (cond (badLanes lanes) 7 0) (refusalOf n lens addrs)) (eq-eqb (refusalOf n lens addrs) 0 e))
+      unfolding sizesRefusal
+      next = or-next (refusalOf n lens addrs) (cond (badLanes lanes) 7 0) _ e refl
 
       seven : badLanes lanes ≡ true → (7 ≡ sizesRefusal n lens addrs lanes) × (sizes ≡ workSizes n lens addrs lanes sizes)
       seven h =

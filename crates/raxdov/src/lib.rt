@@ -9,7 +9,7 @@ ghost use Rattle.quantise.specs.Soft as soft;
 ghost use Rattle.ldpc_shape.specs.Shape as shape;
 ghost use Rattle.ldpc.specs.Answers.{madeNumber, newAnswer, newInto, countedNumber, checkAnswer, checkInto, writtenNumber, parityAnswer, parityInto, encodeAnswer, encodeInto, weightAnswer};
 ghost use Rattle.bch.specs.Answers as bch;
-ghost use Rattle.raxdov.specs.Numbers.{quantisedNumber, encodedNumber, decodedNumber, numbersInto, countInto, resultInto, sizesOf};
+ghost use Rattle.raxdov.specs.Numbers.{numbersInto, countInto, resultInto, sizesOf};
 ghost use Rattle.raxdov.specs.Run.{scheduleOfNumbers, settingsOfNumbers, sizesRefusal, workSizes, recordsIn, endingOf, Told};
 use decoder::Schedule;
 use decoder::Settings;
@@ -17,7 +17,7 @@ use decoder::Settings;
 // Soft values of `llr` times `scale`, in front of `out`.
 #[no_mangle]
 pub extern "C" fn raxdov_quantise(llr: &[f32], scale: f32, out: &mut [i8]) -> u32
-    ensures answer { λ r. ⌜ r ≡ quantisedNumber (soft.answerOf (soft.refusalOf (now (llr .entry)) (now (out .entry)))) ⌝ }
+    ensures answer { λ r. ⌜ r ≡ soft.quantisedNumber (soft.answerOf (soft.refusalOf (now (llr .entry)) (now (out .entry)))) ⌝ }
     ensures output { λ r. ⌜ now (out .exit) ≡ soft.outputOf (now (llr .entry)) scale (now (out .entry)) ⌝ }
 {
     let answer = quantise::quantise(llr, scale, out);
@@ -159,7 +159,7 @@ pub extern "C" fn raxdov_ldpc_syndrome_weight(
 // The 192 parity bits of a message, in front of `out`.
 #[no_mangle]
 pub extern "C" fn raxdov_bch_parity(message: &[u8], out: &mut [u8]) -> u32
-    ensures answer { λ r. ⌜ r ≡ encodedNumber (bch.encodedOf (bch.messageRefusal (length (now (message .entry))) 192 (length (now (out .entry))))) ⌝ }
+    ensures answer { λ r. ⌜ r ≡ bch.encodedNumber (bch.encodedOf (bch.messageRefusal (length (now (message .entry))) 192 (length (now (out .entry))))) ⌝ }
     ensures output { λ r. ⌜ now (out .exit) ≡ bch.parityOut (now (message .entry)) (now (out .entry)) ⌝ }
 {
     let answer = bch::parity(message, out);
@@ -172,7 +172,7 @@ pub extern "C" fn raxdov_bch_parity(message: &[u8], out: &mut [u8]) -> u32
 // The codeword of a message, in front of `out`.
 #[no_mangle]
 pub extern "C" fn raxdov_bch_encode(message: &[u8], out: &mut [u8]) -> u32
-    ensures answer { λ r. ⌜ r ≡ encodedNumber (bch.encodedOf (bch.messageRefusal (length (now (message .entry))) (length (now (message .entry)) + 192) (length (now (out .entry))))) ⌝ }
+    ensures answer { λ r. ⌜ r ≡ bch.encodedNumber (bch.encodedOf (bch.messageRefusal (length (now (message .entry))) (length (now (message .entry)) + 192) (length (now (out .entry))))) ⌝ }
     ensures output { λ r. ⌜ now (out .exit) ≡ bch.encodeOut (now (message .entry)) (now (out .entry)) ⌝ }
 {
     let answer = bch::encode(message, out);
@@ -185,7 +185,7 @@ pub extern "C" fn raxdov_bch_encode(message: &[u8], out: &mut [u8]) -> u32
 // The word corrected in place; `result` gets how many bits were changed, or 4,294,967,295 if the word is uncorrectable.
 #[no_mangle]
 pub extern "C" fn raxdov_bch_decode(word: &mut [u8], result: &mut u32) -> u32
-    ensures answer { λ r. ⌜ r ≡ decodedNumber (bch.decodedOf (now (word .entry))) ⌝ }
+    ensures answer { λ r. ⌜ r ≡ bch.decodedNumber (bch.decodedOf (now (word .entry))) ⌝ }
     ensures word { λ r. ⌜ bch.Decodes (now (word .entry)) (now (word .exit)) (bch.decodedOf (now (word .entry))) ⌝ }
     ensures result { λ r. ⌜ now (result .exit) ≡ resultInto (bch.decodedOf (now (word .entry))) (now (result .entry)) ⌝ }
 {

@@ -18,7 +18,7 @@ use Rattle.bytes.proofs.copy.Reads as copy-reads
 -- src/lib.rt:49:9
 returns : tie.Need-returns
 unfolding encodeOut
-returns c = let f = long-message _ _ _ (c .if1 .taken) in (refused _ 10 f, unchanged _ 10 _ _ f)
+returns c = let f = long-message _ _ _ (c .if1 .taken) in (refused _ 10 f, (unchanged _ 10 _ _ f, sym f))
 
 -- src/lib.rt:51:20
 add-if2 : tie.Need-add-if2
@@ -27,7 +27,7 @@ add-if2 c = search needs
 -- src/lib.rt:52:9
 returns-2 : tie.Need-returns-2
 unfolding encodeOut
-returns-2 c = let f = short-output _ _ _ (c .before .if1 .left) (c .if2 .taken) in (refused _ 12 f, unchanged _ 12 _ _ f)
+returns-2 c = let f = short-output _ _ _ (c .before .if1 .left) (c .if2 .taken) in (refused _ 12 f, (unchanged _ 12 _ _ f, sym f))
 
 -- src/lib.rt:54:5
 copy-requires : tie.Need-copy-requires
@@ -70,9 +70,12 @@ returns-3 c =
     let o = s .args .out .now in
     let f = fair-message (length m) (length m + 192) (length o) (e .before .if1 .left) (e .if2 .left) in (
       done _ f,
-      encoded-bytes m o _ _ (parityBits (valueOf (r .parity-register .result))) (p .copy .ensures .1) (w .write-parity .ensures)
-          ∙ ap (λ (n : ℕ). m ++ (parityBits n ++ drop (length m + 192) o)) (r .parity-register .ensures)
-          ∙ changed _ (m ++ (parityBits (parityOf m) ++ drop (length m + 192) o)) o f,
+      (
+        encoded-bytes m o _ _ (parityBits (valueOf (r .parity-register .result))) (p .copy .ensures .1) (w .write-parity .ensures)
+            ∙ ap (λ (n : ℕ). m ++ (parityBits n ++ drop (length m + 192) o)) (r .parity-register .ensures)
+            ∙ changed _ (m ++ (parityBits (parityOf m) ++ drop (length m + 192) o)) o f,
+        sym f,
+      ),
     )
 
 pub encode-spec : {M : Type 1} → statement M

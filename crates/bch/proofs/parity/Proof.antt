@@ -16,11 +16,11 @@ use Rattle.bch_remainder.proofs.write_parity.Reads as write-parity-reads
 
 returns : tie.Need-returns
 unfolding parityOut
-returns c = let f = long-message _ 192 _ (c .if1 .taken) in (refused _ 10 f, unchanged _ 10 _ _ f)
+returns c = let f = long-message _ 192 _ (c .if1 .taken) in (refused _ 10 f, (unchanged _ 10 _ _ f, sym f))
 
 returns-2 : tie.Need-returns-2
 unfolding parityOut
-returns-2 c = let f = short-output _ 192 _ (c .before .if1 .left) (c .if2 .taken) in (refused _ 12 f, unchanged _ 12 _ _ f)
+returns-2 c = let f = short-output _ 192 _ (c .before .if1 .left) (c .if2 .taken) in (refused _ 12 f, (unchanged _ 12 _ _ f, sym f))
 
 parity-register-requires : tie.Need-parity-register-requires
 parity-register-requires c κs = search needs
@@ -39,8 +39,11 @@ returns-3 c =
     let s = r .before .before .before .before .before in
     let f = fair-message (length (s .args .message .now)) 192 (length (s .args .out .now)) (r .before .before .if1 .left) (r .before .if2 .left) in (
       done _ f,
-      w .write-parity .ensures ∙ ap (λ (n : ℕ). parityBits n ++ drop 192 (s .args .out .now)) (r .parity-register .ensures)
-          ∙ changed _ (parityBits (parityOf (s .args .message .now)) ++ drop 192 (s .args .out .now)) (s .args .out .now) f,
+      (
+        w .write-parity .ensures ∙ ap (λ (n : ℕ). parityBits n ++ drop 192 (s .args .out .now)) (r .parity-register .ensures)
+            ∙ changed _ (parityBits (parityOf (s .args .message .now)) ++ drop 192 (s .args .out .now)) (s .args .out .now) f,
+        sym f,
+      ),
     )
 
 pub parity-spec : {M : Type 1} → statement M

@@ -7,7 +7,8 @@ use Prim.Native.Nat.{_-_, _/_, _^_}
 use native.Mathlib.Nat.{lt-of-lt-of-le}
 use lib.Dec.{lit≤}
 use lib.ListN.{replicate}
-use Rattle.bch_table.proofs.Product.{Multiplied, bit-lt, times-start, times-long, times-again, times-end}
+use Rattle.bch_table.specs.Digits.{bit-lt}
+use Rattle.bch_table.proofs.Product.{Multiplied, times-start, times-long, times-again, times-end}
 use Rattle.bch_table.proofs.times.Statement.{statement}
 use Rattle.bch_table.proofs.times.Tie as tie
 

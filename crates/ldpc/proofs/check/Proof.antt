@@ -1,10 +1,12 @@
 -- `ldpc::check` meets its contract. Assumes nothing.
-use Rattle.ldpc.proofs.Exits.{fits, check-refused, check-beyond, check-below, check-small, check-short, check-done}
+use Rattle.ldpc_shape.specs.Worked.{fits}
+use Rattle.ldpc.proofs.Exits.{with-number, check-refused, check-beyond, check-below, check-small, check-short, check-done}
 use lib.ListN.{length}
 use Prim.Native.Nat.{ℕ, _≤_}
 use mathlib.Core.Path.{_≡_, refl, sym, ap, _∙_, subst}
 use native.Mathlib.Omega.{arith}
 use borrow.Author.Needs.{needs}
+use Rattle.ldpc.specs.Answers.{countedNumber, check-number}
 use Rattle.ldpc.proofs.check.Statement.{statement}
 use Rattle.ldpc.proofs.check.Tie as tie
 
@@ -14,7 +16,7 @@ refusal-requires c κs = search needs
 returns : tie.Need-returns
 returns c =
     let s = c .before .before .before .before .before in
-    check-refused (s .args .n) (s .args .lens .now) (s .args .addrs .now) (s .args .c) (s .args .out .now) (c .before .refusal .result) (c .before .refusal .ensures) (c .if1 .taken)
+    with-number countedNumber (check-number _ _ _ _ _) (check-refused (s .args .n) (s .args .lens .now) (s .args .addrs .now) (s .args .c) (s .args .out .now) (c .before .refusal .result) (c .before .refusal .ensures) (c .if1 .taken))
 
 cast-k : tie.Need-cast-k
 cast-k c =
@@ -34,7 +36,7 @@ sub-if2 c =
 returns-2 : tie.Need-returns-2
 returns-2 c =
     let s = c .before .before .before .before .before .before in
-    check-beyond (s .args .n) (s .args .lens .now) (s .args .addrs .now) (s .args .c) (s .args .out .now) (sym (c .before .before .refusal .ensures) ∙ (c .before .if1 .left)) (c .if2 .taken)
+    with-number countedNumber (check-number _ _ _ _ _) (check-beyond (s .args .n) (s .args .lens .now) (s .args .addrs .now) (s .args .c) (s .args .out .now) (sym (c .before .before .refusal .ensures) ∙ (c .before .if1 .left)) (c .if2 .taken))
 
 degree-of-requires : tie.Need-degree-of-requires
 degree-of-requires c κs =
@@ -44,7 +46,7 @@ degree-of-requires c κs =
 returns-3 : tie.Need-returns-3
 returns-3 c =
     let s = c .before .before .before .before .before .before .before .before in
-    check-short (s .args .n) (s .args .lens .now) (s .args .addrs .now) (s .args .c) (s .args .out .now) (sym (c .before .before .before .before .refusal .ensures) ∙ (c .before .before .before .if1 .left)) (c .before .before .if2 .left) (c .before .degree-of .result) (c .before .degree-of .ensures) (c .if3 .taken)
+    with-number countedNumber (check-number _ _ _ _ _) (check-short (s .args .n) (s .args .lens .now) (s .args .addrs .now) (s .args .c) (s .args .out .now) (sym (c .before .before .before .before .refusal .ensures) ∙ (c .before .before .before .if1 .left)) (c .before .before .if2 .left) (c .before .degree-of .result) (c .before .degree-of .ensures) (c .if3 .taken))
 
 check-of-requires : tie.Need-check-of-requires
 check-of-requires c κs =
@@ -62,7 +64,7 @@ same-length c = search needs
 returns-4 : tie.Need-returns-4
 returns-4 c =
     let s = c .before .before .before .before .before .before .before .before .before .before .before .before in
-    check-done (s .args .n) (s .args .lens .now) (s .args .addrs .now) (s .args .c) (s .args .out .now) (sym (c .before .before .before .before .before .before .before .before .refusal .ensures) ∙ (c .before .before .before .before .before .before .before .if1 .left)) (c .before .before .before .before .before .before .if2 .left) (c .before .before .before .before .before .degree-of .result) (c .before .before .check-of .result) (c .before .before .before .before .before .degree-of .ensures) (c .before .before .before .before .if3 .left) (c .before .before .check-of .ensures .0) _ (c .before .before .check-of .ensures .1)
+    with-number countedNumber (check-number _ _ _ _ _) (check-done (s .args .n) (s .args .lens .now) (s .args .addrs .now) (s .args .c) (s .args .out .now) (sym (c .before .before .before .before .before .before .before .before .refusal .ensures) ∙ (c .before .before .before .before .before .before .before .if1 .left)) (c .before .before .before .before .before .before .if2 .left) (c .before .before .before .before .before .degree-of .result) (c .before .before .check-of .result) (c .before .before .before .before .before .degree-of .ensures) (c .before .before .before .before .if3 .left) (c .before .before .check-of .ensures .0) _ (c .before .before .check-of .ensures .1))
 
 pub check-spec : {M : Type 1} → statement M
 check-spec =

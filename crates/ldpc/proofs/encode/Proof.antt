@@ -1,9 +1,11 @@
 -- `ldpc::encode` meets its contract. Assumes nothing.
-use Rattle.ldpc.proofs.Exits.{fits, encode-refused, encode-other, encode-short, encode-ready, encode-done}
+use Rattle.ldpc_shape.specs.Worked.{fits}
+use Rattle.ldpc.proofs.Exits.{with-number, encode-refused, encode-other, encode-short, encode-ready, encode-done}
 use lib.Seq.{length-take-le}
 use mathlib.Core.Path.{_≡_, refl, sym, ap, _∙_}
 use native.Mathlib.Omega.{arith}
 use borrow.Author.Needs.{needs}
+use Rattle.ldpc.specs.Answers.{writtenNumber, encode-number}
 use Rattle.ldpc.proofs.encode.Statement.{statement}
 use Rattle.ldpc.proofs.encode.Tie as tie
 
@@ -13,7 +15,7 @@ refusal-requires c κs = search needs
 returns : tie.Need-returns
 returns c =
     let s = c .before .before .before .before .before .before in
-    encode-refused (s .args .n) (s .args .lens .now) (s .args .addrs .now) (s .args .info .now) (s .args .out .now) (c .before .refusal .result) (c .before .refusal .ensures) (c .if1 .taken)
+    with-number writtenNumber (encode-number _ _ _ _ _) (encode-refused (s .args .n) (s .args .lens .now) (s .args .addrs .now) (s .args .info .now) (s .args .out .now) (c .before .refusal .result) (c .before .refusal .ensures) (c .if1 .taken))
 
 info-bits-requires : tie.Need-info-bits-requires
 info-bits-requires c κs =
@@ -23,7 +25,7 @@ info-bits-requires c κs =
 returns-2 : tie.Need-returns-2
 returns-2 c =
     let s = c .before .before .before .before .before .before .before .before in
-    encode-other (s .args .n) (s .args .lens .now) (s .args .addrs .now) (s .args .info .now) (s .args .out .now) (sym (c .before .before .before .refusal .ensures) ∙ (c .before .before .if1 .left)) (c .before .info-bits .result) (c .before .info-bits .ensures) (c .if2 .taken)
+    with-number writtenNumber (encode-number _ _ _ _ _) (encode-other (s .args .n) (s .args .lens .now) (s .args .addrs .now) (s .args .info .now) (s .args .out .now) (sym (c .before .before .before .refusal .ensures) ∙ (c .before .before .if1 .left)) (c .before .info-bits .result) (c .before .info-bits .ensures) (c .if2 .taken))
 
 wide-requires : tie.Need-wide-requires
 wide-requires c κs = search needs
@@ -31,7 +33,7 @@ wide-requires c κs = search needs
 returns-3 : tie.Need-returns-3
 returns-3 c =
     let s = c .before .before .before .before .before .before .before .before .before .before in
-    encode-short (s .args .n) (s .args .lens .now) (s .args .addrs .now) (s .args .info .now) (s .args .out .now) (sym (c .before .before .before .before .before .refusal .ensures) ∙ (c .before .before .before .before .if1 .left)) (c .before .before .before .info-bits .result) (c .before .before .before .info-bits .ensures) (c .before .before .if2 .left) (c .before .wide .result) (c .before .wide .ensures) (c .if3 .taken)
+    with-number writtenNumber (encode-number _ _ _ _ _) (encode-short (s .args .n) (s .args .lens .now) (s .args .addrs .now) (s .args .info .now) (s .args .out .now) (sym (c .before .before .before .before .before .refusal .ensures) ∙ (c .before .before .before .before .if1 .left)) (c .before .before .before .info-bits .result) (c .before .before .before .info-bits .ensures) (c .before .before .if2 .left) (c .before .wide .result) (c .before .wide .ensures) (c .if3 .taken))
 
 slice-relend-prefix-encode-of : tie.Need-slice-relend-prefix-encode-of
 slice-relend-prefix-encode-of c = search needs
@@ -51,7 +53,7 @@ same-length c = search needs
 returns-4 : tie.Need-returns-4
 returns-4 c =
     let s = c .before .before .before .before .before .before .before .before .before .before .before .before .before .before in
-    encode-done (s .args .n) (s .args .lens .now) (s .args .addrs .now) (s .args .info .now) (s .args .out .now) (sym (c .before .before .before .before .before .before .before .before .before .refusal .ensures) ∙ (c .before .before .before .before .before .before .before .before .if1 .left)) (c .before .before .before .before .before .before .before .info-bits .result) (c .before .before .before .before .before .before .before .info-bits .ensures) (c .before .before .before .before .before .before .if2 .left) (c .before .before .before .before .before .wide .result) (c .before .before .before .before .before .wide .ensures) (c .before .before .before .before .if3 .left) _ (c .before .before .encode-of .ensures)
+    with-number writtenNumber (encode-number _ _ _ _ _) (encode-done (s .args .n) (s .args .lens .now) (s .args .addrs .now) (s .args .info .now) (s .args .out .now) (sym (c .before .before .before .before .before .before .before .before .before .refusal .ensures) ∙ (c .before .before .before .before .before .before .before .before .if1 .left)) (c .before .before .before .before .before .before .before .info-bits .result) (c .before .before .before .before .before .before .before .info-bits .ensures) (c .before .before .before .before .before .before .if2 .left) (c .before .before .before .before .before .wide .result) (c .before .before .before .before .before .wide .ensures) (c .before .before .before .before .if3 .left) _ (c .before .before .encode-of .ensures))
 
 pub encode-spec : {M : Type 1} → statement M
 encode-spec =

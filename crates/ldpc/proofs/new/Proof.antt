@@ -1,9 +1,11 @@
 -- `ldpc::new` meets its contract. Assumes nothing.
-use Rattle.ldpc.proofs.Exits.{fits, new-refused, new-short, new-ready, new-done}
+use Rattle.ldpc_shape.specs.Worked.{fits}
+use Rattle.ldpc.proofs.Exits.{with-number, new-refused, new-short, new-ready, new-done}
 use lib.Seq.{length-take-le}
 use mathlib.Core.Path.{_≡_, refl, sym, ap, _∙_}
 use native.Mathlib.Omega.{arith}
 use borrow.Author.Needs.{needs}
+use Rattle.ldpc.specs.Answers.{madeNumber, new-number}
 use Rattle.ldpc.proofs.new.Statement.{statement}
 use Rattle.ldpc.proofs.new.Tie as tie
 
@@ -13,7 +15,7 @@ refusal-requires c κs = search needs
 returns : tie.Need-returns
 returns c =
     let s = c .before .before .before .before .before in
-    new-refused (s .args .n) (s .args .lens .now) (s .args .addrs .now) (s .args .lists .now) (c .before .refusal .result) (c .before .refusal .ensures) (c .if1 .taken)
+    with-number madeNumber (new-number _ _ _ _) (new-refused (s .args .n) (s .args .lens .now) (s .args .addrs .now) (s .args .lists .now) (c .before .refusal .result) (c .before .refusal .ensures) (c .if1 .taken))
 
 cast-k : tie.Need-cast-k
 cast-k c =
@@ -71,7 +73,7 @@ wide-requires c κs = search needs
 returns-2 : tie.Need-returns-2
 returns-2 c =
     let s = c .before .before .before .before .before .before .before in
-    new-short (s .args .n) (s .args .lens .now) (s .args .addrs .now) (s .args .lists .now) (sym (c .before .before .before .refusal .ensures) ∙ (c .before .before .if1 .left)) (c .before .wide .result) (c .before .wide .ensures) (c .if2 .taken)
+    with-number madeNumber (new-number _ _ _ _) (new-short (s .args .n) (s .args .lens .now) (s .args .addrs .now) (s .args .lists .now) (sym (c .before .before .before .refusal .ensures) ∙ (c .before .before .if1 .left)) (c .before .wide .result) (c .before .wide .ensures) (c .if2 .taken))
 
 slice-relend-prefix-build : tie.Need-slice-relend-prefix-build
 slice-relend-prefix-build c = search needs
@@ -90,7 +92,7 @@ same-length c = search needs
 returns-3 : tie.Need-returns-3
 returns-3 c =
     let s = c .before .before .before .before .before .before .before .before .before .before .before in
-    new-done (s .args .n) (s .args .lens .now) (s .args .addrs .now) (s .args .lists .now) (sym (c .before .before .before .before .before .before .before .refusal .ensures) ∙ (c .before .before .before .before .before .before .if1 .left)) (c .before .before .before .before .before .wide .result) (c .before .before .before .before .before .wide .ensures) (c .before .before .before .before .if2 .left) _ (c .before .before .build .ensures)
+    with-number madeNumber (new-number _ _ _ _) (new-done (s .args .n) (s .args .lens .now) (s .args .addrs .now) (s .args .lists .now) (sym (c .before .before .before .before .before .before .before .refusal .ensures) ∙ (c .before .before .before .before .before .before .if1 .left)) (c .before .before .before .before .before .wide .result) (c .before .before .before .before .before .wide .ensures) (c .before .before .before .before .if2 .left) _ (c .before .before .build .ensures))
 
 pub new-spec : {M : Type 1} → statement M
 new-spec =

@@ -1,10 +1,12 @@
 -- `ldpc::parity` meets its contract. Assumes nothing.
-use Rattle.ldpc.proofs.Exits.{fits, parity-refused, parity-other, parity-short, parity-ready, parity-done}
+use Rattle.ldpc_shape.specs.Worked.{fits}
+use Rattle.ldpc.proofs.Exits.{with-number, parity-refused, parity-other, parity-short, parity-ready, parity-done}
 use lib.Seq.{length-take-le}
 use Prim.Native.Nat.{ℕ, _-_}
 use mathlib.Core.Path.{_≡_, refl, sym, ap, _∙_}
 use native.Mathlib.Omega.{arith}
 use borrow.Author.Needs.{needs}
+use Rattle.ldpc.specs.Answers.{writtenNumber, parity-number}
 use Rattle.ldpc.proofs.parity.Statement.{statement}
 use Rattle.ldpc.proofs.parity.Tie as tie
 
@@ -14,7 +16,7 @@ refusal-requires c κs = search needs
 returns : tie.Need-returns
 returns c =
     let s = c .before .before .before .before .before .before in
-    parity-refused (s .args .n) (s .args .lens .now) (s .args .addrs .now) (s .args .info .now) (s .args .out .now) (c .before .refusal .result) (c .before .refusal .ensures) (c .if1 .taken)
+    with-number writtenNumber (parity-number _ _ _ _ _) (parity-refused (s .args .n) (s .args .lens .now) (s .args .addrs .now) (s .args .info .now) (s .args .out .now) (c .before .refusal .result) (c .before .refusal .ensures) (c .if1 .taken))
 
 info-bits-requires : tie.Need-info-bits-requires
 info-bits-requires c κs =
@@ -24,7 +26,7 @@ info-bits-requires c κs =
 returns-2 : tie.Need-returns-2
 returns-2 c =
     let s = c .before .before .before .before .before .before .before .before in
-    parity-other (s .args .n) (s .args .lens .now) (s .args .addrs .now) (s .args .info .now) (s .args .out .now) (sym (c .before .before .before .refusal .ensures) ∙ (c .before .before .if1 .left)) (c .before .info-bits .result) (c .before .info-bits .ensures) (c .if2 .taken)
+    with-number writtenNumber (parity-number _ _ _ _ _) (parity-other (s .args .n) (s .args .lens .now) (s .args .addrs .now) (s .args .info .now) (s .args .out .now) (sym (c .before .before .before .refusal .ensures) ∙ (c .before .before .if1 .left)) (c .before .info-bits .result) (c .before .info-bits .ensures) (c .if2 .taken))
 
 wide-requires : tie.Need-wide-requires
 wide-requires c κs = search needs
@@ -37,7 +39,7 @@ sub-p c =
 returns-3 : tie.Need-returns-3
 returns-3 c =
     let s = c .before .before .before .before .before .before .before .before .before .before in
-    parity-short (s .args .n) (s .args .lens .now) (s .args .addrs .now) (s .args .info .now) (s .args .out .now) (sym (c .before .before .before .before .before .refusal .ensures) ∙ (c .before .before .before .before .if1 .left)) (c .before .before .before .info-bits .result) (c .before .before .before .info-bits .ensures) (c .before .before .if2 .left) ((c .before .wide .result) - (c .before .before .before .info-bits .result)) (ap (λ (z : ℕ). z - (c .before .before .before .info-bits .result)) (c .before .wide .ensures)) (c .if3 .taken)
+    with-number writtenNumber (parity-number _ _ _ _ _) (parity-short (s .args .n) (s .args .lens .now) (s .args .addrs .now) (s .args .info .now) (s .args .out .now) (sym (c .before .before .before .before .before .refusal .ensures) ∙ (c .before .before .before .before .if1 .left)) (c .before .before .before .info-bits .result) (c .before .before .before .info-bits .ensures) (c .before .before .if2 .left) ((c .before .wide .result) - (c .before .before .before .info-bits .result)) (ap (λ (z : ℕ). z - (c .before .before .before .info-bits .result)) (c .before .wide .ensures)) (c .if3 .taken))
 
 slice-relend-prefix-parity-of : tie.Need-slice-relend-prefix-parity-of
 slice-relend-prefix-parity-of c = search needs
@@ -57,7 +59,7 @@ same-length c = search needs
 returns-4 : tie.Need-returns-4
 returns-4 c =
     let s = c .before .before .before .before .before .before .before .before .before .before .before .before .before .before in
-    parity-done (s .args .n) (s .args .lens .now) (s .args .addrs .now) (s .args .info .now) (s .args .out .now) (sym (c .before .before .before .before .before .before .before .before .before .refusal .ensures) ∙ (c .before .before .before .before .before .before .before .before .if1 .left)) (c .before .before .before .before .before .before .before .info-bits .result) (c .before .before .before .before .before .before .before .info-bits .ensures) (c .before .before .before .before .before .before .if2 .left) ((c .before .before .before .before .before .wide .result) - (c .before .before .before .before .before .before .before .info-bits .result)) (ap (λ (z : ℕ). z - (c .before .before .before .before .before .before .before .info-bits .result)) (c .before .before .before .before .before .wide .ensures)) (c .before .before .before .before .if3 .left) _ (c .before .before .parity-of .ensures)
+    with-number writtenNumber (parity-number _ _ _ _ _) (parity-done (s .args .n) (s .args .lens .now) (s .args .addrs .now) (s .args .info .now) (s .args .out .now) (sym (c .before .before .before .before .before .before .before .before .before .refusal .ensures) ∙ (c .before .before .before .before .before .before .before .before .if1 .left)) (c .before .before .before .before .before .before .before .info-bits .result) (c .before .before .before .before .before .before .before .info-bits .ensures) (c .before .before .before .before .before .before .if2 .left) ((c .before .before .before .before .before .wide .result) - (c .before .before .before .before .before .before .before .info-bits .result)) (ap (λ (z : ℕ). z - (c .before .before .before .before .before .before .before .info-bits .result)) (c .before .before .before .before .before .wide .ensures)) (c .before .before .before .before .if3 .left) _ (c .before .before .parity-of .ensures))
 
 pub parity-spec : {M : Type 1} → statement M
 parity-spec =

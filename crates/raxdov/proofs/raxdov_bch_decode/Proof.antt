@@ -5,8 +5,8 @@ use Prim.Native.Nat.{ℕ}
 use borrow.Author.Needs.{needs}
 use Rattle.outcome.specs.Outcome.{lost, bchResult}
 use Rattle.bch.specs.declared.Decoded.{Decoded}
-use Rattle.bch.specs.Answers.{decodedOf, Decodes}
-use Rattle.raxdov.specs.Numbers.{decodedNumber, resultInto}
+use Rattle.bch.specs.Answers.{decodedNumber, decodedOf, Decodes}
+use Rattle.raxdov.specs.Numbers.{resultInto}
 use Rattle.raxdov.proofs.raxdov_bch_decode.Statement.{statement}
 use Rattle.raxdov.proofs.raxdov_bch_decode.Tie as tie
 

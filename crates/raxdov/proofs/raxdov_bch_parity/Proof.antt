@@ -1,7 +1,7 @@
 -- `raxdov::raxdov_bch_parity` meets its contract. Assumes nothing.
 use mathlib.Core.Path.{sym, ap, _∙_}
 use borrow.Author.Needs.{needs}
-use Rattle.raxdov.specs.Numbers.{encodedNumber}
+use Rattle.bch.specs.Answers.{encodedNumber}
 use Rattle.raxdov.proofs.raxdov_bch_parity.Statement.{statement}
 use Rattle.raxdov.proofs.raxdov_bch_parity.Tie as tie
 
@@ -20,7 +20,7 @@ same-length c = search needs
 returns : tie.Need-returns
 returns c =
     let e = sym (c .enum-told .given .1) ∙ c .before .before .before .before .parity .ensures .0 in
-    (ap encodedNumber e, c .before .before .before .before .parity .ensures .1)
+    (ap encodedNumber e, c .before .before .before .before .parity .ensures .1 .0)
 
 same-length-2 : tie.Need-same-length-2
 same-length-2 c = search needs
@@ -28,7 +28,7 @@ same-length-2 c = search needs
 returns-2 : tie.Need-returns-2
 returns-2 c =
     let e = sym (c .before .answer .given .1) ∙ c .before .before .before .before .before .parity .ensures .0 in
-    (ap encodedNumber e, c .before .before .before .before .before .parity .ensures .1)
+    (ap encodedNumber e, c .before .before .before .before .before .parity .ensures .1 .0)
 
 pub raxdov-bch-parity-spec : {M : Type 1} → statement M
 raxdov-bch-parity-spec =

@@ -21,16 +21,16 @@ same-length c = search needs
 
 returns : tie.Need-returns
 returns c =
-    let e = sym (c .before .answer .given .1) ∙ c .before .before .before .before .before .check .ensures .0 in
-    (ap countedNumber e, (c .before .before .before .before .before .check .ensures .1, ap (λ (a : Counted). countInto a (c .before .before .before .before .before .before .before .before .before .before .args .count .now)) e))
+    let e = sym (c .before .answer .given .1) ∙ c .before .before .before .before .before .check .ensures .0 .0 in
+    (ap countedNumber e, (c .before .before .before .before .before .check .ensures .0 .1, ap (λ (a : Counted). countInto a (c .before .before .before .before .before .before .before .before .before .before .args .count .now)) e))
 
 same-length-2 : tie.Need-same-length-2
 same-length-2 c = search needs
 
 returns-2 : tie.Need-returns-2
 returns-2 c =
-    let e = sym (c .before .answer2 .given .1) ∙ c .before .before .before .before .before .check .ensures .0 in
-    (ap countedNumber e, (c .before .before .before .before .before .check .ensures .1, ap (λ (a : Counted). countInto a (c .before .before .before .before .before .before .before .before .before .before .args .count .now)) e))
+    let e = sym (c .before .answer2 .given .1) ∙ c .before .before .before .before .before .check .ensures .0 .0 in
+    (ap countedNumber e, (c .before .before .before .before .before .check .ensures .0 .1, ap (λ (a : Counted). countInto a (c .before .before .before .before .before .before .before .before .before .before .args .count .now)) e))
 
 pub raxdov-ldpc-check-spec : {M : Type 1} → statement M
 raxdov-ldpc-check-spec =

@@ -19,16 +19,16 @@ same-length c = search needs
 
 returns : tie.Need-returns
 returns c =
-    let e = sym (c .before .answer .given .1) ∙ c .before .before .before .before .before .encode .ensures .0 in
-    (ap writtenNumber e, c .before .before .before .before .before .encode .ensures .1)
+    let e = sym (c .before .answer .given .1) ∙ c .before .before .before .before .before .encode .ensures .0 .0 in
+    (ap writtenNumber e, c .before .before .before .before .before .encode .ensures .0 .1)
 
 same-length-2 : tie.Need-same-length-2
 same-length-2 c = search needs
 
 returns-2 : tie.Need-returns-2
 returns-2 c =
-    let e = sym (c .enum-told .given .1) ∙ c .before .before .before .before .encode .ensures .0 in
-    (ap writtenNumber e, c .before .before .before .before .encode .ensures .1)
+    let e = sym (c .enum-told .given .1) ∙ c .before .before .before .before .encode .ensures .0 .0 in
+    (ap writtenNumber e, c .before .before .before .before .encode .ensures .0 .1)
 
 pub raxdov-ldpc-encode-spec : {M : Type 1} → statement M
 raxdov-ldpc-encode-spec =

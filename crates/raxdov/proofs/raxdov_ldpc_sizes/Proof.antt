@@ -2,7 +2,8 @@
 use mathlib.Core.Path.{sym, _∙_}
 use native.Mathlib.Omega.{arith}
 use borrow.Author.Needs.{needs}
-use Rattle.raxdov.proofs.Sizes.{small, sizes-refused, sizes-accepted}
+use Rattle.ldpc_shape.specs.Worked.{fits}
+use Rattle.raxdov.proofs.Sizes.{sizes-refused, sizes-accepted}
 use Rattle.raxdov.proofs.raxdov_ldpc_sizes.Statement.{statement}
 use Rattle.raxdov.proofs.raxdov_ldpc_sizes.Tie as tie
 
@@ -13,34 +14,34 @@ returns : tie.Need-returns
 returns c = (c .before .refusal .ensures, sizes-refused (c .before .before .before .before .args .n) (c .before .before .before .before .args .lens .now) (c .before .before .before .before .args .addrs .now) (c .before .before .before .before .args .sizes .now) (c .before .refusal .result) (c .before .refusal .ensures) (c .if1 .taken))
 
 cast-k : tie.Need-cast-k
-cast-k c = omega (arith, small (c .before .before .before .before .args .n) (c .before .before .before .before .args .lens .now) (c .before .before .before .before .args .addrs .now) (sym (c .before .refusal .ensures) ∙ c .if1 .left))
+cast-k c = omega (arith, fits (c .before .before .before .before .args .n) (c .before .before .before .before .args .lens .now) (c .before .before .before .before .args .addrs .now) (sym (c .before .refusal .ensures) ∙ c .if1 .left))
 
 mul-k : tie.Need-mul-k
-mul-k c = omega (arith, small (c .before .before .before .before .args .n) (c .before .before .before .before .args .lens .now) (c .before .before .before .before .args .addrs .now) (sym (c .before .refusal .ensures) ∙ c .if1 .left))
+mul-k c = omega (arith, fits (c .before .before .before .before .args .n) (c .before .before .before .before .args .lens .now) (c .before .before .before .before .args .addrs .now) (sym (c .before .refusal .ensures) ∙ c .if1 .left))
 
 sub-p : tie.Need-sub-p
-sub-p c = omega (arith, small (c .before .before .before .before .args .n) (c .before .before .before .before .args .lens .now) (c .before .before .before .before .args .addrs .now) (sym (c .before .refusal .ensures) ∙ c .if1 .left))
+sub-p c = omega (arith, fits (c .before .before .before .before .args .n) (c .before .before .before .before .args .lens .now) (c .before .before .before .before .args .addrs .now) (sym (c .before .refusal .ensures) ∙ c .if1 .left))
 
 cast-e : tie.Need-cast-e
-cast-e c = omega (arith, small (c .before .before .before .before .args .n) (c .before .before .before .before .args .lens .now) (c .before .before .before .before .args .addrs .now) (sym (c .before .refusal .ensures) ∙ c .if1 .left))
+cast-e c = omega (arith, fits (c .before .before .before .before .args .n) (c .before .before .before .before .args .lens .now) (c .before .before .before .before .args .addrs .now) (sym (c .before .refusal .ensures) ∙ c .if1 .left))
 
 mul-e : tie.Need-mul-e
-mul-e c = omega (arith, small (c .before .before .before .before .args .n) (c .before .before .before .before .args .lens .now) (c .before .before .before .before .args .addrs .now) (sym (c .before .refusal .ensures) ∙ c .if1 .left))
+mul-e c = omega (arith, fits (c .before .before .before .before .args .n) (c .before .before .before .before .args .lens .now) (c .before .before .before .before .args .addrs .now) (sym (c .before .refusal .ensures) ∙ c .if1 .left))
 
 mul-e-2 : tie.Need-mul-e-2
-mul-e-2 c = omega (arith, small (c .before .before .before .before .args .n) (c .before .before .before .before .args .lens .now) (c .before .before .before .before .args .addrs .now) (sym (c .before .refusal .ensures) ∙ c .if1 .left))
+mul-e-2 c = omega (arith, fits (c .before .before .before .before .args .n) (c .before .before .before .before .args .lens .now) (c .before .before .before .before .args .addrs .now) (sym (c .before .refusal .ensures) ∙ c .if1 .left))
 
 add-e : tie.Need-add-e
-add-e c = omega (arith, small (c .before .before .before .before .args .n) (c .before .before .before .before .args .lens .now) (c .before .before .before .before .args .addrs .now) (sym (c .before .refusal .ensures) ∙ c .if1 .left))
+add-e c = omega (arith, fits (c .before .before .before .before .args .n) (c .before .before .before .before .args .lens .now) (c .before .before .before .before .args .addrs .now) (sym (c .before .refusal .ensures) ∙ c .if1 .left))
 
 sub-e : tie.Need-sub-e
-sub-e c = omega (arith, small (c .before .before .before .before .args .n) (c .before .before .before .before .args .lens .now) (c .before .before .before .before .args .addrs .now) (sym (c .before .refusal .ensures) ∙ c .if1 .left))
+sub-e c = omega (arith, fits (c .before .before .before .before .args .n) (c .before .before .before .before .args .lens .now) (c .before .before .before .before .args .addrs .now) (sym (c .before .refusal .ensures) ∙ c .if1 .left))
 
 add-t14 : tie.Need-add-t14
-add-t14 c = omega (arith, small (c .before .before .before .before .args .n) (c .before .before .before .before .args .lens .now) (c .before .before .before .before .args .addrs .now) (sym (c .before .refusal .ensures) ∙ c .if1 .left))
+add-t14 c = omega (arith, fits (c .before .before .before .before .args .n) (c .before .before .before .before .args .lens .now) (c .before .before .before .before .args .addrs .now) (sym (c .before .refusal .ensures) ∙ c .if1 .left))
 
 add-t13 : tie.Need-add-t13
-add-t13 c = omega (arith, small (c .before .before .before .before .args .n) (c .before .before .before .before .args .lens .now) (c .before .before .before .before .args .addrs .now) (sym (c .before .refusal .ensures) ∙ c .if1 .left))
+add-t13 c = omega (arith, fits (c .before .before .before .before .args .n) (c .before .before .before .before .args .lens .now) (c .before .before .before .before .args .addrs .now) (sym (c .before .refusal .ensures) ∙ c .if1 .left))
 
 returns-2 : tie.Need-returns-2
 returns-2 c =

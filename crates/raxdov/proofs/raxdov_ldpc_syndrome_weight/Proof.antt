@@ -18,12 +18,12 @@ enum-known-answer-2 c = search needs
 
 returns : tie.Need-returns
 returns c =
-    let e = sym (c .before .answer .given .1) ∙ c .before .before .before .syndrome-weight .ensures in
+    let e = sym (c .before .answer .given .1) ∙ c .before .before .before .syndrome-weight .ensures .0 in
     (ap countedNumber e, ap (λ (a : Counted). countInto a (c .before .before .before .before .before .before .before .args .count .now)) e)
 
 returns-2 : tie.Need-returns-2
 returns-2 c =
-    let e = sym (c .before .answer2 .given .1) ∙ c .before .before .before .syndrome-weight .ensures in
+    let e = sym (c .before .answer2 .given .1) ∙ c .before .before .before .syndrome-weight .ensures .0 in
     (ap countedNumber e, ap (λ (a : Counted). countInto a (c .before .before .before .before .before .before .before .args .count .now)) e)
 
 pub raxdov-ldpc-syndrome-weight-spec : {M : Type 1} → statement M

@@ -1,7 +1,7 @@
 -- `raxdov::raxdov_quantise` meets its contract. Assumes nothing.
 use mathlib.Core.Path.{sym, ap, _∙_}
 use borrow.Author.Needs.{needs}
-use Rattle.raxdov.specs.Numbers.{quantisedNumber}
+use Rattle.quantise.specs.Soft.{quantisedNumber}
 use Rattle.raxdov.proofs.raxdov_quantise.Statement.{statement}
 use Rattle.raxdov.proofs.raxdov_quantise.Tie as tie
 
@@ -20,7 +20,7 @@ same-length c = search needs
 returns : tie.Need-returns
 returns c =
     let e = sym (c .enum-told .given .1) ∙ c .before .before .before .quantise .ensures .0 in
-    (ap quantisedNumber e, c .before .before .before .quantise .ensures .1)
+    (ap quantisedNumber e, c .before .before .before .quantise .ensures .1 .0)
 
 same-length-2 : tie.Need-same-length-2
 same-length-2 c = search needs
@@ -28,7 +28,7 @@ same-length-2 c = search needs
 returns-2 : tie.Need-returns-2
 returns-2 c =
     let e = sym (c .before .answer .given .1) ∙ c .before .before .before .before .quantise .ensures .0 in
-    (ap quantisedNumber e, c .before .before .before .before .quantise .ensures .1)
+    (ap quantisedNumber e, c .before .before .before .before .quantise .ensures .1 .0)
 
 pub raxdov-quantise-spec : {M : Type 1} → statement M
 raxdov-quantise-spec =
