@@ -89,11 +89,11 @@ module _ (plan : Plan) (lens addrs : List ℕ) (soft : List ℤ) (layers : Bool)
   the-demand : 0 < plan .lanes → Demand (words plan lens addrs soft layers step offset bound) (input-order (plan .words)) (plan .lanes) bound (theRun plan lens addrs soft layers step offset bound)
   the-demand some = demand-in-input-order (words plan lens addrs soft layers step offset bound) (plan .words) (plan .lanes) some bound
 
-  abbrev Ends : Book → Bool → ℕ → ℕ → Book → Type 0
-  Ends B₀ stopped rounds next B =
+  abbrev Finished : Book → Bool → ℕ → ℕ → Book → Type 0
+  Finished B₀ stopped rounds next B =
       Finishes (codeOf (plan .n) lens addrs) (iterate plan lens addrs soft layers step offset bound) plan soft (input-order (plan .words)) bound B₀ stopped rounds next B
 
-  module _ (B₀ : Book) (stopped : Bool) (rounds next : ℕ) (B : Book) (f : Ends B₀ stopped rounds next B) where
+  module _ (B₀ : Book) (stopped : Bool) (rounds next : ℕ) (B : Book) (f : Finished B₀ stopped rounds next B) where
     pub iterations-few : 0 < plan .lanes → plan .limit ≤ 65535 → (w : ℕ) → getD (B .iterations) w 0 ≤ 65535
     unfolding view
     iterations-few some h w =
@@ -116,21 +116,21 @@ module _ (plan : Plan) (lens addrs : List ℕ) (soft : List ℤ) (layers : Bool)
           input-length (plan .words),
         )
 
-  pub ends-so : (order′ : List ℕ) (iterate′ : Word → Word) (B₀ : Book) (stopped : Bool) (rounds next : ℕ) (B : Book) → order′ ≡ input-order (plan .words)
-      → iterate′ ≡ iterate plan lens addrs soft layers step offset bound → Finishes (codeOf (plan .n) lens addrs) iterate′ plan soft order′ bound B₀ stopped rounds next B → Ends B₀ stopped rounds next B
-  ends-so order′ iterate′ B₀ stopped rounds next B e f c = subst₂ (λ (o : List ℕ) (g : Word → Word). Finishes (codeOf (plan .n) lens addrs) g plan soft o bound B₀ stopped rounds next B) e f c
+  pub finished-so : (order′ : List ℕ) (iterate′ : Word → Word) (B₀ : Book) (stopped : Bool) (rounds next : ℕ) (B : Book) → order′ ≡ input-order (plan .words)
+      → iterate′ ≡ iterate plan lens addrs soft layers step offset bound → Finishes (codeOf (plan .n) lens addrs) iterate′ plan soft order′ bound B₀ stopped rounds next B → Finished B₀ stopped rounds next B
+  finished-so order′ iterate′ B₀ stopped rounds next B e f c = subst₂ (λ (o : List ℕ) (g : Word → Word). Finishes (codeOf (plan .n) lens addrs) g plan soft o bound B₀ stopped rounds next B) e f c
 
   -- what the run over the words gives
   pub record Decoded (out out′ : List ℕ) (r : Ran) : Type 0 where
     pub number : r .refusal ≡ 0
     pub words-are : r .words ≡ plan .words
-    pub runs : Ends (zeroBook 4096 out) (r .stopped) (r .rounds) (r .loaded) (book (r .state) (r .iterations) (r .unsatisfied) (r .check) (r .bch) out′)
+    pub runs : Finished (zeroBook 4096 out) (r .stopped) (r .rounds) (r .loaded) (book (r .state) (r .iterations) (r .unsatisfied) (r .check) (r .bch) out′)
     pub given-are : r .given ≡ givenIn (r .iterations) (plan .words)
     pub kept-are : r .kept ≡ keptIn (r .state) (r .bch) (plan .words)
     pub lost-are : r .lost ≡ lostIn (r .state) (r .bch) (plan .words)
 
   module _ (some : 0 < plan .lanes) (out out′ : List ℕ) (r : Ran) (c : Decoded out out′ r) where
-    abbrev f : Ends (zeroBook 4096 out) (r .stopped) (r .rounds) (r .loaded) (book (r .state) (r .iterations) (r .unsatisfied) (r .check) (r .bch) out′)
+    abbrev f : Finished (zeroBook 4096 out) (r .stopped) (r .rounds) (r .loaded) (book (r .state) (r .iterations) (r .unsatisfied) (r .check) (r .bch) out′)
     f = c .runs
 
     abbrev seen : ℕ → View

@@ -51,7 +51,7 @@ over-state false e = absurd (omega (arith, e))
 
 module _ (n : ℕ) (lens addrs : List ℕ) where
   -- an accepted run of the code: its words, its settings, the slices before and after it, and what it gave
-  pub record Run : Type 0 where
+  pub record Accepted-run : Type 0 where
     pub soft : List ℤ
     pub set : Settings
     pub room : ℕ
@@ -66,29 +66,29 @@ module _ (n : ℕ) (lens addrs : List ℕ) where
     pub accepted : runRefusal n lens addrs soft set room out work index ≡ 0
 
   -- what a run says of word w: its record's fields and its bits
-  abbrev pub says : Run → ℕ → View
+  abbrev pub says : Accepted-run → ℕ → View
   says A w = view n (book (A .ran .state) (A .ran .iterations) (A .ran .unsatisfied) (A .ran .check) (A .ran .bch) (A .out′)) w
 
   -- one iteration of a word by the run's settings; word w's iterations at its end alone, its values then, and its outcome alone
-  abbrev pub iterate : Settings → Word → Word
-  iterate set = iterationOf (isLayered (set .schedule)) (stepOf (set .schedule)) (set .offset) (codeOf n lens addrs) (pOf n lens)
+  abbrev pub iterateBy : Settings → Word → Word
+  iterateBy set = iterationOf (isLayered (set .schedule)) (stepOf (set .schedule)) (set .offset) (codeOf n lens addrs) (pOf n lens)
 
   abbrev pub atEnd : Settings → List ℤ → ℕ
-  atEnd set own = ends (begin n own) (iterate set) (metOf (codeOf n lens addrs) (pOf n lens)) (set .limit)
+  atEnd set own = ends (begin n own) (iterateBy set) (metOf (codeOf n lens addrs) (pOf n lens)) (set .limit)
 
   abbrev pub aloneBy : Settings → List ℤ → Outcome
-  aloneBy set own = alone (codeOf n lens addrs) n (pOf n lens) (iterate set) (set .limit) (set .first) (set .length) own
+  aloneBy set own = alone (codeOf n lens addrs) n (pOf n lens) (iterateBy set) (set .limit) (set .first) (set .length) own
 
-  accepts : (A : Run) → Accepts (planOf n lens (A .soft) (A .set)) lens addrs (A .soft) (isLayered (A .set .schedule)) (stepOf (A .set .schedule)) (A .set .offset) (A .set .rounds) (A .out) (A .out′) (A .work) (A .work′) (A .index) (A .index′) (A .ran)
+  accepts : (A : Accepted-run) → Accepts (planOf n lens (A .soft) (A .set)) lens addrs (A .soft) (isLayered (A .set .schedule)) (stepOf (A .set .schedule)) (A .set .offset) (A .set .rounds) (A .out) (A .out′) (A .work) (A .work′) (A .index) (A .index′) (A .ran)
   accepts A = A .runs .accepted (A .accepted)
 
   -- a finished word has its outcome alone
-  pub finished-alone : (A : Run) (w : ℕ) → isFinished (says A w .state) ≡ true → outcomeIn (says A w) ≡ aloneBy (A .set) (ownPart n w (A .soft))
+  pub finished-alone : (A : Accepted-run) (w : ℕ) → isFinished (says A w .state) ≡ true → outcomeIn (says A w) ≡ aloneBy (A .set) (ownPart n w (A .soft))
   finished-alone A w f = at (status (theRun (planOf n lens (A .soft) (A .set)) lens addrs (A .soft) (isLayered (A .set .schedule)) (stepOf (A .set .schedule)) (A .set .offset) (A .set .rounds) .last) w) (accepts A .told w) (accepts A .demanded w)
     where
       at : (st : Status Word)
           → Tells (codeOf n lens addrs) n (pOf n lens) (A .set .first) (A .set .length) (ownPart n w (A .out)) st (says A w)
-          → Demanded (codeOf n lens addrs) (iterate (A .set)) n (pOf n lens) (A .set .limit) (A .set .first) (A .set .length) (A .soft) (ownPart n w (A .out)) w st (says A w)
+          → Demanded (codeOf n lens addrs) (iterateBy (A .set)) n (pOf n lens) (A .set .limit) (A .set .first) (A .set .length) (A .soft) (ownPart n w (A .out)) w st (says A w)
           → outcomeIn (says A w) ≡ aloneBy (A .set) (ownPart n w (A .soft))
       at waiting t d = absurd (not-finished 0 (omega arith) (ap isFinished (sym (ap (λ (v : View). v .state) t)) ∙ f))
       at (holding x i) t d = absurd (not-finished 1 (omega arith) (ap isFinished (sym (t .state)) ∙ f))
@@ -96,7 +96,7 @@ module _ (n : ℕ) (lens addrs : List ℕ) where
 
   -- The first question: two accepted runs of a code with the same settings of a word, whatever their other words, lane counts and round limits. Where both
   -- finish a word with the same soft values, they give it the same bits, state, iterations, unsatisfied checks and BCH result.
-  pub independent : (A B : Run) → Same-settings (A .set) (B .set) → (v w : ℕ) → ownPart n v (A .soft) ≡ ownPart n w (B .soft)
+  pub independent : (A B : Accepted-run) → Same-settings (A .set) (B .set) → (v w : ℕ) → ownPart n v (A .soft) ≡ ownPart n w (B .soft)
       → isFinished (says A v .state) ≡ true → isFinished (says B w .state) ≡ true → outcomeIn (says A v) ≡ outcomeIn (says B w)
   independent A B S v w e f g = finished-alone A v f ∙ same-alone (A .set) (B .set) S (ownPart n v (A .soft)) (ownPart n w (B .soft)) e ∙ sym (finished-alone B w g)
     where
@@ -109,24 +109,24 @@ module _ (n : ℕ) (lens addrs : List ℕ) where
   partOf set bits = take (set .length) (drop (set .first) bits)
 
   abbrev pub bitsAlone : Settings → List ℤ → List ℕ
-  bitsAlone set own = bitsOf n (after (begin n own) (iterate set) (atEnd set own))
+  bitsAlone set own = bitsOf n (after (begin n own) (iterateBy set) (atEnd set own))
 
   outcome-alone : (set : Settings) (own : List ℤ) → (aloneBy set own .bch ≡ bchOf (set .first) (set .length) (bitsAlone set own)) × (aloneBy set own .bits ≡ corrected (set .first) (set .length) (bitsAlone set own))
   unfolding alone outcomeOf
   outcome-alone set own = (refl, refl)
 
-  fits : (A : Run) (x : Word) → Part (A .set .first) (A .set .length) (bitsOf n x)
+  fits : (A : Accepted-run) (x : Word) → Part (A .set .first) (A .set .length) (bitsOf n x)
   unfolding runRefusal
   fits A x =
       let a = accepted n lens addrs (askedOf (A .set)) (lentOf (A .soft) (A .room) (A .out) (A .work) (A .index)) (A .accepted) in
       record { inside = subst (λ m. A .set .first + A .set .length ≤ m) (sym (bits-length n x)) (a .part-within); least = a .part-long; most = a .part-short }
 
-  module _ (A : Run) (w : ℕ) (f : isFinished (says A w .state) ≡ true) where
+  module _ (A : Accepted-run) (w : ℕ) (f : isFinished (says A w .state) ≡ true) where
     abbrev own : List ℤ
     own = ownPart n w (A .soft)
 
     part : Part (A .set .first) (A .set .length) (bitsAlone (A .set) own)
-    part = fits A (after (begin n own) (iterate (A .set)) (atEnd (A .set) own))
+    part = fits A (after (begin n own) (iterateBy (A .set)) (atEnd (A .set) own))
 
     result : says A w .bch ≡ bchOf (A .set .first) (A .set .length) (bitsAlone (A .set) own)
     result = ap (λ (o : Outcome). o .bch) (finished-alone A w f) ∙ outcome-alone (A .set) own .0
@@ -158,9 +158,9 @@ module _ (n : ℕ) (lens addrs : List ℕ) where
         )
 
   -- a held word: its bits and its unsatisfied checks are those alone after its recorded iterations, which are fewer than those at its end
-  pub held-alone : (A : Run) (w : ℕ) → says A w .state ≡ 1
-      → (says A w .bits ≡ bitsOf n (after (begin n (ownPart n w (A .soft))) (iterate (A .set)) (says A w .iterations)))
-      × (says A w .unsatisfied ≡ unmetOf (codeOf n lens addrs) (pOf n lens) (after (begin n (ownPart n w (A .soft))) (iterate (A .set)) (says A w .iterations)))
+  pub held-alone : (A : Accepted-run) (w : ℕ) → says A w .state ≡ 1
+      → (says A w .bits ≡ bitsOf n (after (begin n (ownPart n w (A .soft))) (iterateBy (A .set)) (says A w .iterations)))
+      × (says A w .unsatisfied ≡ unmetOf (codeOf n lens addrs) (pOf n lens) (after (begin n (ownPart n w (A .soft))) (iterateBy (A .set)) (says A w .iterations)))
       × (says A w .iterations < atEnd (A .set) (ownPart n w (A .soft)))
   unfolding wordsOf outcomeOf
   held-alone A w s = at (status (theRun (planOf n lens (A .soft) (A .set)) lens addrs (A .soft) (isLayered (A .set .schedule)) (stepOf (A .set .schedule)) (A .set .offset) (A .set .rounds) .last) w)
@@ -168,15 +168,15 @@ module _ (n : ℕ) (lens addrs : List ℕ) where
     where
       at : (st : Status Word)
           → Tells (codeOf n lens addrs) n (pOf n lens) (A .set .first) (A .set .length) (ownPart n w (A .out)) st (says A w)
-          → Demanded (codeOf n lens addrs) (iterate (A .set)) n (pOf n lens) (A .set .limit) (A .set .first) (A .set .length) (A .soft) (ownPart n w (A .out)) w st (says A w)
-          → As-alone (wordsOf (codeOf n lens addrs) (iterate (A .set)) n (pOf n lens) (A .set .limit) (A .soft)) w st
-          → (says A w .bits ≡ bitsOf n (after (begin n (ownPart n w (A .soft))) (iterate (A .set)) (says A w .iterations)))
-          × (says A w .unsatisfied ≡ unmetOf (codeOf n lens addrs) (pOf n lens) (after (begin n (ownPart n w (A .soft))) (iterate (A .set)) (says A w .iterations)))
+          → Demanded (codeOf n lens addrs) (iterateBy (A .set)) n (pOf n lens) (A .set .limit) (A .set .first) (A .set .length) (A .soft) (ownPart n w (A .out)) w st (says A w)
+          → As-alone (wordsOf (codeOf n lens addrs) (iterateBy (A .set)) n (pOf n lens) (A .set .limit) (A .soft)) w st
+          → (says A w .bits ≡ bitsOf n (after (begin n (ownPart n w (A .soft))) (iterateBy (A .set)) (says A w .iterations)))
+          × (says A w .unsatisfied ≡ unmetOf (codeOf n lens addrs) (pOf n lens) (after (begin n (ownPart n w (A .soft))) (iterateBy (A .set)) (says A w .iterations)))
           × (says A w .iterations < atEnd (A .set) (ownPart n w (A .soft)))
       at waiting t d a = let z : says A w .state ≡ 0 = ap (λ (v : View). v .state) t in absurd (omega (arith, z, s))
       at (holding x i) t d a = (
         d .bits,
-        t .unsatisfied ∙ ap (unmetOf (codeOf n lens addrs) (pOf n lens)) (a .0 ∙ ap (after (begin n (ownPart n w (A .soft))) (iterate (A .set))) (sym (t .iterations))),
+        t .unsatisfied ∙ ap (unmetOf (codeOf n lens addrs) (pOf n lens)) (a .0 ∙ ap (after (begin n (ownPart n w (A .soft))) (iterateBy (A .set))) (sym (t .iterations))),
         d .fewer,
       )
       at (done x i) t d a = absurd (over-state (metOf (codeOf n lens addrs) (pOf n lens) x) (sym (ap (λ (o : Outcome). o .state) (t .outcome)) ∙ s))

@@ -3,7 +3,7 @@ use mathlib.Core.Path.{_≡_, refl, sym, ap, _∙_, transport}
 use mathlib.Core.Logic.{_≢_}
 use mathlib.Core.Bool.{Bool, false, _&&_}
 use mathlib.Core.List.{List}
-use Prim.Native.Nat.{ℕ, _+_, _*_, _/_, _<_}
+use Prim.Native.Nat.{ℕ, _+_, _*_, _<_}
 use native.Mathlib.Nat.{div-add-mod'}
 use native.Mathlib.Omega.{arith}
 use borrow.Author.Tests.{eqb-false}
@@ -14,27 +14,18 @@ use Rattle.ldpc_shape.specs.Shape.{pOf, eOf}
 use Rattle.ldpc_shape.specs.Accepted as shape
 use Rattle.decoder_refuse.specs.Refusal.{badStep, refusalOf, workNeed}
 use Rattle.decoder_refuse.specs.Accepted.{Accepted, accepted}
-use Rattle.decoder_refuse.specs.declared.Asked.{Asked}
-use Rattle.decoder_words.specs.declared.Plan.{Plan}
 use Rattle.decoder_iterate.specs.Iterate.{Stepped}
-use Rattle.decoder.specs.Settings.{isLayered, stepOf, lentOf, runRefusal, nothing}
+use Rattle.decoder.specs.Settings.{isLayered, stepOf, askedBy, lentOf, runRefusal, nothing, planBy}
 use Rattle.decoder.specs.Runs.{Accepts, Runs}
 use Rattle.decoder.specs.Accept.{Planned}
 use Rattle.decoder.specs.declared.Ran.{Ran}
 use Rattle.decoder.specs.declared.Settings.{Settings}
 
 module _ (n : ℕ) (lens addrs : List ℕ) (soft : List ℤ) (set : Settings) (room : ℕ) (out : List ℕ) (work : List ℤ) (index : List ℕ) where
-  -- the settings as they are asked, with the schedule taken apart
-  abbrev pub askedBy : Bool → ℕ → Asked
-  askedBy layers step = record { lanes = set .lanes; limit = set .limit; layered = layers; step = step; first = set .first; length = set .length }
-
-  abbrev pub planBy : ℕ → Plan
-  planBy p = record { n = n; p = p; lanes = set .lanes; limit = set .limit; first = set .first; size = set .length; words = length soft / n }
-
   pub refusal-is : (f : ℕ) (layers : Bool) (step : ℕ) → layers ≡ isLayered (set .schedule) → step ≡ stepOf (set .schedule)
-      → f ≡ refusalOf n lens addrs (askedBy layers step) (lentOf soft room out work index) → f ≡ runRefusal n lens addrs soft set room out work index
+      → f ≡ refusalOf n lens addrs (askedBy set layers step) (lentOf soft room out work index) → f ≡ runRefusal n lens addrs soft set room out work index
   unfolding runRefusal
-  refusal-is f layers step a b e = e ∙ (λ i. refusalOf n lens addrs (askedBy (a i) (b i)) (lentOf soft room out work index))
+  refusal-is f layers step a b e = e ∙ (λ i. refusalOf n lens addrs (askedBy set (a i) (b i)) (lentOf soft room out work index))
 
   pub refused-so : (f : ℕ) (r : Ran) → r ≡ nothing f → f ≡ runRefusal n lens addrs soft set room out work index → f ≢ 0 → Runs n lens addrs soft set room out out work work index index r
   refused-so f r e is some =
@@ -46,9 +37,9 @@ module _ (n : ℕ) (lens addrs : List ℕ) (soft : List ℤ) (set : Settings) (r
         accepted = λ z. absurd (some (is ∙ z));
       }
 
-  module _ (layers : Bool) (step : ℕ) (none : refusalOf n lens addrs (askedBy layers step) (lentOf soft room out work index) ≡ 0) where
-    fine : Accepted n lens addrs (askedBy layers step) (lentOf soft room out work index)
-    fine = accepted n lens addrs (askedBy layers step) (lentOf soft room out work index) none
+  module _ (layers : Bool) (step : ℕ) (none : refusalOf n lens addrs (askedBy set layers step) (lentOf soft room out work index) ≡ 0) where
+    fine : Accepted n lens addrs (askedBy set layers step) (lentOf soft room out work index)
+    fine = accepted n lens addrs (askedBy set layers step) (lentOf soft room out work index) none
 
     pub code-fine : shape.Accepted n lens addrs
     code-fine = shape.accepted n lens addrs (fine .code)
@@ -56,7 +47,7 @@ module _ (n : ℕ) (lens addrs : List ℕ) (soft : List ℤ) (set : Settings) (r
     pub n-some : 0 < n
     n-some = omega (arith, code-fine .rows)
 
-    pub planned : (p e : ℕ) → p ≡ pOf n lens → e ≡ eOf n lens addrs → Planned (planBy p) e lens addrs soft out work index
+    pub planned : (p e : ℕ) → p ≡ pOf n lens → e ≡ eOf n lens addrs → Planned (planBy n soft set p) e lens addrs soft out work index
     unfolding workNeed
     planned p e a b =
         let c = fine in
@@ -82,13 +73,13 @@ module _ (n : ℕ) (lens addrs : List ℕ) (soft : List ℤ) (set : Settings) (r
         }
 
     pub accepted-so : (p : ℕ) (offset : ℤ) (out′ : List ℕ) (work′ : List ℤ) (index′ : List ℕ) (r : Ran) → p ≡ pOf n lens → layers ≡ isLayered (set .schedule) → step ≡ stepOf (set .schedule) → offset ≡ set .offset
-        → Accepts (planBy p) lens addrs soft layers step offset (set .rounds) out out′ work work′ index index′ r → Runs n lens addrs soft set room out out′ work work′ index index′ r
+        → Accepts (planBy n soft set p) lens addrs soft layers step offset (set .rounds) out out′ work work′ index index′ r → Runs n lens addrs soft set room out out′ work work′ index index′ r
     accepted-so p offset out′ work′ index′ r a l s o c =
         record {
           words-le = omega (arith, c .words-are, fine .few-words);
           words-room = omega (arith, c .words-are, fine .room-fits);
           refused = λ z. absurd (z (sym (refusal-is 0 layers step l s (sym none))));
-          accepted = λ _. transport (λ i. Accepts (planBy (a i)) lens addrs soft (l i) (s i) (o i) (set .rounds) out out′ work work′ index index′ r) c;
+          accepted = λ _. transport (λ i. Accepts (planBy n soft set (a i)) lens addrs soft (l i) (s i) (o i) (set .rounds) out out′ work work′ index index′ r) c;
         }
 
     -- a layered schedule has a step

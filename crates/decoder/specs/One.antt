@@ -114,20 +114,20 @@ module _ (plan : Plan) (lens addrs : List ℕ) (soft : List ℤ) (set : Settings
       }
 
 -- "Two different answers or memories allowed for one input": none, but for the named check
-pub record Alike (r₁ r₂ : Ran) (out₁ out₂ : List ℕ) (work₁ work₂ : List ℤ) (index₁ index₂ : List ℕ) : Type 0 where
+pub record Alike-runs (r₁ r₂ : Ran) (out₁ out₂ : List ℕ) (work₁ work₂ : List ℤ) (index₁ index₂ : List ℕ) : Type 0 where
   pub figures : unnamed r₁ ≡ unnamed r₂
   pub bits : out₁ ≡ out₂
   pub work : work₁ ≡ work₂
   pub index : index₁ ≡ index₂
 
 pub one-run : {n : ℕ} {lens addrs : List ℕ} {soft : List ℤ} {set : Settings} {room : ℕ} {out out₁ out₂ : List ℕ} {work work₁ work₂ : List ℤ} {index index₁ index₂ : List ℕ} {r₁ r₂ : Ran}
-    → Runs n lens addrs soft set room out out₁ work work₁ index index₁ r₁ → Runs n lens addrs soft set room out out₂ work work₂ index index₂ r₂ → Alike r₁ r₂ out₁ out₂ work₁ work₂ index₁ index₂
+    → Runs n lens addrs soft set room out out₁ work work₁ index index₁ r₁ → Runs n lens addrs soft set room out out₂ work work₂ index index₂ r₂ → Alike-runs r₁ r₂ out₁ out₂ work₁ work₂ index₁ index₂
 one-run {n} {lens} {addrs} {soft} {set} {room} {out} {out₁} {out₂} {work} {work₁} {work₂} {index} {index₁} {index₂} {r₁} {r₂} R₁ R₂ = at (ℕ-discrete (runRefusal n lens addrs soft set room out work index) 0)
   where
     some : runRefusal n lens addrs soft set room out work index ≡ 0 → 0 < n
     some e = unfold runRefusal in n-some n lens addrs soft set room out work index (isLayered (set .schedule)) (stepOf (set .schedule)) e
 
-    at : Dec (runRefusal n lens addrs soft set room out work index ≡ 0) → Alike r₁ r₂ out₁ out₂ work₁ work₂ index₁ index₂
+    at : Dec (runRefusal n lens addrs soft set room out work index ≡ 0) → Alike-runs r₁ r₂ out₁ out₂ work₁ work₂ index₁ index₂
     at (yes e) =
         let a = R₁ .accepted e in
         let b = R₂ .accepted e in

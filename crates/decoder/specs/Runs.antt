@@ -10,13 +10,13 @@ use lib.ListN.{length, getD, drop, replicate}
 use Rattle.lane_math.specs.Check.{Word}
 use Rattle.ldpc_shape.specs.Shape.{eOf}
 use Rattle.fixed_code.specs.Code.{codeOf}
-use Rattle.schedule.specs.Run.{Words, Result, is-stopped, held, run, input-order}
+use Rattle.schedule.specs.Run.{Words, Result, is-stopped, held, input-order}
 use Rattle.schedule.specs.Status.{waiting, status, largest}
 use Rattle.schedule.specs.Demand.{Demand}
 use Rattle.decoder_refuse.specs.Refusal.{workNeed, indexNeed}
 use Rattle.decoder_words.specs.Book.{book, view, ownPart}
 use Rattle.decoder_words.specs.Tells.{Tells}
-use Rattle.decoder_words.specs.Given.{wordsOf}
+use Rattle.decoder_words.specs.Given.{wordsOf, runOf}
 use Rattle.decoder_words.specs.declared.Plan.{Plan}
 use Rattle.decoder_iterate.specs.Iterate.{iterationOf}
 use Rattle.decoder_tally.specs.Tally.{givenIn, keptIn, lostIn}
@@ -38,7 +38,7 @@ module _ (plan : Plan) (lens addrs : List ℕ) (soft : List ℤ) (layers : Bool)
   order = input-order (plan .words)
 
   abbrev pub theRun : Result Word
-  theRun = run words order (plan .lanes) bound
+  theRun = runOf (codeOf (plan .n) lens addrs) iterate plan soft order bound
 
   pub record Accepts (out out′ : List ℕ) (work work′ : List ℤ) (index index′ : List ℕ) (r : Ran) : Type 0 where
     pub number : r .refusal ≡ 0

@@ -23,8 +23,12 @@ abbrev pub stepOf : Schedule → ℕ
 stepOf Sequential = 0
 stepOf (Layered step) = step
 
+-- what a refusal is asked of, with the schedule taken apart, and whole
+abbrev pub askedBy : Settings → Bool → ℕ → Asked
+askedBy set layers step = record { lanes = set .lanes; limit = set .limit; layered = layers; step = step; first = set .first; length = set .length }
+
 abbrev pub askedOf : Settings → Asked
-askedOf set = record { lanes = set .lanes; limit = set .limit; layered = isLayered (set .schedule); step = stepOf (set .schedule); first = set .first; length = set .length }
+askedOf set = askedBy set (isLayered (set .schedule)) (stepOf (set .schedule))
 
 abbrev pub lentOf : List ℤ → ℕ → List ℕ → List ℤ → List ℕ → Lent
 lentOf soft room out work index = record { soft = length soft; room = room; out = length out; work = length work; index = length index }
@@ -52,7 +56,10 @@ nothing number =
       bch = replicate 4096 0;
     }
 
--- what an accepted run goes by
+-- what an accepted run goes by, with p worked out, and with the code's
+abbrev pub planBy : ℕ → List ℤ → Settings → ℕ → Plan
+planBy n soft set p =
+    record { n = n; p = p; lanes = set .lanes; limit = set .limit; first = set .first; size = set .length; words = length soft / n }
+
 abbrev pub planOf : ℕ → List ℕ → List ℤ → Settings → Plan
-planOf n lens soft set =
-    record { n = n; p = pOf n lens; lanes = set .lanes; limit = set .limit; first = set .first; size = set .length; words = length soft / n }
+planOf n lens soft set = planBy n soft set (pOf n lens)

@@ -10,14 +10,14 @@ use lib.Dec.{T}
 use lib.IntN.{ℤ}
 use lib.ListN.{getD, length, drop, drop-of-length-le}
 use Rattle.lane_math.specs.Check.{Word}
-use Rattle.lane_math.specs.Iteration.{Code, hard}
+use Rattle.lane_math.specs.Iteration.{Code, hard, unsatisfiedCount}
 use Rattle.lane_memory.specs.Column.{column}
 use Rattle.simd.specs.Words.{within, wordOf, word}
 use Rattle.fixed_code.specs.Lists.{edgesIn, codeIn, Memory}
+use Rattle.fixed_code.specs.Count.{Counted}
 use Rattle.fixed_lanes.specs.Read.{decisions}
-use Rattle.fixed_syndrome.specs.Count as syndrome
+use Rattle.fixed_syndrome.specs.Count.{CountedLanes}
 use Rattle.outcome.specs.Outcome.{bitsFrom, bitsOf, unmetOf, metOf}
-use Rattle.outcome.specs.Scan.{Counted}
 use Rattle.decoder_words.specs.Given.{Fair}
 use Rattle.decoder_words.specs.declared.Plan.{Plan}
 
@@ -47,10 +47,6 @@ lane-bits n E lanes l work part part′ e s =
     e ∙ ap (λ r. decisions (within n (column lanes work l)) 0 n ++ r) (drop-of-length-le part h) ∙ append-nil _
     ∙ decisions-are (wordOf n E (column lanes work l)) 0 n
 
-lane-counted : (code : Code) (p : ℕ) (x : Word) (count check : ℕ) → syndrome.Counted code p (x .L) count check → Counted code p x count check
-unfolding unmetOf
-lane-counted code p x count check k = record { all = k .count-is; named = record { some = k .named .one; none = k .named .none } }
-
 -- If asked, each lane's count and check are those of its own word, and 0 past the last lane; else all are 0.
 pub record CountsOf (plan : Plan) (index : List ℕ) (work : List ℤ) (asked : Bool) (counts checks : List ℕ) : Type 0 where
   pub lane : asked ≡ true → (l : ℕ) → l < plan .lanes → Counted (laneCode plan index) (plan .p) (laneWord plan index work l) (getD counts l 0) (getD checks l 0)
@@ -58,10 +54,10 @@ pub record CountsOf (plan : Plan) (index : List ℕ) (work : List ℤ) (asked : 
   pub none : asked ≡ false → (l : ℕ) → l < 64 → (getD counts l 0 ≡ 0) × (getD checks l 0 ≡ 0)
 
 pub counts-asked : {plan : Plan} {index : List ℕ} {work : List ℤ} {asked : Bool} {counts checks : List ℕ} → asked ≡ true
-    → syndrome.CountedLanes (plan .n) (plan .p) (plan .lanes) index work counts checks → CountsOf plan index work asked counts checks
+    → CountedLanes (plan .n) (plan .p) (plan .lanes) index work counts checks → CountsOf plan index work asked counts checks
 counts-asked {plan} {index} {work} {asked} {counts} {checks} e k =
     record {
-      lane = λ _ l q. lane-counted (laneCode plan index) (plan .p) (laneWord plan index work l) (getD counts l 0) (getD checks l 0) (k .lane l q);
+      lane = λ _. k .lane;
       past = λ _. k .past;
       none = λ f. absurd (subst T (sym e ∙ f) tt);
     }
@@ -72,9 +68,9 @@ counts-none e f g = record { lane = λ h. absurd (subst T (sym h ∙ e) tt); pas
 
 -- a word that is met leaves none, and names 0
 pub met-counted : (code : Code) (p : ℕ) (x : Word) → metOf code p x ≡ true → Counted code p x 0 0
-unfolding metOf
+unfolding metOf unmetOf
 met-counted code p x e =
-    let z = eqb-true (unmetOf code p x) 0 e in
+    let z = eqb-true (unsatisfiedCount code p (x .L)) 0 e in
     record { all = sym z; named = record { some = λ h. absurd (omega (arith, h, z)); none = λ _. refl } }
 
 module _ (plan : Plan) (index : List ℕ) (work : List ℤ) (G : Working plan index work) where

@@ -6,11 +6,11 @@ ghost use mathlib.Core.Bool.{_||_, _&&_, not, false};
 ghost use Prim.Native.Nat.{_+_, _≤_, _<_};
 ghost use lib.Dec.{eqb};
 ghost use lib.ListN.{getD};
-ghost use Rattle.schedule.specs.Lanes.{Sized};
+ghost use Rattle.schedule.specs.Lanes.{Sized, anyOf, any-held};
 ghost use Rattle.decoder_words.specs.Book.{book, Room};
 ghost use Rattle.decoder_lanes.specs.Lane.{Working, laneWord, laneCode};
 ghost use Rattle.decoder_retire.specs.Retire.{Readied, Judged, Retires};
-ghost use Rattle.decoder_retire.specs.Counts.{anyOf, dueAt, heldAt, Tallied, CountedHeld};
+ghost use Rattle.decoder_retire.specs.Counts.{dueAt, Tallied, CountedHeld};
 ghost use Rattle.decoder_retire.specs.Close.{Closes};
 use decoder_assign::Lanes;
 use decoder_words::Plan;
@@ -223,7 +223,7 @@ fn write_held(
 // Whether a lane is held.
 fn some_held(held: [u32; 64], lanes: usize) -> bool
     requires { ⌜ lanes ≤ 64 ⌝ }
-    ensures { λ r. ⌜ r ≡ anyOf (heldAt held) lanes ⌝ }
+    ensures { λ r. ⌜ r ≡ any-held held lanes ⌝ }
 {
     let mut any = false;
     let mut l: usize = 0;

@@ -18,10 +18,10 @@ use Rattle.ldpc_shape.specs.Accepted.{accepted, p-le}
 use Rattle.fixed_code.specs.Lists.{memory-to, edgesIn}
 use Rattle.fixed_code.specs.Code.{lists-at}
 use Rattle.fixed_syndrome.specs.Met.{Met}
-use Rattle.schedule.specs.Run.{Result, run}
+use Rattle.schedule.specs.Run.{Result}
 use Rattle.schedule.specs.Run as schedule
 use Rattle.schedule.specs.Status.{Status, waiting, holding, done, status, count}
-use Rattle.schedule.specs.Lanes.{Setup, Sized}
+use Rattle.schedule.specs.Lanes.{Setup, Sized, heldAt}
 use Rattle.schedule.specs.Refill.{Assigned, fresh}
 use Rattle.schedule.specs.Round.{advanced}
 use Rattle.schedule.specs.Close.{told, close-start, close-end, loaded-are}
@@ -29,7 +29,7 @@ use Rattle.schedule.specs.Loop.{is-stopped, Going, Pausing, Runs, going-start, 
 use Rattle.outcome.specs.Outcome.{begin, metOf, unmetOf}
 use Rattle.decoder_words.specs.Book.{Book, view, ownPart, Same, same-refl, same-on}
 use Rattle.decoder_words.specs.Tells.{untouched, Tells}
-use Rattle.decoder_words.specs.Given.{Given, wordsOf, setup}
+use Rattle.decoder_words.specs.Given.{Given, wordsOf, runOf, setup}
 use Rattle.decoder_words.specs.declared.Plan.{Plan}
 use Rattle.decoder_assign.specs.Assign.{Ordered, Tale, Assigns}
 use Rattle.decoder_lanes.specs.Lane.{Working, laneWord, laneCode}
@@ -190,7 +190,7 @@ pub record Advances (iterate : Word → Word) (plan : Plan) (index : List ℕ) (
 
 -- which lanes are held, as bools
 abbrev pub Flags : List ℕ → List Bool → Type 0
-Flags held flags = (l : ℕ) → l < 64 → getD flags l false ≡ not (eqb (getD held l 0) 0)
+Flags held flags = (l : ℕ) → l < 64 → getD flags l false ≡ heldAt held l
 
 -- a verdict for each held lane, of its own word
 pub judged : (plan : Plan) (index : List ℕ) (work : List ℤ) (held : List ℕ) (flags verdict : List Bool) → plan .lanes ≤ 64 → Flags held flags
@@ -202,31 +202,30 @@ judged plan index work held flags verdict few f m l h n =
 
 pub record Flagging (held : List ℕ) (l : ℕ) (flags : List Bool) : Type 0 where
   pub size : length flags ≡ 64
-  pub below : (k : ℕ) → k < l → getD flags k false ≡ not (eqb (getD held k 0) 0)
+  pub below : (k : ℕ) → k < l → getD flags k false ≡ heldAt held k
 
-pub flagging-again : (held : List ℕ) (l : ℕ) (flags : List Bool) (b : Bool) → l < 64 → b ≡ not (eqb (getD held l 0) 0) → Flagging held l flags → Flagging held (l + 1) (set flags l b)
+pub flagging-again : (held : List ℕ) (l : ℕ) (flags : List Bool) (b : Bool) → l < 64 → b ≡ heldAt held l → Flagging held l flags → Flagging held (l + 1) (set flags l b)
 flagging-again held l flags b h e v =
     record {
       size = length-set flags l b ∙ v .size;
       below =
-          below-more (λ k. getD (set flags l b) k false ≡ not (eqb (getD held k 0) 0)) l
+          below-more (λ k. getD (set flags l b) k false ≡ heldAt held k) l
           (λ k q. getD-set-other flags l k b false (λ z. omega arith) ∙ v .below k q)
           (getD-set-same flags l b false (omega (arith, v .size)) ∙ e);
     }
 
 -- ---- the whole run
 module _ (code : Code) (iterate : Word → Word) (plan : Plan) (soft : List ℤ) (order : List ℕ) (bound : ℕ) where
-  -- the run of the definition
-  abbrev pub theRun : Result Word
-  theRun = run (wordsOf code iterate (plan .n) (plan .p) (plan .limit) soft) order (plan .lanes) bound
+  abbrev ran : Result Word
+  ran = runOf code iterate plan soft order bound
 
   pub record Finishes (B₀ : Book) (stopped : Bool) (rounds next : ℕ) (B : Book) : Type 0 where
     pub same : Same B₀ B
     pub tail : drop (plan .words * plan .n) (B .out) ≡ drop (plan .words * plan .n) (B₀ .out)
-    pub ending : stopped ≡ is-stopped (theRun .ending)
-    pub rounds-are : rounds ≡ theRun .last .rounds
-    pub loaded : next ≡ schedule.held (theRun .last .lanes) + length (theRun .last .stock .log)
-    pub told : (w : ℕ) → Tells code (plan .n) (plan .p) (plan .first) (plan .size) (ownPart (plan .n) w (B₀ .out)) (status (theRun .last) w) (view (plan .n) B w)
+    pub ending : stopped ≡ is-stopped (ran .ending)
+    pub rounds-are : rounds ≡ ran .last .rounds
+    pub loaded : next ≡ schedule.held (ran .last .lanes) + length (ran .last .stock .log)
+    pub told : (w : ℕ) → Tells code (plan .n) (plan .p) (plan .first) (plan .size) (ownPart (plan .n) w (B₀ .out)) (status (ran .last) w) (view (plan .n) B w)
 
   told-is : (w : ℕ) (st : Status Word) → told (setup code iterate plan soft order) w st ≡ st
   unfolding told setup
@@ -240,7 +239,7 @@ module _ (code : Code) (iterate : Word → Word) (plan : Plan) (soft : List ℤ)
   finishes B₀ stopped rounds held iters col next B B′ once some c d =
       let R′ = setup code iterate plan soft order in
       let start = close-start R′ (plan .words) bound once some stopped rounds held iters col next (c .memory) (c .runs) in
-      let x = d .closing iterate soft order (theRun .last .stock .log) (λ w. ownPart (plan .n) w (B₀ .out)) (c .memory) (c .tale) start in
+      let x = d .closing iterate soft order (ran .last .stock .log) (λ w. ownPart (plan .n) w (B₀ .out)) (c .memory) (c .tale) start in
       record {
         same = same-on (c .same) (d .same);
         tail = d .tail ∙ c .tail;
@@ -248,7 +247,7 @@ module _ (code : Code) (iterate : Word → Word) (plan : Plan) (soft : List ℤ)
         rounds-are = c .runs .rounds-are;
         loaded = loaded-are R′ (plan .words) bound once some stopped rounds held iters col next (c .memory) (c .runs);
         told = λ w. subst (λ st. Tells code (plan .n) (plan .p) (plan .first) (plan .size) (ownPart (plan .n) w (B₀ .out)) st (view (plan .n) B′ w))
-            (close-end R′ (plan .words) bound once some stopped rounds held iters col next (c .memory) (c .runs) (plan .lanes) (x .0) refl (x .2) w ∙ told-is w (status (theRun .last) w)) (x .1 w);
+            (close-end R′ (plan .words) bound once some stopped rounds held iters col next (c .memory) (c .runs) (plan .lanes) (x .0) refl (x .2) w ∙ told-is w (status (ran .last) w)) (x .1 w);
       }
 
 pub working-to : (plan : Plan) (index : List ℕ) (work work′ : List ℤ) → length work′ ≡ length work → Working plan index work → Working plan index work′

@@ -29,11 +29,11 @@ unfolding sum counting
 sum-counting f a zero = let e : a ≡ a + 0 = omega arith in omega (arith, ap f e)
 sum-counting f a (suc n) = let e : suc a + n ≡ a + suc n = omega arith in omega (arith, sum-counting f (suc a) n, ap f e)
 
-pub sum-more : (f : ℕ → ℕ) (n : ℕ) → sum f (input-order (n + 1)) ≡ sum f (input-order n) + f n
+sum-more : (f : ℕ → ℕ) (n : ℕ) → sum f (input-order (n + 1)) ≡ sum f (input-order n) + f n
 unfolding input-order
 sum-more f n = let e : 0 + n ≡ n = omega arith in omega (arith, ap (λ k. sum f (counting 0 k)) (add-one n), sum-counting f 0 n, ap f e)
 
-pub sum-none : (f : ℕ → ℕ) → sum f (input-order 0) ≡ 0
+sum-none : (f : ℕ → ℕ) → sum f (input-order 0) ≡ 0
 unfolding sum input-order counting
 sum-none f = refl
 
@@ -87,42 +87,29 @@ input-take m n h =
     input-is n (take n (input-order m)) (length-take-le n (input-order m) (omega (arith, input-length m)))
     (λ k g. getD-take n (input-order m) k 0 g ∙ input-at m k (omega arith))
 
--- ---- a slice with x at each of the first k places
-pub record Filled {A : Type 0} (x : A) (old : List A) (k : ℕ) (new : List A) : Type 0 where
+-- ---- a slice with f's values in its first k places
+pub record Filled {A : Type 0} (o : A) (f : ℕ → A) (old : List A) (k : ℕ) (new : List A) : Type 0 where
   pub long : length new ≡ length old
-  pub below : (i : ℕ) → i < k → getD new i x ≡ x
+  pub below : (i : ℕ) → i < k → getD new i o ≡ f i
 
-pub filled-start : {A : Type 0} (x : A) (old : List A) → Filled x old 0 old
-filled-start x old = record { long = refl; below = λ i h. absurd (omega (arith, h)) }
+module _ {A : Type 0} (o : A) (f : ℕ → A) (old : List A) where
+  pub filled-start : Filled o f old 0 old
+  filled-start = record { long = refl; below = λ i h. absurd (omega (arith, h)) }
 
-pub filled-again : {A : Type 0} (x : A) (old new : List A) (k : ℕ) → k < length old → Filled x old k new → Filled x old (k + 1) (set new k x)
-filled-again x old new k h v =
-    record {
-      long = length-set new k x ∙ v .long;
-      below =
-          below-more (λ i. getD (set new k x) i x ≡ x) k
-          (λ i q. getD-set-other new k i x x (λ z. omega arith) ∙ v .below i q) (getD-set-same new k x x (omega (arith, v .long)));
-    }
+  pub filled-again : (new : List A) (k : ℕ) → k < length old → Filled o f old k new → Filled o f old (k + 1) (set new k (f k))
+  filled-again new k h v =
+      record {
+        long = length-set new k (f k) ∙ v .long;
+        below =
+            below-more (λ i. getD (set new k (f k)) i o ≡ f i) k
+            (λ i q. getD-set-other new k i (f k) o (λ z. omega arith) ∙ v .below i q) (getD-set-same new k (f k) o (omega (arith, v .long)));
+      }
 
-pub filled-end : {A : Type 0} (x : A) (old new : List A) (k : ℕ) → k ≡ length old → Filled x old k new → new ≡ replicate (length old) x
+-- all of it: the same everywhere, and each place's own number
+pub filled-end : {A : Type 0} (x : A) (old new : List A) (k : ℕ) → k ≡ length old → Filled x (λ _. x) old k new → new ≡ replicate (length old) x
 filled-end x old new k e v =
     ext-getD x new (replicate (length old) x) (v .long ∙ sym (length-replicate (length old) x))
     (λ i h. let g : i < length old = omega (arith, h, v .long) in v .below i (omega arith) ∙ sym (getD-replicate (length old) i x x g))
 
--- ---- numbers in their places
-pub record Numbered (old : List ℕ) (k : ℕ) (new : List ℕ) : Type 0 where
-  pub long : length new ≡ length old
-  pub below : (i : ℕ) → i < k → getD new i 0 ≡ i
-
-pub numbered-start : (old : List ℕ) → Numbered old 0 old
-numbered-start old = record { long = refl; below = λ i h. absurd (omega (arith, h)) }
-
-pub numbered-again : (old new : List ℕ) (k : ℕ) → k < length old → Numbered old k new → Numbered old (k + 1) (set new k k)
-numbered-again old new k h v =
-    record {
-      long = length-set new k k ∙ v .long;
-      below = below-more (λ i. getD (set new k k) i 0 ≡ i) k (λ i q. getD-set-other new k i k 0 (λ z. omega arith) ∙ v .below i q) (getD-set-same new k k 0 (omega (arith, v .long)));
-    }
-
-pub numbered-end : (old new : List ℕ) (k : ℕ) → k ≡ length old → Numbered old k new → new ≡ input-order (length old)
+pub numbered-end : (old new : List ℕ) (k : ℕ) → k ≡ length old → Filled 0 (λ i. i) old k new → new ≡ input-order (length old)
 numbered-end old new k e v = input-is (length old) new (v .long) (λ i h. v .below i (omega arith))

@@ -9,8 +9,9 @@ use borrow.Author.Tests.{eqb-true, eqb-false, eq-eqb, ne-eqb}
 use lib.Dec.{eqb}
 use Rattle.lane_math.specs.Check.{Word}
 use Rattle.lane_math.specs.Iteration.{Code}
+use Rattle.fixed_code.specs.Count.{Names}
 use Rattle.schedule.specs.Status.{Status, waiting, holding, done}
-use Rattle.outcome.specs.Outcome.{Outcome, outcomeOf, unmetOf, bitsOf, Names}
+use Rattle.outcome.specs.Outcome.{Outcome, outcomeOf, unmetOf, bitsOf}
 use Rattle.decoder_words.specs.Book.{Book, View, view, Only}
 
 -- "A waiting word's record is zeros and its output bits unchanged."

@@ -21,7 +21,7 @@ records-figures r w zero rs = refl
 records-figures r w (suc n) [] = refl
 records-figures r w (suc n) (x ∷ rs) = ap (λ (l : List WordRecord). figures (recordOf r w) ∷ l) (records-figures r (suc w) n rs)
 
-pub record Alike (a₁ a₂ : Answer) (out₁ out₂ : List ℕ) (rs₁ rs₂ : List WordRecord) (t₁ t₂ : Tally) (work₁ work₂ : List ℤ) (index₁ index₂ : List ℕ) : Type 0 where
+pub record Alike-metered (a₁ a₂ : Answer) (out₁ out₂ : List ℕ) (rs₁ rs₂ : List WordRecord) (t₁ t₂ : Tally) (work₁ work₂ : List ℤ) (index₁ index₂ : List ℕ) : Type 0 where
   pub answer : a₁ ≡ a₂
   pub bits : out₁ ≡ out₂
   pub records : map figures rs₁ ≡ map figures rs₂
@@ -31,7 +31,7 @@ pub record Alike (a₁ a₂ : Answer) (out₁ out₂ : List ℕ) (rs₁ rs₂ : 
 
 pub one-metered : {n : ℕ} {lens addrs : List ℕ} {soft : List ℤ} {set : Settings} {out out₁ out₂ : List ℕ} {rs rs₁ rs₂ : List WordRecord} {t t₁ t₂ : Tally} {work work₁ work₂ : List ℤ} {index index₁ index₂ : List ℕ} {a₁ a₂ : Answer}
     → Metered n lens addrs soft set out out₁ rs rs₁ t t₁ work work₁ index index₁ a₁ → Metered n lens addrs soft set out out₂ rs rs₂ t t₂ work work₂ index index₂ a₂
-    → Alike a₁ a₂ out₁ out₂ rs₁ rs₂ t₁ t₂ work₁ work₂ index₁ index₂
+    → Alike-metered a₁ a₂ out₁ out₂ rs₁ rs₂ t₁ t₂ work₁ work₂ index₁ index₂
 one-metered {rs = rs} {rs₁ = rs₁} {rs₂ = rs₂} {t = t} m₁ m₂ =
     let same = one-run (m₁ .runs) (m₂ .runs) in
     record {

@@ -19,7 +19,8 @@ use Rattle.laws.specs.Choice.{by-cond}
 use Rattle.simd.specs.Words.{within}
 use Rattle.fixed_code.specs.Lists.{Lists, codeIn, rows-part, start-in, degree-in}
 use Rattle.fixed_code.specs.Code.{codeOf, code-at, lists-at}
-use Rattle.outcome.specs.Outcome.{begin, unmetAt}
+use Rattle.fixed_code.specs.Count.{unmetAt}
+use Rattle.outcome.specs.Outcome.{begin}
 
 -- the value of each variable
 abbrev pub values : List ℤ → ℕ → ℤ

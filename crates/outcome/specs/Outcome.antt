@@ -2,13 +2,12 @@
 -- BCH, else unmet; its iterations; how many checks were unsatisfied before BCH; the BCH result".
 use mathlib.Core.Bool.{Bool, cond, _||_}
 use mathlib.Core.List.{List, [], _∷_, _++_}
-use mathlib.Core.Path.{_≡_}
-use Prim.Native.Nat.{ℕ, zero, suc, _+_, _*_, _<_}
+use Prim.Native.Nat.{ℕ, zero, suc, _+_}
 use lib.Dec.{eqb}
 use lib.IntN.{ℤ, pos}
 use lib.ListN.{getD, take, drop}
 use Rattle.lane_math.specs.Check.{Word}
-use Rattle.lane_math.specs.Iteration.{Code, degree, hard, unsatisfied, unsatisfiedCount}
+use Rattle.lane_math.specs.Iteration.{Code, hard, unsatisfiedCount}
 use Rattle.simd.specs.Words.{within}
 use Rattle.schedule.specs.Alone.{after, ends}
 use Rattle.bch.specs.Answers.{decodedOf, wordOut}
@@ -33,15 +32,6 @@ unmetOf code p x = unsatisfiedCount code p (x .L)
 
 unfoldable pub metOf : Code → ℕ → Word → Bool
 metOf code p x = eqb (unmetOf code p x) 0
-
--- whether the values L leave check c unsatisfied: 1, else 0
-abbrev pub unmetAt : Code → (ℕ → ℤ) → ℕ → ℕ
-unmetAt code L c = unsatisfied (code .rows) (code .row-start c) (degree code c) L
-
--- "one unsatisfied check (any; 0 if none)": what holds of the check that a record names, of p checks and the values x that were counted
-pub record Names (code : Code) (p : ℕ) (x : Word) (check : ℕ) : Type 0 where
-  pub some : 0 < unmetOf code p x → (check < p) × (unmetAt code (x .L) check ≡ 1)
-  pub none : unmetOf code p x ≡ 0 → check ≡ 0
 
 -- "A finished word's BCH part, `first` and `length`, is then corrected inside the output."
 unfoldable pub corrected : ℕ → ℕ → List ℕ → List ℕ

@@ -8,30 +8,21 @@ use native.Mathlib.Decide.{decLt}
 use borrow.Author.Tests.{eqb-true, eqb-false, eq-eqb, ne-eqb}
 use lib.Dec.{eqb}
 use Rattle.lane_math.specs.Check.{Word}
-use Rattle.lane_math.specs.Iteration.{Code, unsatisfied, unsatisfiedCount}
-use Rattle.outcome.specs.Outcome.{unmetOf, metOf, unmetAt, Names}
-
--- what a count promises: how many of p checks the values x leave unsatisfied, and one of them
-pub record Counted (code : Code) (p : ℕ) (x : Word) (count check : ℕ) : Type 0 where
-  pub all : count ≡ unmetOf code p x
-  pub named : Names code p x check
+use Rattle.lane_math.specs.Iteration.{Code, unsatisfiedCount}
+use Rattle.fixed_code.specs.Count.{unmetAt, Counted, unmet-le, unmet-step, unmet-few, counted-again}
+use Rattle.outcome.specs.Outcome.{unmetOf, metOf}
 
 module _ (code : Code) (x : Word) where
-  pub unmet-le : (c : ℕ) → unmetAt code (x .L) c ≤ 1
-  unfolding unsatisfied
-  unmet-le c = omega arith
-
-  pub unmet-more : (p d : ℕ) → unmetOf code p x ≤ unmetOf code (p + d) x
+  unmet-more : (p d : ℕ) → unmetOf code p x ≤ unmetOf code (p + d) x
   unfolding unmetOf unsatisfiedCount
   unmet-more p zero = let e : p ≡ p + 0 = omega arith in omega (arith, ap (λ (z : ℕ). unsatisfiedCount code z (x .L)) e)
   unmet-more p (suc d) =
       let e : p + suc d ≡ suc (p + d) = omega arith in
       omega (arith, unmet-more p d, ap (λ (z : ℕ). unsatisfiedCount code z (x .L)) e)
 
-  -- one check more
-  pub unmet-step : (c u : ℕ) → unmetAt code (x .L) c ≡ u → unmetOf code (c + 1) x ≡ unmetOf code c x + u
-  unfolding unmetOf unsatisfiedCount
-  unmet-step c u e = ap (λ (z : ℕ). unsatisfiedCount code z (x .L)) (add-one c) ∙ ap (λ (z : ℕ). unsatisfiedCount code c (x .L) + z) e
+  step : (c u : ℕ) → unmetAt code (x .L) c ≡ u → unmetOf code (c + 1) x ≡ unmetOf code c x + u
+  unfolding unmetOf
+  step c u e = unmet-step code x c u e
 
   -- ---- the verdict: no check before c is unsatisfied
   pub met-start : unmetOf code 0 x ≡ 0
@@ -39,10 +30,10 @@ module _ (code : Code) (x : Word) where
   met-start = refl
 
   clear : (c : ℕ) → eqb (unmetAt code (x .L) c) 1 ≡ false → unmetAt code (x .L) c ≡ 0
-  clear c e = let n = eqb-false (unmetAt code (x .L) c) 1 e in omega (arith, n, unmet-le c)
+  clear c e = let n = eqb-false (unmetAt code (x .L) c) 1 e in omega (arith, n, unmet-le code x c)
 
   pub met-again : (c : ℕ) → eqb (unmetAt code (x .L) c) 1 ≡ false → unmetOf code c x ≡ 0 → unmetOf code (c + 1) x ≡ 0
-  met-again c e h = let s = unmet-step c 0 (clear c e) in omega arith
+  met-again c e h = let s = step c 0 (clear c e) in omega arith
 
   pub met-end : (c p : ℕ) → c ≡ p → unmetOf code c x ≡ 0 → metOf code p x ≡ true
   unfolding metOf
@@ -54,49 +45,28 @@ module _ (code : Code) (x : Word) where
   met-not c p h e =
       ne-eqb (unmetOf code p x) 0
       (λ z. let d : c + 1 + (p - (c + 1)) ≡ p = omega arith in
-      omega (arith, z, unmet-step c 1 (eqb-true (unmetAt code (x .L) c) 1 e), unmet-more (c + 1) (p - (c + 1)), ap (λ (z : ℕ). unmetOf code z x) d))
+      omega (arith, z, step c 1 (eqb-true (unmetAt code (x .L) c) 1 e), unmet-more (c + 1) (p - (c + 1)), ap (λ (z : ℕ). unmetOf code z x) d))
 
   -- ---- the count and the named check, of the checks before c
-  pub counted-start : Counted code 0 x 0 0
-  counted-start = record { all = sym met-start; named = record { some = λ h. absurd (omega (arith, h, met-start)); none = λ h. refl } }
-
   pub counted-more : {c count check : ℕ} (count′ check′ : ℕ) → eqb (unmetAt code (x .L) c) 1 ≡ true → Counted code c x count check
       → count′ ≡ count + 1 → check′ ≡ c → Counted code (c + 1) x count′ check′
-  counted-more {c} {count} {check} count′ check′ e k f g =
-      let u : unmetAt code (x .L) c ≡ 1 = eqb-true (unmetAt code (x .L) c) 1 e in
-      let s = unmet-step c 1 u in
-      record {
-        all = omega (arith, s, k .all);
-        named = record { some = λ h. (omega arith, ap (unmetAt code (x .L)) g ∙ u); none = λ h. absurd (omega (arith, s, h)) };
-      }
+  counted-more {c} {count} {check} count′ check′ e k f g = counted-again code x 1 count′ check′ k (sym (eqb-true (unmetAt code (x .L) c) 1 e)) f g
 
   pub counted-same : {c count check : ℕ} (count′ check′ : ℕ) → eqb (unmetAt code (x .L) c) 1 ≡ false → Counted code c x count check
       → count′ ≡ count → check′ ≡ check → Counted code (c + 1) x count′ check′
   counted-same {c} {count} {check} count′ check′ e k f g =
-      let s = unmet-step c 0 (clear c e) in
-      record {
-        all = omega (arith, s, k .all);
-        named =
-            record {
-              some = λ h. let n = k .named .some (omega (arith, s, h)) in (omega (arith, n .0), ap (unmetAt code (x .L)) g ∙ n .1);
-              none = λ h. g ∙ k .named .none (omega (arith, s, h));
-            };
-      }
+      let z : count′ ≡ count + 0 = omega arith in
+      counted-again code x 0 count′ check′ k (sym (clear c e)) z g
 
   pub counted-end : {c count check : ℕ} (p : ℕ) → c ≡ p → Counted code c x count check → Counted code p x count check
   counted-end {c} {count} {check} p e k = subst (λ (z : ℕ). Counted code z x count check) e k
 
-  pub unmet-few : (c : ℕ) → unmetOf code c x ≤ c
-  unfolding unmetOf unsatisfiedCount
-  unmet-few zero = omega arith
-  unmet-few (suc c) = omega (arith, unmet-few c, unmet-le c)
-
   pub counted-le : {c count check : ℕ} → Counted code c x count check → count ≤ c
-  counted-le {c} {count} {check} k = omega (arith, k .all, unmet-few c)
+  counted-le {c} {count} {check} k = omega (arith, k .all, unmet-few code x c)
 
   pub named-le : {c count check : ℕ} → Counted code c x count check → check ≤ c
-  named-le {c} {count} {check} k = go (decLt 0 (unmetOf code c x))
+  named-le {c} {count} {check} k = go (decLt 0 (unsatisfiedCount code c (x .L)))
     where
-      go : Dec (0 < unmetOf code c x) → check ≤ c
+      go : Dec (0 < unsatisfiedCount code c (x .L)) → check ≤ c
       go (yes h) = omega (arith, k .named .some h .0)
-      go (no h) = let z : unmetOf code c x ≡ 0 = omega arith in omega (arith, k .named .none z)
+      go (no h) = let z : unsatisfiedCount code c (x .L) ≡ 0 = omega arith in omega (arith, k .named .none z)

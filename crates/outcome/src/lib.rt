@@ -9,9 +9,9 @@ ghost use Rattle.lane_math.specs.Iteration.{negatives};
 ghost use Rattle.lane_memory.specs.Room.{var};
 ghost use Rattle.fixed_code.specs.Lists.{Lists, codeIn};
 ghost use Rattle.fixed_code.specs.Code.{codeOf};
-ghost use Rattle.outcome.specs.Outcome.{begin, bitsOf, metOf, unmetAt, corrected, bchResult, bchOf, stateOf, isFinished, keptOf, lostOf};
+ghost use Rattle.fixed_code.specs.Count.{unmetAt, Counted};
+ghost use Rattle.outcome.specs.Outcome.{begin, bitsOf, metOf, corrected, bchResult, bchOf, stateOf, isFinished, keptOf, lostOf};
 ghost use Rattle.outcome.specs.Index.{Edges, values, Lent};
-ghost use Rattle.outcome.specs.Scan.{Counted};
 
 // How many checks a word leaves unsatisfied, and one of them (0 if there is none).
 pub struct Unmet {

@@ -152,7 +152,7 @@ module _ {X M : Type 0} (R : Setup X M) where
 
   -- ---- the run's own lanes and log
   module _ (n round-limit : ℕ) (once : (w : ℕ) → count w (R .order) ≤ 1) (some : 1 ≤ R .lanes) where
-    pub demanded : Demand (R .words) (R .order) (R .lanes) round-limit (result R n round-limit)
+    demanded : Demand (R .words) (R .order) (R .lanes) round-limit (result R n round-limit)
     demanded = demand (R .words) (R .order) once (R .lanes) some round-limit
 
     module _ (ended : Bool) (rounds : ℕ) (held′ iters : List ℕ) (col : ℕ → X) (next : ℕ) (memory : ℕ → M) (r : Runs R n round-limit ended rounds held′ iters col next memory) where

@@ -1,17 +1,19 @@
 -- How arrays and columns of memory stand for the run's lanes, queue and log, and how code that goes from lane to lane meets `each`.
 use mathlib.Core.Path.{_≡_, refl, sym, ap, ap₂, _∙_}
 use mathlib.Core.Logic.{_≢_}
-use mathlib.Core.Bool.{Bool, true, false, cond, not}
+use mathlib.Core.Bool.{Bool, true, false, cond, not, _||_}
 use mathlib.Core.List.{List, [], _∷_, _++_}
 use Prim.Native.Nat.{ℕ, zero, suc, _+_, _-_, _≤_, _<_}
 use native.Mathlib.Nat.{not-suc-le-zero, le-of-suc-le-suc, zero-add}
 use native.Mathlib.Numerals.{add-one}
 use native.Mathlib.Decide.{ℕ-discrete}
 use native.Mathlib.Omega.{arith}
+use borrow.Author.Count.{below-more}
 use borrow.Author.Tests.{eqb-true, eqb-false, eq-eqb, ne-eqb}
 use lib.Dec.{eqb}
 use lib.ListN.{length, getD, take, drop, set, length-set}
 use lib.Seq.{getD-set-same, getD-set-other, ext-getD, set-getD}
+use Rattle.laws.specs.Lists.{or-left, or-right}
 use Rattle.schedule.specs.Run.{Words, Lane, empty, holds, Left, Stock, Turn, each, held, logged}
 use Rattle.schedule.specs.Status.{Status, waiting, holding, done, log-words, seek}
 
@@ -155,35 +157,59 @@ module _ {X : Type 0} where
   unfolding lane-of held
   none-held h x i e = ap (λ h. held (lane-of h x i ∷ [])) e
 
--- whether a lane below l is held
-unfoldable pub any-held : List ℕ → ℕ → Bool
-any-held held zero = false
-any-held held (suc l) = cond (eqb (getD held l 0) 0) (any-held held l) true
+-- whether f holds of one of the first k
+unfoldable pub anyOf : (ℕ → Bool) → ℕ → Bool
+anyOf f zero = false
+anyOf f (suc k) = anyOf f k || f k
 
-pub any-start : (held : List ℕ) → false ≡ any-held held 0
-unfolding any-held
-any-start held = refl
+pub any-start : (f : ℕ → Bool) → false ≡ anyOf f 0
+unfolding anyOf
+any-start f = refl
+
+pub any-again : (f : ℕ → Bool) (k : ℕ) (a d r : Bool) → a ≡ anyOf f k → d ≡ f k → r ≡ (a || d) → r ≡ anyOf f (k + 1)
+unfolding anyOf
+any-again f k a d r e g h = h ∙ (λ i. e i || g i) ∙ ap (anyOf f) (sym (add-one k))
+
+pub any-not : (f : ℕ → Bool) (m k : ℕ) → anyOf f m ≡ false → k < m → f k ≡ false
+unfolding anyOf
+any-not f zero k e q = absurd (omega (arith, q))
+any-not f (suc m) k e q =
+    below-more (λ j. f j ≡ false) m (λ j r. any-not f m j (or-left (anyOf f m) (f m) e) r) (or-right (anyOf f m) (f m) e) k (omega (arith, q))
+
+or-true : (a : Bool) → true ≡ (a || true)
+or-true true = refl
+or-true false = refl
+
+or-false : (a : Bool) → a ≡ (a || false)
+or-false true = refl
+or-false false = refl
+
+-- whether lane l is held, and whether one below l is
+abbrev pub heldAt : List ℕ → ℕ → Bool
+heldAt held l = not (eqb (getD held l 0) 0)
+
+abbrev pub any-held : List ℕ → ℕ → Bool
+any-held held l = anyOf (heldAt held) l
 
 pub any-some : (held : List ℕ) (l : ℕ) → getD held l 0 ≢ 0 → true ≡ any-held held (l + 1)
-unfolding any-held
-any-some held l n = sym (ap (any-held held) (add-one l) ∙ ap (λ b. cond b (any-held held l) true) (ne-eqb (getD held l 0) 0 n))
+any-some held l n = any-again (heldAt held) l (any-held held l) true true refl (sym (ap not (ne-eqb (getD held l 0) 0 n))) (or-true (any-held held l))
 
 pub any-none : (held : List ℕ) (l : ℕ) (any : Bool) → getD held l 0 ≡ 0 → any ≡ any-held held l → any ≡ any-held held (l + 1)
-unfolding any-held
-any-none held l any z e = e ∙ sym (ap (any-held held) (add-one l) ∙ ap (λ b. cond b (any-held held l) true) (eq-eqb (getD held l 0) 0 z))
+any-none held l any z e = any-again (heldAt held) l any false any e (sym (ap not (eq-eqb (getD held l 0) 0 z))) (or-false any)
 
 pub any-is : {X : Type 0} (lanes : ℕ) (held′ iters : List ℕ) (col : ℕ → X) → any-held held′ lanes ≡ not (eqb (held (rows lanes held′ iters col)) 0)
-unfolding any-held
+unfolding anyOf
 any-is zero held′ iters col = unfold rows table held in refl
 any-is (suc l) held′ iters col = at (eqb (getD held′ l 0) 0) refl (any-is l held′ iters col)
   where
     at : (b : Bool) → eqb (getD held′ l 0) 0 ≡ b → any-held held′ l ≡ not (eqb (held (rows l held′ iters col)) 0)
-        → cond b (any-held held′ l) true ≡ not (eqb (held (rows (suc l) held′ iters col)) 0)
+        → (any-held held′ l || not b) ≡ not (eqb (held (rows (suc l) held′ iters col)) 0)
     at true e r =
         let same : held (rows l held′ iters col) ≡ held (rows (suc l) held′ iters col) = omega (arith, held-next held′ iters col l, none-held (getD held′ l 0) (col l) (getD iters l 0) (eqb-true _ 0 e)) in
-        r ∙ ap (λ n. not (eqb n 0)) same
+        sym (or-false (any-held held′ l)) ∙ r ∙ ap (λ n. not (eqb n 0)) same
     at false e r =
-        sym (ap not (ne-eqb (held (rows (suc l) held′ iters col)) 0 (λ z. omega (arith, held-next held′ iters col l, one-held (getD held′ l 0) (col l) (getD iters l 0) (eqb-false _ 0 e)))))
+        sym (or-true (any-held held′ l))
+        ∙ sym (ap not (ne-eqb (held (rows (suc l) held′ iters col)) 0 (λ z. omega (arith, held-next held′ iters col l, one-held (getD held′ l 0) (col l) (getD iters l 0) (eqb-false _ 0 e)))))
 
 -- ---- memory that keeps the log
 module _ {X M : Type 0} (R : Setup X M) where

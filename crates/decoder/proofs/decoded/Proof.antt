@@ -11,7 +11,7 @@ use Rattle.laws.specs.Signed.{plain}
 use Rattle.schedule.specs.Status.{count}
 use Rattle.schedule.specs.Theorem.{input-order, input-once}
 use Rattle.decoder_assign.specs.Assign.{Ordered}
-use Rattle.decoder.specs.Accept.{order-so, order-is, zero-blank, zero-room, ends-so, iterations-few, next-le, decoded-to}
+use Rattle.decoder.specs.Accept.{order-so, order-is, zero-blank, zero-room, finished-so, iterations-few, next-le, decoded-to}
 use Rattle.decoder.proofs.decoded.Statement.{statement}
 use Rattle.decoder.proofs.decoded.Tie as tie
 
@@ -76,14 +76,14 @@ tally-requires c κs =
     let o : take (c .before .before .before .before .before .before .before .before .before .before .before .before .before .before .before .before .before .before .before .before .before .before .before .before .before .before .before .args .plan .words) (c .before .before .before .before .before .before .before .before .before .before .before .before .before .before .before .before .before .before .before .before .before .number .last .0) ≡ input-order (c .before .before .before .before .before .before .before .before .before .before .before .before .before .before .before .before .before .before .before .before .before .before .before .before .before .before .before .args .plan .words) = order-is (c .before .before .before .before .before .before .before .before .before .before .before .before .before .before .before .before .before .before .before .before .before .before .before .before .before .before .before .args .plan .words) (c .before .before .before .before .before .before .before .before .before .before .before .before .before .before .before .before .before .before .before .before .before .number .last .0) (G .fair .few-words) (c .before .before .before .before .before .before .before .before .before .before .before .before .before .before .before .before .before .before .before .before .before .number .ensures ∙ ap input-order (length-replicate {A = ℕ} 4096 0)) in
     let z = length-replicate {A = ℕ} 4096 0 in (
       (G .fair .few-words, c .before .before .before .before .before .before .before .before .before .before .before .complete .ensures .same .state ∙ z, c .before .before .before .before .before .before .before .before .before .before .before .complete .ensures .same .iterations ∙ z, c .before .before .before .before .before .before .before .before .before .before .before .complete .ensures .same .bch ∙ z),
-      iterations-few _ _ _ _ _ _ _ _ _ _ _ _ _ (ends-so _ _ _ _ _ _ _ _ _ _ _ _ _ _ _ o refl (c .before .before .before .before .before .before .before .before .before .before .before .complete .ensures)) (G .fair .some-lanes) (G .fair .limit-fits),
+      iterations-few _ _ _ _ _ _ _ _ _ _ _ _ _ (finished-so _ _ _ _ _ _ _ _ _ _ _ _ _ _ _ o refl (c .before .before .before .before .before .before .before .before .before .before .before .complete .ensures)) (G .fair .some-lanes) (G .fair .limit-fits),
     )
 
 cast-loaded : tie.Need-cast-loaded
 cast-loaded c =
     let G = c .before .before .before .before .before .before .before .before .before .before .before .before .before .before .before .before .before .before .before .before .before .before .before .before .before .before .before .before .before .pre .0 .0 in
     let o : take (c .before .before .before .before .before .before .before .before .before .before .before .before .before .before .before .before .before .before .before .before .before .before .before .before .before .before .before .before .before .args .plan .words) (c .before .before .before .before .before .before .before .before .before .before .before .before .before .before .before .before .before .before .before .before .before .before .before .number .last .0) ≡ input-order (c .before .before .before .before .before .before .before .before .before .before .before .before .before .before .before .before .before .before .before .before .before .before .before .before .before .before .before .before .before .args .plan .words) = order-is (c .before .before .before .before .before .before .before .before .before .before .before .before .before .before .before .before .before .before .before .before .before .before .before .before .before .before .before .before .before .args .plan .words) (c .before .before .before .before .before .before .before .before .before .before .before .before .before .before .before .before .before .before .before .before .before .before .before .number .last .0) (G .fair .few-words) (c .before .before .before .before .before .before .before .before .before .before .before .before .before .before .before .before .before .before .before .before .before .before .before .number .ensures ∙ ap input-order (length-replicate {A = ℕ} 4096 0)) in
-    let n : c .before .before .before .before .before .before .before .before .before .before .before .before .before .complete .result .next ≤ c .before .before .before .before .before .before .before .before .before .before .before .before .before .before .before .before .before .before .before .before .before .before .before .before .before .before .before .before .before .args .plan .words = next-le _ _ _ _ _ _ _ _ _ _ _ _ _ (ends-so _ _ _ _ _ _ _ _ _ _ _ _ _ _ _ o refl (c .before .before .before .before .before .before .before .before .before .before .before .before .before .complete .ensures)) (G .fair .some-lanes) in
+    let n : c .before .before .before .before .before .before .before .before .before .before .before .before .before .complete .result .next ≤ c .before .before .before .before .before .before .before .before .before .before .before .before .before .before .before .before .before .before .before .before .before .before .before .before .before .before .before .before .before .args .plan .words = next-le _ _ _ _ _ _ _ _ _ _ _ _ _ (finished-so _ _ _ _ _ _ _ _ _ _ _ _ _ _ _ o refl (c .before .before .before .before .before .before .before .before .before .before .before .before .before .complete .ensures)) (G .fair .some-lanes) in
     omega (arith, n, G .fair .few-words)
 
 same-length : tie.Need-same-length
@@ -100,7 +100,7 @@ returns c =
     (record {
       number = refl;
       words-are = refl;
-      runs = ends-so _ _ _ _ _ _ _ _ _ _ _ _ _ _ _ o refl (c .before .before .before .before .before .before .before .before .before .before .before .before .before .complete .ensures);
+      runs = finished-so _ _ _ _ _ _ _ _ _ _ _ _ _ _ _ o refl (c .before .before .before .before .before .before .before .before .before .before .before .before .before .complete .ensures);
       given-are = c .before .tally .ensures .0;
       kept-are = c .before .tally .ensures .1;
       lost-are = c .before .tally .ensures .2;

@@ -4,7 +4,8 @@ use mathlib.Core.Path.{_≡_, refl, ap, _∙_}
 use mathlib.Core.Bool.{false}
 use Prim.Native.Nat.{ℕ, _+_, _-_, _≤_, _<_}
 use lib.ListN.{getD}
-use Rattle.decoder_retire.specs.Counts.{anyOf, dueAt, any-start, any-again}
+use Rattle.schedule.specs.Lanes.{anyOf, any-start, any-again}
+use Rattle.decoder_retire.specs.Counts.{dueAt}
 use Rattle.decoder_retire.proofs.due.Statement.{statement}
 use Rattle.decoder_retire.proofs.due.Tie as tie
 

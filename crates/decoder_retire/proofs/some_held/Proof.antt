@@ -2,12 +2,12 @@ use borrow.Author.Needs.{needs}
 use native.Mathlib.Omega.{arith}
 use mathlib.Core.Path.{_≡_, refl, ap, _∙_}
 use Prim.Native.Nat.{ℕ, _+_, _-_, _≤_, _<_}
-use Rattle.decoder_retire.specs.Counts.{anyOf, heldAt, any-start, any-again}
+use Rattle.schedule.specs.Lanes.{any-start, any-again, heldAt, any-held}
 use Rattle.decoder_retire.proofs.some_held.Statement.{statement}
 use Rattle.decoder_retire.proofs.some_held.Tie as tie
 
 abbrev Inv-loop : tie.InvT-loop
-Inv-loop lanes held any₀ l₀ any l = (l ≤ lanes) × (any ≡ anyOf (heldAt held) l)
+Inv-loop lanes held any₀ l₀ any l = (l ≤ lanes) × (any ≡ any-held held l)
 
 abbrev μ-loop : tie.MeasureT-loop
 μ-loop lanes held any₀ l₀ any l = lanes - l
@@ -38,7 +38,7 @@ loop-again c =
 returns : tie.Need-returns Inv-loop μ-loop
 returns c =
     let e : c .before .loop .l ≡ c .before .before .args .lanes = omega (arith, c .before .loop .inv .0, c .loop-test .left) in
-    c .before .loop .inv .1 ∙ ap (anyOf (heldAt (c .before .before .args .t1))) e
+    c .before .loop .inv .1 ∙ ap (any-held (c .before .before .args .t1)) e
 
 pub some-held-spec : {M : Type 1} → statement M
 some-held-spec =

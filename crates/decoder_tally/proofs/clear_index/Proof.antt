@@ -9,13 +9,13 @@ use Rattle.decoder_tally.proofs.clear_index.Statement.{statement}
 use Rattle.decoder_tally.proofs.clear_index.Tie as tie
 
 abbrev Inv-loop : tie.InvT-loop
-Inv-loop index₀ k₀ index k = (k ≤ length index₀) × Filled 0 index₀ k index
+Inv-loop index₀ k₀ index k = (k ≤ length index₀) × Filled 0 (λ _. 0) index₀ k index
 
 abbrev μ-loop : tie.MeasureT-loop
 μ-loop index₀ k₀ index k = length index₀ - k
 
 loop-holds : tie.Need-loop-holds Inv-loop μ-loop
-loop-holds c = (omega arith, filled-start _ _)
+loop-holds c = (omega arith, filled-start _ _ _)
 
 mul-index : tie.Need-mul-index Inv-loop μ-loop
 mul-index c = search needs
@@ -30,7 +30,7 @@ loop-less : tie.Need-loop-less Inv-loop μ-loop
 loop-less c = omega (arith, c .before .loop .inv .1 .long)
 
 loop-again : tie.Need-loop-again Inv-loop μ-loop
-loop-again c = (omega (arith, c .loop-test .taken, c .before .loop .inv .1 .long), filled-again _ _ (c .before .loop .index) (c .before .loop .k) (omega (arith, c .loop-test .taken, c .before .loop .inv .1 .long)) (c .before .loop .inv .1))
+loop-again c = (omega (arith, c .loop-test .taken, c .before .loop .inv .1 .long), filled-again _ _ _ (c .before .loop .index) (c .before .loop .k) (omega (arith, c .loop-test .taken, c .before .loop .inv .1 .long)) (c .before .loop .inv .1))
 
 same-length : tie.Need-same-length Inv-loop μ-loop
 same-length c = c .before .loop .inv .1 .long

@@ -10,13 +10,13 @@ use Rattle.decoder_tally.proofs.clear_work.Statement.{statement}
 use Rattle.decoder_tally.proofs.clear_work.Tie as tie
 
 abbrev Inv-loop : tie.InvT-loop
-Inv-loop work₀ k₀ work k = (k ≤ length work₀) × Filled (pos 0) work₀ k work
+Inv-loop work₀ k₀ work k = (k ≤ length work₀) × Filled (pos 0) (λ _. (pos 0)) work₀ k work
 
 abbrev μ-loop : tie.MeasureT-loop
 μ-loop work₀ k₀ work k = length work₀ - k
 
 loop-holds : tie.Need-loop-holds Inv-loop μ-loop
-loop-holds c = (omega arith, filled-start _ _)
+loop-holds c = (omega arith, filled-start _ _ _)
 
 slice-set-of-work : tie.Need-slice-set-of-work Inv-loop μ-loop
 slice-set-of-work c = search needs
@@ -28,7 +28,7 @@ loop-less : tie.Need-loop-less Inv-loop μ-loop
 loop-less c = omega (arith, c .before .loop .inv .1 .long)
 
 loop-again : tie.Need-loop-again Inv-loop μ-loop
-loop-again c = (omega (arith, c .loop-test .taken, c .before .loop .inv .1 .long), filled-again _ _ (c .before .loop .work) (c .before .loop .k) (omega (arith, c .loop-test .taken, c .before .loop .inv .1 .long)) (c .before .loop .inv .1))
+loop-again c = (omega (arith, c .loop-test .taken, c .before .loop .inv .1 .long), filled-again _ _ _ (c .before .loop .work) (c .before .loop .k) (omega (arith, c .loop-test .taken, c .before .loop .inv .1 .long)) (c .before .loop .inv .1))
 
 same-length : tie.Need-same-length Inv-loop μ-loop
 same-length c = c .before .loop .inv .1 .long

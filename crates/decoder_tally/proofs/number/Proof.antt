@@ -4,18 +4,18 @@ use Prim.Native.Nat.{_-_, _≤_}
 use native.Mathlib.Omega.{arith}
 use borrow.Author.Needs.{needs}
 use lib.ListN.{length}
-use Rattle.decoder_tally.specs.Tally.{Numbered, numbered-start, numbered-again, numbered-end}
+use Rattle.decoder_tally.specs.Tally.{Filled, filled-start, filled-again, numbered-end}
 use Rattle.decoder_tally.proofs.number.Statement.{statement}
 use Rattle.decoder_tally.proofs.number.Tie as tie
 
 abbrev Inv-loop : tie.InvT-loop
-Inv-loop order₀ k₀ order k = (k ≤ length order₀) × Numbered order₀ k order
+Inv-loop order₀ k₀ order k = (k ≤ length order₀) × Filled 0 (λ i. i) order₀ k order
 
 abbrev μ-loop : tie.MeasureT-loop
 μ-loop order₀ k₀ order k = length order₀ - k
 
 loop-holds : tie.Need-loop-holds Inv-loop μ-loop
-loop-holds c = (omega arith, numbered-start _)
+loop-holds c = (omega arith, filled-start _ _ _)
 
 cast-order : tie.Need-cast-order Inv-loop μ-loop
 cast-order c = omega (arith, c .loop-test .taken, c .before .loop .inv .1 .long, c .before .before .pre)
@@ -33,7 +33,7 @@ loop-less : tie.Need-loop-less Inv-loop μ-loop
 loop-less c = omega (arith, c .before .loop .inv .1 .long)
 
 loop-again : tie.Need-loop-again Inv-loop μ-loop
-loop-again c = (omega (arith, c .loop-test .taken, c .before .loop .inv .1 .long), numbered-again _ (c .before .loop .order) (c .before .loop .k) (omega (arith, c .loop-test .taken, c .before .loop .inv .1 .long)) (c .before .loop .inv .1))
+loop-again c = (omega (arith, c .loop-test .taken, c .before .loop .inv .1 .long), filled-again _ _ _ (c .before .loop .order) (c .before .loop .k) (omega (arith, c .loop-test .taken, c .before .loop .inv .1 .long)) (c .before .loop .inv .1))
 
 same-length : tie.Need-same-length Inv-loop μ-loop
 same-length c = c .before .loop .inv .1 .long

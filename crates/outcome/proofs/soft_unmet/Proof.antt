@@ -1,14 +1,16 @@
 use Rattle.lane_math.specs.Check.{Word}
 use Rattle.lane_math.specs.Iteration.{Code}
+use mathlib.Core.Path.{refl}
 use mathlib.Core.Logic.{⊎-elim}
 use Rattle.ldpc_shape.specs.Accepted.{accepted, p-le}
 use mathlib.Core.Bool.{true, false}
 use Prim.Native.Nat.{_-_, _≤_}
 use Rattle.ldpc_shape.specs.Shape.{pOf}
 use Rattle.fixed_code.specs.Code.{codeOf}
+use Rattle.fixed_code.specs.Count.{Counted, counted-start}
 use Rattle.outcome.specs.Outcome.{begin}
 use Rattle.outcome.specs.Index.{odd-is, listed}
-use Rattle.outcome.specs.Scan.{Counted, counted-start, counted-more, counted-same, counted-end, counted-le, named-le}
+use Rattle.outcome.specs.Scan.{counted-more, counted-same, counted-end, counted-le, named-le}
 use borrow.Author.Needs.{needs}
 use native.Mathlib.Omega.{arith}
 use Rattle.outcome.proofs.soft_unmet.Statement.{statement}
@@ -31,7 +33,7 @@ checks-requires : tie.Need-checks-requires Inv-loop μ-loop
 checks-requires c κs = c .before .before .before .pre .code
 
 loop-holds : tie.Need-loop-holds Inv-loop μ-loop
-loop-holds c = let s = c .before .before .before .before in (search needs, counted-start (codeAt s) (wordAt s))
+loop-holds c = let s = c .before .before .before .before in (search needs, counted-start (codeAt s) (wordAt s) 0 0 refl refl)
 
 odd-requires : tie.Need-odd-requires Inv-loop μ-loop
 odd-requires c κs =
