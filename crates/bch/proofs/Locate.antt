@@ -1,16 +1,14 @@
 -- The register and the places that the code finds are those of the definition.
-use mathlib.Core.Path.{_≡_, refl, sym, ap, ap₂, _∙_, subst}
+use mathlib.Core.Path.{_≡_, sym, ap, _∙_}
 use mathlib.Core.Logic.{_≢_, ite, if-pos, if-neg}
-use mathlib.Core.List.{List, [], _∷_}
-use Prim.Native.Nat.{ℕ, suc, _+_, _≤_, _<_}
+use mathlib.Core.List.{List}
+use Prim.Native.Nat.{ℕ, _+_, _≤_, _<_}
 use native.Mathlib.Decide.{ℕ-discrete, decLe}
 use native.Mathlib.Omega.{arith}
 use lib.ListN.{length, getD}
 use Rattle.algebra.specs.Series.{pow}
 use Rattle.algebra.specs.Values.{ev}
-use Rattle.algebra.specs.Massey.{Gen, Shortest, gen-ext, shortest-ext}
-use Rattle.algebra.specs.GfField.{El}
-use Rattle.gf16.specs.Field16.{gf16}
+use Rattle.algebra.specs.Massey.{Shortest, gen-ext, shortest-ext}
 use Rattle.gf16.specs.Alpha.{R16, α}
 use Rattle.gf16.specs.Roots16.{by-remainder}
 use Rattle.bch_remainder.specs.Word.{number, remainderOf}
@@ -22,7 +20,6 @@ use Rattle.bch.specs.Decode.{syndrome, flipped, flips, answerBy, leftBy,
 use Rattle.bch.specs.Places.{flipAll}
 use Rattle.bch.specs.Answers.{Located}
 use Rattle.bch.proofs.FlipLoop.{flipAll-flipped}
-use Rattle.bch.specs.declared.Decoded.{Decoded}
 use Rattle.bch.specs.declared.Decoded.the-variants.{Corrected, Uncorrectable}
 
 -- the syndromes of a remainder are the word's

@@ -1,12 +1,11 @@
 -- A polynomial of 31 digits at α, by xor and shifts: the sum of x and g, g α, g α^3, g α^12, where g is the quotient by α's polynomial.
 -- All of it is additive, so that its values at the powers of two, which are computed, decide. Assumes nothing.
 use mathlib.Core.Path.{_≡_, refl, sym, ap, ap₂, _∙_}
-use Prim.Native.Nat.{ℕ, zero, suc, _-_, _*_, _/_, _%_, _^_, _<_}
-use native.Mathlib.Nat.{not-suc-le-zero, le-of-suc-le-suc, le-of-lt, add-zero, pow-suc, mod-eq-of-lt, div-eq-of-lt}
+use Prim.Native.Nat.{ℕ, zero, suc, _*_, _/_, _%_, _^_, _<_}
+use native.Mathlib.Nat.{not-suc-le-zero, le-of-suc-le-suc, le-of-lt, pow-suc, mod-eq-of-lt, div-eq-of-lt}
 use native.Mathlib.Omega.{arith}
 use lib.Dec.{T, eqb, eqb→eq, ltb, ltb→lt, lit<}
-use lib.Bits.{xor-block, bitAnd, bitXor, and-mask}
-use lib.Pow.{pow-pos}
+use lib.Bits.{bitAnd, bitXor, and-mask}
 use Rattle.laws.specs.Xor.{_⊕_, ⊕-zero, ⊕-div, ⊕-mod, ⊕-swap, span}
 use Rattle.laws.specs.Poly.{⊕-shift}
 use Rattle.laws.specs.Tests.{below, below-at}

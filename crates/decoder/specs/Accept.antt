@@ -26,7 +26,7 @@ use Rattle.decoder_assign.specs.Assign.{Ordered}
 use Rattle.decoder_rounds.specs.Rounds.{Blank, Finishes}
 use Rattle.decoder_tally.specs.Tally.{givenIn, keptIn, lostIn, input-length, input-at, input-take}
 use Rattle.decoder.specs.Demand.{demanded, given-is, longest-is, iterations-within}
-use Rattle.decoder.specs.Runs.{iterate, words, order, theRun, Accepts}
+use Rattle.decoder.specs.Runs.{iterate, words, theRun, Accepts}
 use Rattle.decoder.specs.declared.Ran.{Ran}
 
 -- what an accepted call knows
@@ -177,7 +177,7 @@ module _ (plan : Plan) (lens addrs : List ℕ) (soft : List ℤ) (layers : Bool)
               subst (λ m. plan .lanes * m ≤ r .given + (plan .lanes - 1) * largest (λ w. getD (r .iterations) w 0) (input-order (plan .words))) (sym (f .rounds-are))
               (subst (λ m. plan .lanes * theRun plan lens addrs soft layers step offset bound .last .rounds ≤ m + (plan .lanes - 1) * largest (λ w. getD (r .iterations) w 0) (input-order (plan .words)))
               (sym (c .given-are ∙ given-sum))
-              (subst (λ m. plan .lanes * theRun plan lens addrs soft layers step offset bound .last .rounds ≤ schedule.given (input-order (plan .words)) (theRun plan lens addrs soft layers step offset bound .last) + (plan .lanes - 1) * m) (sym longest-so) (the-demand some .bound)));
+              (subst (λ m. plan .lanes * theRun plan lens addrs soft layers step offset bound .last .rounds ≤ schedule.given (input-order (plan .words)) (theRun plan lens addrs soft layers step offset bound .last) + (plan .lanes - 1) * m) (sym longest-so) (the-demand some .most)));
           out-long = f .same .out;
           out-tail = f .tail;
           work-is = work-is;

@@ -8,7 +8,7 @@ use lib.Dec.{T}
 use native.Mathlib.Omega.{arith}
 use native.Mathlib.Decide.{ℕ-discrete}
 use lib.IntN.{ℤ}
-use lib.ListN.{length, take, drop}
+use lib.ListN.{take, drop}
 use Rattle.lane_math.specs.Check.{Word}
 use Rattle.fixed_code.specs.Code.{codeOf}
 use Rattle.schedule.specs.Alone.{after, ends}

@@ -228,14 +228,14 @@ pub fn core(
     }
     let plan = Plan {
         n: n,
-        p: decoder_refuse::checks(n, lens, addrs),
+        p: ldpc_shape::checks(n, lens, addrs),
         lanes: set.lanes as usize,
         limit: set.limit,
         first: set.first as usize,
         size: set.length as usize,
         words: soft.len() / (n as usize),
     };
-    let e = decoder_refuse::edges(n, lens, addrs);
+    let e = ldpc_shape::edges(n, lens, addrs);
     accepted(
         plan,
         e,

@@ -1,7 +1,7 @@
 // The lanes' memory and the words: a lane's word leaves or is held at the end, and words are loaded into the lanes that took them.
 ghost use mathlib.Core.Path.{_≡_};
 ghost use mathlib.Core.Logic.{_≢_};
-ghost use Prim.Native.Nat.{ℕ, _+_, _-_, _*_, _<_};
+ghost use Prim.Native.Nat.{ℕ, _-_, _*_, _<_};
 ghost use lib.ListN.{length, getD};
 ghost use Rattle.fixed_code.specs.Lists.{edgesIn};
 ghost use Rattle.fixed_code.specs.Count.{Counted};

@@ -6,7 +6,6 @@ use Prim.Native.Nat.{ℕ, zero, suc, _+_, _*_, _/_, _%_, _≤_, _<_}
 use native.Mathlib.Omega.{arith}
 use borrow.Author.Tests.{eqb-true, eqb-false, ltb-false, not-false}
 use lib.Dec.{eqb, ltb}
-use lib.ListN.{length}
 use Rattle.laws.specs.Lists.{or-left, or-right}
 use Rattle.ldpc_shape.specs.Shape.{pOf, eOf}
 use Rattle.ldpc_shape.specs.Shape as shape

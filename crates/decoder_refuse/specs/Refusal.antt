@@ -6,7 +6,6 @@ use Prim.Native.Nat.{ℕ, zero, suc, _+_, _*_, _/_, _%_, _≤_, _<_}
 use native.Mathlib.Omega.{arith}
 use borrow.Author.Tests.{lt-ltb, le-ltb}
 use lib.Dec.{eqb, ltb}
-use lib.ListN.{length}
 use Rattle.ldpc_shape.specs.Shape.{pOf, eOf}
 use Rattle.ldpc_shape.specs.Shape as shape
 use Rattle.decoder_refuse.specs.declared.Asked.{Asked}

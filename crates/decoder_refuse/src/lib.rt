@@ -2,8 +2,6 @@
 ghost use mathlib.Core.Path.{_≡_};
 ghost use Prim.Native.Nat.{_+_, _*_, _/_, _<_, _≤_};
 ghost use lib.ListN.{length};
-ghost use Rattle.ldpc_shape.specs.Shape.{pOf, eOf};
-ghost use Rattle.ldpc_shape.specs.Shape as shape;
 ghost use Rattle.decoder_refuse.specs.Refusal.{badLanes, badWords, badStep, badPart, tooShort, workNeed, refusalOf};
 
 // A run's settings as far as a refusal speaks of them; the sequential schedule has no step.
@@ -23,22 +21,6 @@ pub struct Lent {
     pub out: usize,
     pub work: usize,
     pub index: usize,
-}
-
-// P, of an accepted code.
-pub fn checks(n: u32, lens: &[u32], addrs: &[u16]) -> usize
-    requires { ⌜ shape.refusalOf n (now lens) (now addrs) ≡ 0 ⌝ }
-    ensures { λ r. ⌜ r ≡ pOf n (now (lens .entry)) ⌝ }
-{
-    ldpc_shape::wide(n) - ldpc_shape::info_bits(lens)
-}
-
-// E, of an accepted code.
-pub fn edges(n: u32, lens: &[u32], addrs: &[u16]) -> usize
-    requires { ⌜ shape.refusalOf n (now lens) (now addrs) ≡ 0 ⌝ }
-    ensures { λ r. ⌜ r ≡ eOf n (now (lens .entry)) (now (addrs .entry)) ⌝ }
-{
-    374 * addrs.len() + 2 * checks(n, lens, addrs) - 1
 }
 
 fn bad_lanes(lanes: u32) -> bool
@@ -131,8 +113,8 @@ pub fn refusal(n: u32, lens: &[u32], addrs: &[u16], asked: Asked, lent: Lent) ->
     if bad_part(n, asked.first, asked.length) {
         return 11;
     }
-    let p = checks(n, lens, addrs);
-    let e = edges(n, lens, addrs);
+    let p = ldpc_shape::checks(n, lens, addrs);
+    let e = ldpc_shape::edges(n, lens, addrs);
     if too_short(ldpc_shape::wide(n), p, e, asked.lanes, lent) {
         return 13;
     }

@@ -1,6 +1,6 @@
 // The tally of a run from its words' records, the input order of the words, and work left zero.
 ghost use mathlib.Core.Path.{_≡_};
-ghost use Prim.Native.Nat.{ℕ, _<_, _≤_};
+ghost use Prim.Native.Nat.{ℕ, _≤_};
 ghost use lib.IntN.{pos};
 ghost use lib.ListN.{length, getD, replicate};
 ghost use Rattle.schedule.specs.Theorem.{input-order};

@@ -2,7 +2,7 @@
 -- accepted neighbour where the scope draws a line there. One theorem about the definitions that the contracts cite.
 use mathlib.Core.Path.{_≡_, refl}
 use mathlib.Core.Bool.{Bool, true, false}
-use mathlib.Core.List.{List, [], _∷_}
+use mathlib.Core.List.{[], _∷_}
 use Prim.Native.Nat.{ℕ}
 use native.Mathlib.Decide.{decLt}
 use lib.ListN.{replicate}
@@ -10,8 +10,6 @@ use Rattle.ldpc_shape.specs.Shape.{kOf, pOf, qOf, eOf, total, anyOver, countMod
 use Rattle.ldpc.specs.Answers.{orElse, otherOf, beyondOf, shortOf, checkRefusal, parityRefusal, encodeRefusal, weightRefusal}
 use Rattle.bch.specs.Answers.{wordRefusal, messageRefusal}
 use Rattle.decoder_refuse.specs.Refusal as run
-use Rattle.decoder_refuse.specs.declared.Asked.{Asked}
-use Rattle.decoder_refuse.specs.declared.Lent.{Lent}
 
 -- a run of the code n 374 without rows, and slices that are long enough for it: BCH part of 193 bits from 0
 abbrev runOf : (lanes limit : ℕ) → Bool → (step soft out : ℕ) → ℕ
@@ -48,6 +46,7 @@ pub record Differences : Type 0 where
   pub soft-short : runOf 1 1 false 0 373 374 ≡ 8
   pub step-0 : runOf 1 1 true 0 374 374 ≡ 10
   -- `decode_all` accepts, or has it as a constant
+  pub lanes-0 : runOf 0 1 false 0 0 0 ≡ 7
   pub lanes-65 : runOf 65 1 false 0 374 374 ≡ 7
   pub words-4097 : runOf 1 1 false 0 1532278 1532278 ≡ 8
   pub limit-65536 : runOf 1 65536 false 0 374 374 ≡ 9
@@ -79,6 +78,7 @@ differences =
       message-65344 = refl;
       soft-short = refl;
       step-0 = refl;
+      lanes-0 = refl;
       lanes-65 = refl;
       words-4097 = refl;
       limit-65536 = refl;

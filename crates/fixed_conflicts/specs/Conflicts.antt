@@ -1,6 +1,6 @@
 -- What is worked out of an accepted code's addresses, and what it says of the code's lists.
 use mathlib.Core.Path.{_≡_, refl, sym, ap, _∙_, subst}
-use mathlib.Core.Bool.{Bool, true, false}
+use mathlib.Core.Bool.{Bool, true, false, true≢false}
 use mathlib.Core.List.{List, [], _∷_, _++_, append-nil}
 use Prim.Native.Nat.{ℕ, zero, suc, _+_, _*_, _-_, _/_, _%_, _≤_, _<_}
 use native.Mathlib.Omega.{arith}
@@ -10,7 +10,6 @@ use native.Mathlib.Decide.{ℕ-discrete, decLt}
 use borrow.Author.Tests.{ltb-false, eq-eqb, eqb-true}
 use lib.ListN.{length, take, drop, getD, length-append, List·getD-append}
 use lib.Seq.{getD-take, getD-drop, getD-append-add}
-use Rattle.laws.specs.Lists.{true-false}
 use Rattle.lane_math.specs.Iteration.{degree}
 use Rattle.lane_memory.specs.Room.{sharedIn}
 use Rattle.ldpc_shape.specs.Shape.{kOf, pOf, qOf, rowsOf, total, countMod}
@@ -180,7 +179,7 @@ module _ (n : ℕ) (lens addrs : List ℕ) (A : Accepted n lens addrs) (index : 
           go (no m) = omega (arith, q-pos n lens addrs A)
           go (yes m) =
               let z : v / 374 ≡ length lens = omega (arith, n-is n lens addrs A, p-is n lens addrs A, m) in
-              absurd (true-false (sym (ap (λ (y : ℕ). getD flags y false) z ∙ fl .of-parity ∙ eq-eqb (qOf n lens) 1 m) ∙ e))
+              absurd (true≢false (sym (ap (λ (y : ℕ). getD flags y false) z ∙ fl .of-parity ∙ eq-eqb (qOf n lens) 1 m) ∙ e))
 
       parity-at : (y c k : ℕ) → c < pOf n lens → (k < length (check n lens addrs c)) × (getD (check n lens addrs c) k 0 ≡ kOf lens + y) → (y ≡ c → ⊥) → y + 1 ≡ c
       parity-at y c k b s d = go (ℕ-discrete (y + 1) c)
@@ -300,7 +299,7 @@ module _ (n : ℕ) (lens addrs : List ℕ) (A : Accepted n lens addrs) (index : 
                   omega (arith, span-below g (omega arith), length-append bits (stairs (kOf lens) c)),
                   omega (arith, w .parity l h, w .rows (length lens) l (omega arith) h),
                 )
-            go (no i) (no d) = absurd (true-false (sym e ∙ fl .others g (omega arith) d))
+            go (no i) (no d) = absurd (true≢false (sym e ∙ fl .others g (omega arith) d))
 
         split-of : (g v : ℕ) → getD flags g false ≡ true → k < length (check n lens addrs c) → getD (check n lens addrs c) k 0 ≡ v → v < n → Split (spanAt table l g) (spanAt table l (g + 1)) (374 * g) k v
         unfolding kOf
@@ -323,7 +322,7 @@ module _ (n : ℕ) (lens addrs : List ℕ) (A : Accepted n lens addrs) (index : 
                   upto = λ r. omega (arith, n-is n lens addrs A, p-is n lens addrs A);
                   behind = λ r. absurd (omega (arith, w .parity l h, w .rows (length lens) l (omega arith) h, count, check-length n lens addrs c, q, span-is (length lens) (omega arith)));
                 }
-            go (no i) (no d) = absurd (true-false (sym e ∙ fl .others g (omega arith) d))
+            go (no i) (no d) = absurd (true≢false (sym e ∙ fl .others g (omega arith) d))
 
       -- ---- so a layer's runs may count on it
       pub shares : Shares n (qOf n lens) (codeIn (pOf n lens) index) l 374 l table flags
@@ -356,4 +355,4 @@ module _ (n : ℕ) (lens addrs : List ℕ) (A : Accepted n lens addrs) (index : 
           below g e (yes i) d = omega (arith, n-is n lens addrs A)
           below g e (no i) (yes d) =
               omega (arith, n-is n lens addrs A, p-is n lens addrs A, eqb-true (qOf n lens) 1 (sym (fl .of-parity) ∙ ap (λ (y : ℕ). getD flags y false) (sym d) ∙ e))
-          below g e (no i) (no d) = absurd (true-false (sym e ∙ fl .others g (omega arith) d))
+          below g e (no i) (no d) = absurd (true≢false (sym e ∙ fl .others g (omega arith) d))

@@ -1,6 +1,6 @@
 -- The values of a row's variables at the end of a run, from all the edges that they have in it: gathered edge by edge, then settled, clamped once.
 use mathlib.Core.Path.{_≡_, refl, sym, ap, _∙_, subst}
-use mathlib.Core.Bool.{Bool, true, false, cond}
+use mathlib.Core.Bool.{Bool, true, false, cond, true≢false}
 use mathlib.Core.List.{List}
 use Prim.Native.Nat.{ℕ, zero, suc, _+_, _*_, _-_, _/_, _≤_, _<_}
 use native.Mathlib.Omega.{arith}
@@ -12,7 +12,6 @@ use lib.Dec.{eqb}
 use lib.ListN.{getD, set, length}
 use lib.Seq.{getD-set-same, getD-set-other}
 use lib.IntN.{ℤ, natAbs}
-use Rattle.laws.specs.Lists.{true-false}
 use Rattle.laws.specs.Choice.{eqb-sym}
 use Rattle.lane_math.specs.Value.{satZ}
 use Rattle.lane_math.specs.Check.{put, wrote}
@@ -142,8 +141,8 @@ pub row-start : (n E : ℕ) (code : Code) (c : ℕ → ℕ) (base lanes : ℕ) (
 unfolding gatherRunAt
 row-start n E code c base lanes a seen sums zeros =
     record {
-      is = λ i j q r. record { seen = zeros j; total = λ e. absurd (true-false (sym e ∙ zeros j)) };
-      small = λ j r e. absurd (true-false (sym e ∙ zeros j));
+      is = λ i j q r. record { seen = zeros j; total = λ e. absurd (true≢false (sym e ∙ zeros j)) };
+      small = λ j r e. absurd (true≢false (sym e ∙ zeros j));
     }
 
 pub row-again : (n E : ℕ) {code : Code} {c : ℕ → ℕ} {m base from upto lanes : ℕ} (a : List ℤ) {x end s pl : ℕ} {seen seen′ : List Bool} {sums sums′ : List ℤ} → Grouped code c m base from upto → x < m → end ≤ upto → end ≤ degree code (c x)
@@ -282,7 +281,7 @@ written-again {n} {E} {code} {c} {m} {lanes} {flags} {a} {g} {a′} {a″} low w
     go : (b : Bool) → getD flags g false ≡ b → Written n E code c m lanes flags a (g + 1) a″
     go false e =
         record {
-          done = λ i u q h f. ap (λ (x : List ℤ). column lanes x i u) (k .plain e) ∙ w .done i u q (below u h (λ r. true-false (sym f ∙ ap (λ (j : ℕ). getD flags j false) r ∙ e)) (decLt u (374 * g))) f;
+          done = λ i u q h f. ap (λ (x : List ℤ). column lanes x i u) (k .plain e) ∙ w .done i u q (below u h (λ r. true≢false (sym f ∙ ap (λ (j : ℕ). getD flags j false) r ∙ e)) (decLt u (374 * g))) f;
           still = λ i u q h. ap (λ (x : List ℤ). column lanes x i u) (k .plain e) ∙ w .still i u q (λ r. h (omega arith));
         }
       where
@@ -292,7 +291,7 @@ written-again {n} {E} {code} {c} {m} {lanes} {flags} {a} {g} {a′} {a″} low w
     go true e =
         record {
           done = λ i u q h f. split i u q h f (decLt u (374 * g));
-          still = λ i u q h. v .others i u q (λ lo hi. true-false (sym e ∙ ap (λ (j : ℕ). getD flags j false) (sym (row u lo hi)) ∙ h (omega arith))) ∙ w .still i u q (λ r. h (omega arith));
+          still = λ i u q h. v .others i u q (λ lo hi. true≢false (sym e ∙ ap (λ (j : ℕ). getD flags j false) (sym (row u lo hi)) ∙ h (omega arith))) ∙ w .still i u q (λ r. h (omega arith));
         }
       where
         v : RowWritten n E code c m (374 * g) lanes a′ a″

@@ -1,15 +1,12 @@
 -- Tests joined by or, parts of lists, and lists of zeros.
 use mathlib.Core.Path.{_≡_, refl, sym, ap, _∙_}
-use mathlib.Core.Bool.{Bool, true, false, true≢false, _||_}
+use mathlib.Core.Bool.{Bool, false, _||_}
 use mathlib.Mathlib.Data.Bool.Basic.{or-eq-false-eq-eq-false-and-eq-false}
 use mathlib.Core.List.{List, [], _∷_}
 use Prim.Native.Nat.{ℕ, zero, suc, _-_}
 use native.Mathlib.Omega.{arith}
 use lib.ListN.{getD, take, drop, replicate}
 use lib.Seq.{take-nil}
-
-pub true-false : true ≡ false → ⊥
-true-false = true≢false
 
 pub or-left : (a b : Bool) → (a || b) ≡ false → a ≡ false
 or-left a b e = or-eq-false-eq-eq-false-and-eq-false a b .0 e .0

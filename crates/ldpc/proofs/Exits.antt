@@ -1,23 +1,20 @@
 -- What each exit of the entry points answers and leaves.
 use mathlib.Core.Path.{_≡_, refl, sym, ap, ap₂, _∙_, subst}
-use mathlib.Core.Bool.{Bool, true, false, cond}
-use mathlib.Core.List.{List, [], _∷_, _++_}
-use Prim.Native.Nat.{ℕ, zero, suc, _+_, _-_, _*_, _/_, _%_, _≤_, _<_}
+use mathlib.Core.Bool.{cond}
+use mathlib.Core.List.{List, _++_}
+use Prim.Native.Nat.{ℕ, suc, _+_, _-_, _*_, _/_, _≤_, _<_}
 use native.Mathlib.Omega.{arith}
 use borrow.Author.Tests.{eq-eqb, ne-eqb, lt-ltb, le-ltb, le-leb, lt-leb}
-use lib.Dec.{eqb, ltb, leb}
+use lib.Dec.{eqb}
 use lib.ListN.{length, take, drop}
 use lib.Seq.{length-take-le}
 use Rattle.ldpc_shape.specs.Shape.{kOf, pOf, qOf, eOf, refusalOf}
-use Rattle.ldpc_shape.specs.Accepted.{Accepted, accepted, p-pos, p-le}
+use Rattle.ldpc_shape.specs.Accepted.{accepted, p-pos}
 use Rattle.ldpc_shape.specs.Worked.{k-worked, p-worked, e-worked, lists-worked}
 use Rattle.ldpc_edges.specs.Code.{check, edgeLists, parity, encode, weight}
 use Rattle.ldpc_edges.specs.Degree.{degree-le}
 use Rattle.ldpc_edges.specs.Layout.{lists-length}
 use Rattle.ldpc_edges.specs.Encoder.{parity-length, encode-length}
-use Rattle.ldpc.specs.declared.Made.{Made}
-use Rattle.ldpc.specs.declared.Counted.{Counted}
-use Rattle.ldpc.specs.declared.Written.{Written}
 use Rattle.ldpc.specs.declared.Made.the-variants as made
 use Rattle.ldpc.specs.declared.Counted.the-variants as counted
 use Rattle.ldpc.specs.declared.Written.the-variants as written

@@ -1,6 +1,6 @@
 -- What each turn of the loops does.
 use mathlib.Core.Path.{_≡_, refl, sym, ap, ap₂, _∙_, subst}
-use mathlib.Core.Bool.{Bool, true, false, cond}
+use mathlib.Core.Bool.{cond}
 use mathlib.Core.List.{List, [], _∷_, _++_, append-assoc, append-nil}
 use Prim.Native.Nat.{ℕ, zero, suc, _+_, _-_, _*_, _/_, _%_, _≤_, _<_}
 use native.Mathlib.Omega.{arith}
@@ -9,13 +9,13 @@ use native.Mathlib.Numerals.{add-one}
 use borrow.Author.Tests.{eq-eqb, ne-eqb, lt-ltb, le-ltb}
 use lib.Dec.{eqb, ltb}
 use lib.ListN.{length, take, drop, getD, set, length-append, length-take, length-drop, length-set, drop-of-length-le, take-append-drop}
-use lib.Seq.{drop-cons, drop-drop, drop-length, drop-set-lt, take-suc, take-suc-set, take-at, drop-at, take-append-le, drop-append-add, take-append-add, set-split, length-take-le}
-use Rattle.ldpc_shape.specs.Shape.{kOf, pOf, qOf, rowsOf, total, countMod, refusalOf}
-use Rattle.ldpc_shape.specs.Accepted.{Accepted, accepted, q-pos, q-le, rows-le, addrs-le, n-is}
+use lib.Seq.{drop-cons, drop-drop, drop-length, drop-set-lt, take-suc, take-suc-set, take-at, drop-at, set-split, length-take-le}
+use Rattle.ldpc_shape.specs.Shape.{kOf, pOf, rowsOf, total, countMod, refusalOf}
+use Rattle.ldpc_shape.specs.Accepted.{Accepted, accepted, q-pos, q-le, rows-le, addrs-le}
 use Rattle.ldpc_shape.specs.Worked.{k-worked, q-beside, p-beside}
 use Rattle.ldpc_shape.specs.Counts.{Counted}
 use Rattle.ldpc_shape.specs.Lent.{lent-from, back-from}
-use Rattle.ldpc_edges.specs.Code.{Edge, ofBits, ofRows, meets, only, stairs, check}
+use Rattle.ldpc_edges.specs.Code.{ofBits, ofRows, meets, only, stairs, check}
 use Rattle.ldpc_edges.specs.Inside.{only-append}
 use Rattle.ldpc_edges.specs.Insert.{insert, insert-length, place, row-cons}
 use Rattle.ldpc_edges.specs.Degree.{bits-none, bits-count, count-split, degree, degree-le}

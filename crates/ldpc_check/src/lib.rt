@@ -1,9 +1,9 @@
 // The list of one check of an accepted code, from the addresses alone: each address equal to c modulo q joins one bit of its row to check c.
 ghost use mathlib.Core.Path.{_≡_};
 ghost use mathlib.Core.List.{_++_};
-ghost use Prim.Native.Nat.{ℕ, _+_, _*_, _<_, _≤_};
+ghost use Prim.Native.Nat.{_+_, _*_, _<_, _≤_};
 ghost use lib.ListN.{length, take, drop};
-ghost use Rattle.ldpc_shape.specs.Shape.{kOf, pOf, rowsOf, total, refusalOf};
+ghost use Rattle.ldpc_shape.specs.Shape.{pOf, rowsOf, total, refusalOf};
 ghost use Rattle.ldpc_edges.specs.Code.{ofBits, ofRows, only, stairs, check};
 ghost use Rattle.ldpc_edges.specs.Insert.{insert, place};
 

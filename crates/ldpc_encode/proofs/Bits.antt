@@ -1,21 +1,19 @@
 -- Sums modulo 2: a row turned, the addresses of a row, all rows; the bits of the checks of one residue.
 use mathlib.Core.Path.{_≡_, refl, sym, ap, ap₂, _∙_, subst}
-use mathlib.Core.Bool.{Bool, true, false, cond}
-use mathlib.Core.List.{List, [], _∷_, _++_}
-use Prim.Native.Nat.{ℕ, zero, suc, _+_, _-_, _*_, _/_, _%_, _≤_, _<_}
+use mathlib.Core.Bool.{cond}
+use mathlib.Core.List.{List, _++_}
+use Prim.Native.Nat.{ℕ, zero, suc, _+_, _-_, _/_, _%_, _≤_, _<_}
 use native.Mathlib.Omega.{arith}
-use native.Mathlib.Nat.{mod-lt, mod-eq-of-lt, add-mul-div-right, add-mul-mod-self-right, div-eq-of-lt}
 use native.Mathlib.Numerals.{add-one}
-use native.Mathlib.Decide.{ℕ-discrete, decLt}
+use native.Mathlib.Decide.{decLt}
 use borrow.Author.Tests.{eq-eqb, ne-eqb}
 use lib.Bits.{bitXor}
 use lib.Dec.{eqb}
-use lib.ListN.{length, take, drop, getD, set, length-take, length-drop, length-append, length-set, List·getD-append, drop-of-length-le}
-use lib.Seq.{drop-cons, drop-length, drop-drop, getD-take, getD-drop, getD-append-add, getD-set-same, getD-set-other, length-take-le}
+use lib.ListN.{length, take, drop, getD, length-take, length-drop, length-append, List·getD-append, drop-of-length-le}
+use lib.Seq.{drop-cons, getD-take, getD-drop, getD-append-add, length-take-le}
 use Rattle.laws.specs.Modulo.{xor-parity}
-use Rattle.ldpc_edges.specs.Code.{ones}
 use Rattle.ldpc_shape.specs.Lent.{lent-from, back-from}
-use Rattle.ldpc_encode.specs.Sums.{xors, turnedBit, rowBit, infoBit, Added, Scattered, stairBit, unmetAt}
+use Rattle.ldpc_encode.specs.Sums.{xors, turnedBit, rowBit, Added, stairBit}
 use Rattle.ldpc_encode.proofs.Bytes.{xors-length, xors-at}
 
 -- ---- the parity bits of a check

@@ -1,23 +1,21 @@
 -- The loops over the checks l, l + q, and so on, and over the residues l.
 use mathlib.Core.Path.{_≡_, refl, sym, ap, ap₂, _∙_, subst}
-use mathlib.Core.Bool.{Bool, true, false, cond}
-use mathlib.Core.List.{List, [], _∷_, _++_}
+use mathlib.Core.List.{List}
 use Prim.Native.Nat.{ℕ, zero, suc, _+_, _-_, _*_, _/_, _%_, _≤_, _<_}
 use native.Mathlib.Omega.{arith}
 use native.Mathlib.Nat.{mod-lt, mul-lt-mul-of-pos-right, div-add-mod', div-lt-iff-lt-mul, zero-add}
-use native.Mathlib.Numerals.{add-one}
 use native.Mathlib.Decide.{ℕ-discrete}
 use lib.ListN.{length, take, drop, getD, set, replicate, length-set, length-drop, getD-replicate}
 use lib.Seq.{getD-set-same, getD-set-other, getD-drop}
 use Rattle.laws.specs.Modulo.{sumTo, sum-none, sum-more, sum-same, sum-grid}
 use Rattle.ldpc_shape.specs.Shape.{kOf, pOf, qOf, rowsOf, total, refusalOf}
-use Rattle.ldpc_shape.specs.Accepted.{Accepted, accepted, p-is, p-pos, p-le, n-is, q-pos, q-le, rows-le}
+use Rattle.ldpc_shape.specs.Accepted.{Accepted, accepted, p-is, p-pos, n-is, q-pos, q-le, rows-le}
 use Rattle.ldpc_shape.specs.Worked.{q-beside}
 use Rattle.ldpc_shape.specs.Lent.{lent-from}
 use Rattle.ldpc_edges.specs.Code.{ofRows, meets, only, ones, stairs, check, sums, parity, unmet, unmets, weight}
 use Rattle.ldpc_edges.specs.Encoder.{parity-from}
 use Rattle.ldpc_encode.specs.Sums.{Added, infoBit, Scattered, stairBit, unmetAt}
-use Rattle.ldpc_encode.proofs.Rows.{at-mod, at-div, at-lt, ones-append}
+use Rattle.ldpc_encode.proofs.Rows.{at-mod, at-lt, ones-append}
 
 pub at-next : (q l i c : ℕ) → c ≡ l + i * q → c + q ≡ l + (i + 1) * q
 at-next q l i c e = omega arith

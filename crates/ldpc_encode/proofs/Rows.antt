@@ -2,7 +2,7 @@
 use mathlib.Core.Path.{_≡_, refl, sym, ap, ap₂, _∙_, subst}
 use mathlib.Core.Bool.{Bool, true, false, cond}
 use mathlib.Core.List.{List, [], _∷_, _++_}
-use Prim.Native.Nat.{ℕ, zero, suc, _+_, _-_, _*_, _/_, _%_, _≤_, _<_}
+use Prim.Native.Nat.{ℕ, _+_, _-_, _*_, _/_, _%_, _≤_, _<_}
 use native.Mathlib.Omega.{arith}
 use native.Mathlib.Nat.{mod-lt, mod-eq-of-lt, add-mul-div-right, add-mul-mod-self-right, div-eq-of-lt}
 use native.Mathlib.Numerals.{add-one}
@@ -10,8 +10,8 @@ use lib.Arith.{digits-lt}
 use lib.Dec.{eqb}
 use lib.ListN.{length, take, drop, getD, drop-of-length-le}
 use lib.Seq.{drop-cons, drop-drop, getD-take, getD-drop}
-use Rattle.ldpc_shape.specs.Shape.{rowsOf, total}
-use Rattle.ldpc_edges.specs.Code.{Edge, ofBits, ofRows, only, ones}
+use Rattle.ldpc_shape.specs.Shape.{rowsOf}
+use Rattle.ldpc_edges.specs.Code.{ofBits, ofRows, only, ones}
 use Rattle.ldpc_edges.specs.Inside.{only-append}
 use Rattle.ldpc_edges.specs.Insert.{insert, insert-ones, place, row-cons}
 use Rattle.ldpc_edges.specs.Degree.{bits-none}

@@ -2,7 +2,7 @@
 // The checks are taken by their residue modulo q, 374 at a time: an address adds its row's 374 bits, turned, to those of its residue.
 ghost use mathlib.Core.Path.{_≡_};
 ghost use mathlib.Core.List.{_++_};
-ghost use Prim.Native.Nat.{ℕ, _+_, _-_, _*_, _/_, _%_, _<_, _≤_};
+ghost use Prim.Native.Nat.{ℕ, _+_, _*_, _/_, _%_, _<_, _≤_};
 ghost use lib.ListN.{length, drop, getD};
 ghost use Rattle.laws.specs.Modulo.{sumTo};
 ghost use Rattle.ldpc_shape.specs.Shape.{kOf, pOf, total, refusalOf};

@@ -1,7 +1,7 @@
 -- The slice is filled with the code's lists.
 use mathlib.Core.Path.{_≡_, refl, sym, ap, ap₂, _∙_, subst}
 use mathlib.Core.Bool.{cond}
-use mathlib.Core.List.{List, [], _∷_, _++_}
+use mathlib.Core.List.{List, [], _++_}
 use Prim.Native.Nat.{ℕ, zero, suc, _+_, _-_, _*_, _/_, _%_, _≤_, _<_}
 use native.Mathlib.Omega.{arith}
 use native.Mathlib.Nat.{mod-lt}
@@ -10,11 +10,11 @@ use lib.Dec.{eqb}
 use lib.ListN.{length, take, drop, getD, length-drop, take-append-drop, drop-of-length-le}
 use lib.Seq.{slice, getD-take, length-take-le, ext-getD, drop-drop}
 use Rattle.laws.specs.Lists.{drop-take}
-use Rattle.ldpc_shape.specs.Shape.{kOf, pOf, qOf, eOf, rowsOf, total, countMod, refusalOf}
-use Rattle.ldpc_shape.specs.Accepted.{Accepted, accepted, p-is, p-pos, p-le, n-is, q-pos, q-le, rows-le, addrs-le, few}
+use Rattle.ldpc_shape.specs.Shape.{kOf, pOf, qOf, eOf, rowsOf, total, refusalOf}
+use Rattle.ldpc_shape.specs.Accepted.{Accepted, accepted, p-pos, p-le, q-pos, q-le, addrs-le, few}
 use Rattle.ldpc_shape.specs.Worked.{k-worked, p-worked, q-worked}
 use Rattle.ldpc_shape.specs.Counts.{Counted}
-use Rattle.ldpc_edges.specs.Code.{Edge, ofRows, meets, only, stairs, check, startOf, starts, joined, rowStart, rows, edgeLists}
+use Rattle.ldpc_edges.specs.Code.{Edge, ofRows, meets, check, startOf, joined, rowStart, rows, edgeLists}
 use Rattle.ldpc_edges.specs.Degree.{degree}
 use Rattle.ldpc_edges.specs.Count.{start, start-le, toStairs, allEdges, all-check, all-inside, stairs-inside, all-start, start-of}
 use Rattle.ldpc_edges.specs.Layout.{start-length, start-at}

@@ -1,14 +1,14 @@
 -- What each turn of the builder's loops does.
 use mathlib.Core.Path.{_≡_, refl, sym, ap, ap₂, _∙_, subst}
 use mathlib.Core.List.{List, [], _∷_, _++_, append-assoc}
-use Prim.Native.Nat.{ℕ, zero, suc, _+_, _-_, _*_, _/_, _%_, _≤_, _<_}
+use Prim.Native.Nat.{ℕ, zero, suc, _+_, _-_, _*_, _%_, _≤_, _<_}
 use native.Mathlib.Omega.{arith}
 use native.Mathlib.Nat.{mod-lt, mul-le-mul, le-refl}
-use lib.ListN.{length, take, drop, getD, length-append, length-take, length-drop, take-append-drop}
+use lib.ListN.{length, take, drop, getD, length-take, length-drop, take-append-drop}
 use lib.Seq.{drop-cons, drop-length, drop-drop, take-suc, take-length}
 use Rattle.ldpc_shape.specs.Shape.{rowsOf, total}
-use Rattle.ldpc_edges.specs.Code.{Edge, edge, met, ofBits, ofRows, only, stairs}
-use Rattle.ldpc_edges.specs.Inside.{Inside, met-inside, bits-inside, rows-inside}
+use Rattle.ldpc_edges.specs.Code.{Edge, edge, met, ofBits, ofRows}
+use Rattle.ldpc_edges.specs.Inside.{met-inside, bits-inside, rows-inside}
 use Rattle.ldpc_lists.specs.Build.{Lists, parts, Ready, put, putAll, putAll-append, put-bits-length, put-at-length, Room, room-next, room-later, room-then}
 
 pub shift-fits : (j q : ℕ) → j < 374 → q ≤ 120 → j * q ≤ 44880

@@ -1,12 +1,10 @@
 -- What each turn of the loop over the stairs does.
 use mathlib.Core.Path.{_≡_, refl, sym, ap, ap₂, _∙_, subst}
 use mathlib.Core.List.{List, [], _∷_, _++_, append-assoc}
-use Prim.Native.Nat.{ℕ, zero, suc, _+_, _-_, _*_, _/_, _%_, _≤_, _<_}
+use Prim.Native.Nat.{ℕ, zero, suc, _+_, _-_, _≤_, _<_}
 use native.Mathlib.Omega.{arith}
-use lib.ListN.{length, take, drop, getD}
-use Rattle.ldpc_edges.specs.Code.{Edge, edge, only, stairs}
-use Rattle.ldpc_edges.specs.Inside.{Inside}
-use Rattle.ldpc_edges.specs.Count.{toBits, toStairs, stair-inside, stairs-inside}
+use Rattle.ldpc_edges.specs.Code.{Edge, edge, stairs}
+use Rattle.ldpc_edges.specs.Count.{toBits, toStairs, stairs-inside}
 use Rattle.ldpc_lists.specs.Build.{Lists, Ready, put, putAll, putAll-append, Room, room-next, room-later, room-then}
 
 -- ---- one check

@@ -2,7 +2,7 @@
 // The slice is filled from the lists' ends: each start is first its list's end and goes down by one for each bit.
 ghost use mathlib.Core.Path.{_≡_};
 ghost use mathlib.Core.Bool.{cond};
-ghost use Prim.Native.Nat.{ℕ, suc, _+_, _*_, _%_, _<_, _≤_};
+ghost use Prim.Native.Nat.{suc, _+_, _*_, _%_, _<_, _≤_};
 ghost use lib.Dec.{eqb};
 ghost use lib.ListN.{length, getD};
 ghost use Rattle.ldpc_shape.specs.Shape.{pOf, eOf, rowsOf, total, refusalOf};

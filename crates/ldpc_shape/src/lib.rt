@@ -1,9 +1,9 @@
 // The shape of a code, lent as n, the rows' lengths and their addresses, and the refusals 2 to 6.
 ghost use mathlib.Core.Path.{_≡_};
-ghost use mathlib.Core.Bool.{true, false};
+ghost use mathlib.Core.Bool.{false};
 ghost use Prim.Native.Nat.{_%_, _<_, _≤_};
 ghost use lib.ListN.{length};
-ghost use Rattle.ldpc_shape.specs.Shape.{kOf, total, anyOver, badLength, refusalOf};
+ghost use Rattle.ldpc_shape.specs.Shape.{kOf, pOf, eOf, total, anyOver, badLength, refusalOf};
 ghost use Rattle.ldpc_shape.specs.Counts.{Counts-of, tops};
 
 pub fn wide(x: u32) -> usize
@@ -121,4 +121,20 @@ pub fn info_bits(lens: &[u32]) -> usize
     ensures { λ r. ⌜ r ≡ kOf (now (lens .entry)) ⌝ }
 {
     lens.len() * 374
+}
+
+// P, of an accepted code.
+pub fn checks(n: u32, lens: &[u32], addrs: &[u16]) -> usize
+    requires { ⌜ refusalOf n (now lens) (now addrs) ≡ 0 ⌝ }
+    ensures { λ r. ⌜ r ≡ pOf n (now (lens .entry)) ⌝ }
+{
+    wide(n) - info_bits(lens)
+}
+
+// E, of an accepted code.
+pub fn edges(n: u32, lens: &[u32], addrs: &[u16]) -> usize
+    requires { ⌜ refusalOf n (now lens) (now addrs) ≡ 0 ⌝ }
+    ensures { λ r. ⌜ r ≡ eOf n (now (lens .entry)) (now (addrs .entry)) ⌝ }
+{
+    374 * addrs.len() + 2 * checks(n, lens, addrs) - 1
 }

@@ -21,7 +21,8 @@ use Rattle.ldpc_edges.specs.Encoder.{encode-weight}
 use Rattle.ldpc_edges.specs.Layout.{Laid, laid}
 use Rattle.fixed_code.specs.Lists.{rowsIn, codeIn, start-in, degree-in}
 use Rattle.fixed_code.specs.Code.{codeOf, code-in}
-use Rattle.outcome.specs.Outcome.{bitsFrom, bitsOf, unmetOf, unmetAt, metOf}
+use Rattle.fixed_code.specs.Count.{unmetAt}
+use Rattle.outcome.specs.Outcome.{bitsFrom, bitsOf, unmetOf, metOf}
 
 -- ---- a byte of the hard decisions is its value's
 hard-bit : (z : ℤ) → hard z % 2 ≡ hard z

@@ -4,7 +4,7 @@ ghost use mathlib.Core.Path.{_≡_};
 ghost use Prim.Native.Nat.{_+_, _<_, _≤_};
 ghost use lib.Dec.{eqb};
 ghost use lib.ListN.{length};
-ghost use Rattle.ldpc_shape.specs.Shape.{pOf, refusalOf};
+ghost use Rattle.ldpc_shape.specs.Shape.{pOf};
 ghost use Rattle.lane_math.specs.Iteration.{negatives};
 ghost use Rattle.lane_memory.specs.Room.{var};
 ghost use Rattle.fixed_code.specs.Lists.{Lists, codeIn};
@@ -17,14 +17,6 @@ ghost use Rattle.outcome.specs.Index.{Edges, values, Lent};
 pub struct Unmet {
     pub count: u32,
     pub check: u32,
-}
-
-// P of an accepted code.
-fn checks(n: u32, lens: &[u32], addrs: &[u16]) -> usize
-    requires { ⌜ refusalOf n (now lens) (now addrs) ≡ 0 ⌝ }
-    ensures { λ r. ⌜ r ≡ pOf n (now (lens .entry)) ⌝ }
-{
-    ldpc_shape::wide(n) - ldpc_shape::info_bits(lens)
 }
 
 // How many of the d edges from s have a variable with a negative value. A repeated variable counts as often as it occurs.
@@ -58,7 +50,7 @@ pub fn soft_met(n: u32, lens: &[u32], addrs: &[u16], index: &[u32], soft: &[i8])
     requires { ⌜ Lent n (now lens) (now addrs) (now index) (now soft) ⌝ }
     ensures { λ r. ⌜ r ≡ metOf (codeOf n (now (lens .entry)) (now (addrs .entry))) (pOf n (now (lens .entry))) (begin n (now (soft .entry))) ⌝ }
 {
-    let p = checks(n, lens, addrs);
+    let p = ldpc_shape::checks(n, lens, addrs);
     let mut c = 0;
     while c < p {
         if odd(index, p, c, soft) {
@@ -74,7 +66,7 @@ pub fn soft_unmet(n: u32, lens: &[u32], addrs: &[u16], index: &[u32], soft: &[i8
     requires { ⌜ Lent n (now lens) (now addrs) (now index) (now soft) ⌝ }
     ensures { λ r. ⌜ Counted (codeOf n (now (lens .entry)) (now (addrs .entry))) (pOf n (now (lens .entry))) (begin n (now (soft .entry))) (r .count) (r .check) ⌝ }
 {
-    let p = checks(n, lens, addrs);
+    let p = ldpc_shape::checks(n, lens, addrs);
     let mut count: u32 = 0;
     let mut check: usize = 0;
     let mut c: usize = 0;

@@ -241,8 +241,8 @@ pub extern "C" fn raxdov_run_sizes(
     if 64 < lanes {
         return 7;
     }
-    let p = decoder_refuse::checks(n, lens, addrs);
-    let e = decoder_refuse::edges(n, lens, addrs);
+    let p = ldpc_shape::checks(n, lens, addrs);
+    let e = ldpc_shape::edges(n, lens, addrs);
     let work = decoder_refuse::work_need(ldpc_shape::wide(n), e, ldpc_shape::wide(lanes));
     *sizes = [work, e + p + 1];
     0

@@ -1,7 +1,7 @@
 // Reads the report's text: a description within the limits, or refusal 1.
 ghost use mathlib.Core.Path.{_≡_};
 ghost use mathlib.Core.Bool.{true, _&&_};
-ghost use Prim.Native.Nat.{ℕ, _+_, _-_, _*_, _≤_, _<_};
+ghost use Prim.Native.Nat.{ℕ, _+_, _-_, _≤_, _<_};
 ghost use lib.IntN.{negsuc};
 ghost use lib.Dec.{ltb, eqb};
 ghost use mathlib.Core.List.{List};

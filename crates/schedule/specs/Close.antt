@@ -4,15 +4,15 @@ use mathlib.Core.Path.{_≡_, refl, sym, ap, _∙_}
 use mathlib.Core.Logic.{_≢_}
 use mathlib.Core.Bool.{Bool, true, false, cond}
 use mathlib.Core.List.{List, [], _∷_, _++_, append-assoc}
-use Prim.Native.Nat.{ℕ, suc, _+_, _-_, _≤_, _<_}
+use Prim.Native.Nat.{ℕ, _+_, _-_, _≤_, _<_}
 use native.Mathlib.Numerals.{add-one}
 use native.Mathlib.Omega.{arith}
 use borrow.Author.Tests.{eqb-true, eqb-false, eq-eqb, ne-eqb}
 use lib.Dec.{eqb}
 use lib.ListN.{length, getD, take, drop, length-append, length-drop, take-append-drop}
 use lib.Seq.{take-suc, take-all}
-use Rattle.laws.specs.Choice.{by-bool, by-cond, same, same-self}
-use Rattle.schedule.specs.Run.{Lane, empty, holds, Left, State, held, run}
+use Rattle.laws.specs.Choice.{by-bool, by-cond, same-self}
+use Rattle.schedule.specs.Run.{Lane, empty, holds, Left, State, held}
 use Rattle.schedule.specs.Status.{Status, waiting, holding, done, lane-words, log-words, queue-words, all-words, seek, status, times, count}
 use Rattle.schedule.specs.Demand.{Demand}
 use Rattle.schedule.specs.Theorem.{demand}

@@ -50,4 +50,4 @@ module _ {X : Type 0} (words : Words X) where
     -- if a word waits, the iterations given are lanes times rounds; if all are finished, lanes times rounds are at most all iterations and
     -- (lanes - 1) times the longest word's (this holds of a run that stopped, too)
     pub waits : (w : ℕ) → count w order ≡ 1 → status (r .last) w ≡ waiting → given order (r .last) ≡ lanes * r .last .rounds
-    pub bound : lanes * r .last .rounds ≤ given order (r .last) + (lanes - 1) * longest order (r .last)
+    pub most : lanes * r .last .rounds ≤ given order (r .last) + (lanes - 1) * longest order (r .last)

@@ -10,11 +10,11 @@ use borrow.Author.Tests.{not-true, not-false, eqb-false, ltb-true, lt-ltb}
 use lib.Dec.{eqb, ltb}
 use lib.ListN.{length, getD, drop, replicate, length-replicate, getD-replicate}
 use lib.Seq.{ext-getD}
-use Rattle.laws.specs.Choice.{by-bool, by-cond, same}
+use Rattle.laws.specs.Choice.{by-bool, by-cond}
 unfoldable pub use Rattle.schedule.specs.Run.{is-stopped}
 use Rattle.schedule.specs.Run.{Words, Lane, empty, holds, Left, Stock, State, Ending, finished, stopped, Result, each, held, over, fill, iterated, leave, refill, round, go, start, run}
 use Rattle.schedule.specs.Sums.{in-lane, in-lanes, in-queue, in-log, in-stock, Held, AllLanes, AllLog, each-all, each-sum, fill-sum, leave-sum, iterated-sum, iterated-all, fill-all, leave-all, leave-held}
-use Rattle.schedule.specs.Lanes.{Setup, lane-of, row, rows, length-rows, getD-rows, lane-held, any-held, any-is, kept, Kept, kept-start, stock, Stands, Sized}
+use Rattle.schedule.specs.Lanes.{Setup, lane-of, rows, length-rows, getD-rows, lane-held, any-held, any-is, Kept, kept-start, stock, Stands, Sized}
 use Rattle.schedule.specs.Refill.{Refilled, Assigned, fresh, refilled-later}
 use Rattle.schedule.specs.Round.{Advanced}
 

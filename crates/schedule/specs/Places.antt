@@ -1,8 +1,8 @@
 -- Each word of a run is in one place: lists of words with their status, each word once.
 use mathlib.Core.Path.{_≡_, refl, sym, ap, ap₂, _∙_, subst}
-use mathlib.Core.Bool.{true, cond}
+use mathlib.Core.Bool.{cond}
 use mathlib.Core.List.{List, [], _∷_, _++_}
-use Prim.Native.Nat.{ℕ, zero, suc, _+_, _*_, _≤_, max}
+use Prim.Native.Nat.{ℕ, _+_, _*_, _≤_, max}
 use native.Mathlib.Nat.{not-suc-le-zero}
 use native.Mathlib.Omega.{arith}
 use borrow.Author.Tests.{eqb-true}
@@ -10,7 +10,7 @@ use lib.Dec.{eqb}
 use Rattle.laws.specs.Choice.{by-cond, by-bool, same, same-self, same-sym}
 use Rattle.schedule.specs.Run.{Lane, empty, holds, Left, State}
 use Rattle.schedule.specs.Status.{Status, waiting, holding, done, spent, lane-words, log-words, queue-words, all-words, seek, status, times, count, sum, largest, case, Where}
-use Rattle.schedule.specs.Sums.{in-lane, in-lanes, in-queue, in-log, in-stock, one, Held, AllLanes, AllLog}
+use Rattle.schedule.specs.Sums.{in-lane, in-lanes, in-queue, in-log, in-stock, Held, AllLanes, AllLog}
 use Rattle.schedule.specs.Rounds.{total}
 
 -- ---- sums over an order

@@ -92,7 +92,7 @@ module _ {X : Type 0} (words : Words X) where
       pub busy : s .rounds ≤ spent-so-far s
       pub full : Some (s .stock .queue) → spent-so-far s ≡ suc others * s .rounds
       pub since : AllLanes (Since (s .rounds) (spent-so-far s)) (s .lanes)
-      pub bound : (m : ℕ) → total (above m) s ≡ 0 → suc others * s .rounds ≤ spent-so-far s + others * m
+      pub most : (m : ℕ) → total (above m) s ≡ 0 → suc others * s .rounds ≤ spent-so-far s + others * m
 
     refill-total : (f : ℕ → ℕ → ℕ) (s : State X) → total f (refill words s) ≡ total f s
     unfolding total refill
@@ -123,7 +123,7 @@ module _ {X : Type 0} (words : Words X) where
           busy = omega (arith, v .busy, same);
           full = λ h. same ∙ v .full (refill-full words (s .lanes) (s .stock) h .1);
           since = subst (λ (g : ℕ). AllLanes (Since (s .rounds) g) (each (fill words) (s .lanes) (s .stock) .0)) (sym same) (new .0);
-          bound = λ m h. omega (arith, same, v .bound m (sym (refill-total (above m) s) ∙ h));
+          most = λ m h. omega (arith, same, v .most m (sym (refill-total (above m) s) ∙ h));
         }
       where
         same : spent-so-far (refill words s) ≡ spent-so-far s
@@ -168,7 +168,7 @@ module _ {X : Type 0} (words : Words X) where
           busy = omega (arith, v .busy, more);
           full = λ h. let h′ = subst Some kept h in omega (arith, more, v .full h′, all h′);
           since = subst (λ (g : ℕ). AllLanes (Since (suc (s .rounds)) g) (each (leave words) (map (iterated words) (s .lanes)) (s .stock) .0)) (sym more) (older .0);
-          bound = λ m z.
+          most = λ m z.
               let l = a-lane (s .rounds) (spent-so-far s) m (s .lanes) (omega (arith, some, held-one (s .lanes))) (v .since) (none m z) in
               omega (arith, more, some, l .1, mul-le-mul-left others (l .2));
         }
@@ -267,7 +267,7 @@ module _ {X : Type 0} (words : Words X) where
           busy = omega arith;
           full = λ _. omega (arith, start-spent);
           since = all-empty _ (suc others);
-          bound = λ m _. omega arith;
+          most = λ m _. omega arith;
         }
 
     pub run-good : (round-limit : ℕ) → Good round-limit (run words order (suc others) round-limit)

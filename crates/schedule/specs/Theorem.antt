@@ -190,7 +190,7 @@ module _ {X : Type 0} (words : Words X) (order : List ℕ) (once : (w : ℕ) →
         held-count = number 0 1 0 ∙ omega arith;
         finished-count = number 0 0 1 ∙ omega arith;
         waits = λ w h e. given-is ∙ g .inv .full (some-queue w (s .stock .queue) (subst (Where s w) e (place-of w h) .0));
-        bound = subst (λ n. suc others * s .rounds ≤ given order s + n * longest order s) less (omega (arith, given-is, g .inv .bound (longest order s) none-above));
+        most = subst (λ n. suc others * s .rounds ≤ given order s + n * longest order s) less (omega (arith, given-is, g .inv .most (longest order s) none-above));
       }
     where
       less : others ≡ suc others - 1

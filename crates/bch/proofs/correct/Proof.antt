@@ -1,22 +1,13 @@
 -- `bch::correct` meets its contract: the syndromes are the remainder's, the register is a shortest one, and the places are its roots.
 -- Assumes nothing.
-use mathlib.Core.Path.{_≡_, refl, sym, ap, _∙_, subst}
-use mathlib.Core.List.{List}
-use Prim.Native.Nat.{ℕ, _≤_, _<_}
+use mathlib.Core.Path.{_∙_}
 use native.Mathlib.Omega.{arith}
 use borrow.Author.Needs.{needs}
-use lib.ListN.{getD}
 use Rattle.bch_table.specs.Step.{valueOf}
-use Rattle.bch.specs.Answers.{Located, located-to}
+use Rattle.bch.specs.Answers.{located-to}
 use Rattle.bch.proofs.Locate.{of-remainder, too-long, all-found, some-missing}
 use Rattle.bch.proofs.correct.Statement.{statement}
 use Rattle.bch.proofs.correct.Tie as tie
-use Rattle.bch.proofs.correct.Reads as reads
-use Rattle.bch.proofs.correct.Lts as lts
-use Rattle.bch.proofs.flip.Reads as flip-reads
-use Rattle.bch_locator.proofs.chien.Reads as chien-reads
-use Rattle.bch_locator.proofs.shortest.Reads as shortest-reads
-use Rattle.bch_locator.proofs.syndromes.Reads as syndromes-reads
 
 syndromes-requires : tie.Need-syndromes-requires
 syndromes-requires c κs = search needs

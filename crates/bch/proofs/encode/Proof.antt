@@ -1,7 +1,6 @@
-use native.Mathlib.Omega.{arith}
 use borrow.Author.Needs.{needs}
-use mathlib.Core.Path.{_≡_, sym, ap, _∙_}
-use mathlib.Core.List.{List, _++_}
+use mathlib.Core.Path.{sym, ap, _∙_}
+use mathlib.Core.List.{_++_}
 use Prim.Native.Nat.{ℕ, _+_}
 use lib.ListN.{length, drop}
 use Rattle.bch_table.specs.Step.{valueOf}
@@ -9,11 +8,6 @@ use Rattle.bch_remainder.specs.Word.{parityOf, parityBits}
 use Rattle.bch.specs.Answers.{encodeOut, encoded-bytes, long-message, short-output, fair-message, refused, done, unchanged, changed}
 use Rattle.bch.proofs.encode.Statement.{statement}
 use Rattle.bch.proofs.encode.Tie as tie
-use Rattle.bch.proofs.encode.Reads as reads
-use Rattle.bch.proofs.encode.Lts as lts
-use Rattle.bch_remainder.proofs.parity_register.Reads as parity-register-reads
-use Rattle.bch_remainder.proofs.write_parity.Reads as write-parity-reads
-use Rattle.bytes.proofs.copy.Reads as copy-reads
 
 -- src/lib.rt:49:9
 returns : tie.Need-returns

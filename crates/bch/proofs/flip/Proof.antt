@@ -1,7 +1,7 @@
 use borrow.Author.Needs.{needs}
 -- `bch::flip` meets its contract. The loop: the first i listed powers are turned. Assumes nothing.
 use mathlib.Core.Path.{_≡_, refl, sym, ap, _∙_}
-use Prim.Native.Nat.{ℕ, _-_, _≤_}
+use Prim.Native.Nat.{_-_, _≤_}
 use lib.ListN.{length, getD, length-set}
 use Rattle.laws.specs.Xor.{_⊕_}
 use Rattle.bch.specs.Places.{flipAll}
@@ -9,8 +9,6 @@ use Rattle.bch.proofs.FlipLoop.{flipAll-none, flip-again}
 use native.Mathlib.Omega.{arith}
 use Rattle.bch.proofs.flip.Statement.{statement}
 use Rattle.bch.proofs.flip.Tie as tie
-use Rattle.bch.proofs.flip.Reads as reads
-use Rattle.bch.proofs.flip.Lts as lts
 
 abbrev Inv-loop : tie.InvT-loop
 Inv-loop word₀ count at n i₀ word i = (i ≤ count) × (n ≡ length word₀) × (length word ≡ length word₀) × (word ≡ flipAll word₀ (λ k. getD at k 0) i)

@@ -1,15 +1,11 @@
-use borrow.Author.Needs.{needs}
 -- `bch::is_zero` meets its contract. Assumes nothing.
 use mathlib.Core.Path.{sym, ap}
 use Prim.Native.Nat.{ℕ}
 use lib.Dec.{eqb}
 use borrow.Author.Tests.{ne-eqb}
 use Rattle.bch.proofs.Zero.{high-nonzero, mid-nonzero, low-zero}
-use native.Mathlib.Omega.{arith}
 use Rattle.bch.proofs.is_zero.Statement.{statement}
 use Rattle.bch.proofs.is_zero.Tie as tie
-use Rattle.bch.proofs.is_zero.Reads as reads
-use Rattle.bch.proofs.is_zero.Lts as lts
 
 -- src/lib.rt:87:9
 returns : tie.Need-returns

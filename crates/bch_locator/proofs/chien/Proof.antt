@@ -2,7 +2,6 @@
 -- Assumes nothing.
 use Rattle.bch_locator.proofs.Search.{places-length}
 use borrow.Author.Needs.{needs}
-use native.Mathlib.Omega.{arith}
 use Rattle.bch_locator.proofs.chien.Statement.{statement}
 use Rattle.bch_locator.proofs.chien.Tie as tie
 

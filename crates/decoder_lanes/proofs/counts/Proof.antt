@@ -1,6 +1,5 @@
 -- `decoder_lanes::counts` meets its contract: zeros if none is asked for, else every lane is counted.
 -- Assumes nothing.
-use native.Mathlib.Omega.{arith}
 use borrow.Author.Needs.{needs}
 use borrow.Author.Tests.{not-true, not-false}
 use lib.ListN.{getD-replicate}

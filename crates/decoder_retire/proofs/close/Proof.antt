@@ -1,6 +1,5 @@
 -- `decoder_retire::close` meets its contract: what is counted is asked for if a word is held.
 -- Assumes nothing.
-use native.Mathlib.Omega.{arith}
 use borrow.Author.Needs.{needs}
 use Rattle.decoder_retire.specs.Counts.{counted-held}
 use Rattle.decoder_retire.proofs.close.Statement.{statement}

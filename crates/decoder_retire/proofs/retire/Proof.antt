@@ -1,6 +1,5 @@
 -- `decoder_retire::retire` meets its contract: what is counted is asked for if a word leaves unmet.
 -- Assumes nothing.
-use native.Mathlib.Omega.{arith}
 use borrow.Author.Needs.{needs}
 use mathlib.Core.Bool.{false}
 use lib.ListN.{getD}

@@ -1,7 +1,7 @@
 use borrow.Author.Needs.{needs}
 use native.Mathlib.Omega.{arith}
 use mathlib.Core.Path.{_≡_, refl, ap, _∙_}
-use Prim.Native.Nat.{ℕ, _+_, _-_, _≤_, _<_}
+use Prim.Native.Nat.{_-_, _≤_}
 use Rattle.schedule.specs.Lanes.{any-start, any-again, heldAt, any-held}
 use Rattle.decoder_retire.proofs.some_held.Statement.{statement}
 use Rattle.decoder_retire.proofs.some_held.Tie as tie

@@ -1,10 +1,9 @@
 use native.Mathlib.Omega.{arith}
 use borrow.Author.Needs.{needs}
 use mathlib.Core.Path.{_≡_, refl, sym, _∙_}
-use mathlib.Core.Bool.{true, false}
+use mathlib.Core.Bool.{true, false, true≢false}
 use borrow.Author.Tests.{not-true, not-false}
 use lib.ListN.{getD, length-replicate}
-use Rattle.laws.specs.Lists.{true-false}
 use Rattle.fixed_conflicts.specs.Table.{zeros}
 use Rattle.fixed_layered.specs.Rows.{row-written}
 use Rattle.fixed_layered.specs.Runs.{grouped}
@@ -17,7 +16,7 @@ element-copy-out-if1 c = search needs
 returns : tie.Need-returns
 returns c = let s = c .before .before .before .before .before in
     let e : getD (s .args .flags .now) (s .args .g) false ≡ false = not-true (getD (s .args .flags .now) (s .args .g) false) (c .if1 .taken) in
-    record { flagged = λ f. absurd (true-false (sym f ∙ e)); plain = λ f. refl }
+    record { flagged = λ f. absurd (true≢false (sym f ∙ e)); plain = λ f. refl }
 
 span-requires : tie.Need-span-requires
 span-requires c κs = let s = c .before .before .before .before .before in (s .pre .1 .0 .1 .0, (omega (arith, s .pre .1 .0 .1 .1 .1 .0), s .pre .1 .0 .1 .1 .0))
@@ -54,7 +53,7 @@ same-length-2 c = search needs
 returns-2 : tie.Need-returns-2
 returns-2 c = let s = c .before .before .before .before .before .before .before .before .before .before .before .before .before .before .before .before .before in
     let e : getD (s .args .flags .now) (s .args .g) false ≡ true = not-false (getD (s .args .flags .now) (s .args .g) false) (c .before .before .before .before .before .before .before .before .before .before .before .before .if1 .left) in
-    record { flagged = λ f. row-written (c .before .before .before .before .before .before .gather-row .ensures) (c .before .settle-row .ensures); plain = λ f. absurd (true-false (sym e ∙ f)) }
+    record { flagged = λ f. row-written (c .before .before .before .before .before .before .gather-row .ensures) (c .before .settle-row .ensures); plain = λ f. absurd (true≢false (sym e ∙ f)) }
 
 pub write-row-spec : {M : Type 1} → statement M
 write-row-spec =

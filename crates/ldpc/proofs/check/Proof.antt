@@ -3,7 +3,7 @@ use Rattle.ldpc_shape.specs.Worked.{fits}
 use Rattle.ldpc.proofs.Exits.{with-number, check-refused, check-beyond, check-below, check-small, check-short, check-done}
 use lib.ListN.{length}
 use Prim.Native.Nat.{ℕ, _≤_}
-use mathlib.Core.Path.{_≡_, refl, sym, ap, _∙_, subst}
+use mathlib.Core.Path.{sym, _∙_, subst}
 use native.Mathlib.Omega.{arith}
 use borrow.Author.Needs.{needs}
 use Rattle.ldpc.specs.Answers.{countedNumber, check-number}

@@ -2,8 +2,7 @@
 use Rattle.ldpc_shape.specs.Worked.{fits}
 use Rattle.ldpc.proofs.Exits.{with-number, encode-refused, encode-other, encode-short, encode-ready, encode-done}
 use lib.Seq.{length-take-le}
-use mathlib.Core.Path.{_≡_, refl, sym, ap, _∙_}
-use native.Mathlib.Omega.{arith}
+use mathlib.Core.Path.{sym, _∙_}
 use borrow.Author.Needs.{needs}
 use Rattle.ldpc.specs.Answers.{writtenNumber, encode-number}
 use Rattle.ldpc.proofs.encode.Statement.{statement}

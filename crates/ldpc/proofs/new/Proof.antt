@@ -2,7 +2,7 @@
 use Rattle.ldpc_shape.specs.Worked.{fits}
 use Rattle.ldpc.proofs.Exits.{with-number, new-refused, new-short, new-ready, new-done}
 use lib.Seq.{length-take-le}
-use mathlib.Core.Path.{_≡_, refl, sym, ap, _∙_}
+use mathlib.Core.Path.{sym, _∙_}
 use native.Mathlib.Omega.{arith}
 use borrow.Author.Needs.{needs}
 use Rattle.ldpc.specs.Answers.{madeNumber, new-number}

@@ -3,7 +3,7 @@ use Rattle.ldpc_shape.specs.Worked.{fits}
 use Rattle.ldpc.proofs.Exits.{with-number, parity-refused, parity-other, parity-short, parity-ready, parity-done}
 use lib.Seq.{length-take-le}
 use Prim.Native.Nat.{ℕ, _-_}
-use mathlib.Core.Path.{_≡_, refl, sym, ap, _∙_}
+use mathlib.Core.Path.{sym, ap, _∙_}
 use native.Mathlib.Omega.{arith}
 use borrow.Author.Needs.{needs}
 use Rattle.ldpc.specs.Answers.{writtenNumber, parity-number}

@@ -1,7 +1,6 @@
 -- `ldpc::syndrome_weight` meets its contract. Assumes nothing.
 use Rattle.ldpc.proofs.Exits.{weight-refused, weight-other, weight-done}
-use mathlib.Core.Path.{_≡_, refl, sym, ap, _∙_}
-use native.Mathlib.Omega.{arith}
+use mathlib.Core.Path.{sym, ap, _∙_}
 use borrow.Author.Needs.{needs}
 use Rattle.ldpc.specs.Answers.{countedNumber, weight-number}
 use Rattle.ldpc.proofs.syndrome_weight.Statement.{statement}

@@ -2,7 +2,7 @@
 use Rattle.ldpc_edges.specs.Insert.{place}
 use native.Mathlib.Nat.{mod-lt, div-lt-iff-lt-mul}
 use Prim.Native.Nat.{_+_, _-_, _/_, _%_}
-use mathlib.Core.Path.{_≡_, refl}
+use mathlib.Core.Path.{refl}
 use native.Mathlib.Omega.{arith}
 use borrow.Author.Needs.{needs}
 use Rattle.ldpc_check.proofs.bit_of.Statement.{statement}

@@ -1,8 +1,6 @@
 -- `ldpc_check::check_of` meets its contract. Assumes nothing.
 use Rattle.ldpc_check.proofs.Loops.{allOf, sizes, c-inside, sum-fits, info-room, stairs-room, check-done}
-use Rattle.ldpc_edges.specs.Code.{check}
-use lib.ListN.{length}
-use mathlib.Core.Path.{_≡_, refl, sym, ap, _∙_}
+use mathlib.Core.Path.{refl}
 use native.Mathlib.Omega.{arith}
 use borrow.Author.Needs.{needs}
 use Rattle.ldpc_check.proofs.check_of.Statement.{statement}

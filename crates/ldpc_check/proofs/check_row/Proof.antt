@@ -1,10 +1,9 @@
 -- `ldpc_check::check_row` meets its contract. Assumes nothing.
 use Rattle.ldpc_check.proofs.Loops.{found, row-start, row-size, row-room, row-hit, row-miss, row-end, found-fits}
-use native.Mathlib.Nat.{mod-lt}
 use lib.ListN.{length, drop}
-use Prim.Native.Nat.{_+_, _*_, _≤_, _-_}
+use Prim.Native.Nat.{_+_, _≤_}
 use mathlib.Core.List.{_++_}
-use mathlib.Core.Path.{_≡_, refl, sym, ap, _∙_}
+use mathlib.Core.Path.{_≡_, refl, ap}
 use borrow.Author.Needs.{needs}
 use native.Mathlib.Omega.{arith}
 use Rattle.ldpc_check.proofs.check_row.Statement.{statement}

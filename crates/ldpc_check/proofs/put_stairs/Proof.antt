@@ -1,7 +1,6 @@
 -- `ldpc_check::put_stairs` meets its contract. Assumes nothing.
 use Rattle.ldpc_check.proofs.Loops.{stair-one, stair-two}
 use lib.ListN.{length-set}
-use mathlib.Core.Path.{_≡_, refl, sym, ap, _∙_}
 use native.Mathlib.Omega.{arith}
 use borrow.Author.Needs.{needs}
 use Rattle.ldpc_check.proofs.put_stairs.Statement.{statement}

@@ -5,10 +5,9 @@ use Rattle.ldpc_encode.proofs.Bits.{Left}
 use Rattle.ldpc_encode.specs.Sums.{infoBit}
 use Rattle.ldpc_shape.specs.Shape.{total}
 use lib.ListN.{length-take, length-drop}
-use lib.Seq.{length-take-le}
 use lib.ListN.{length, drop}
 use Prim.Native.Nat.{_+_, _*_, _≤_, _-_}
-use mathlib.Core.Path.{_≡_, refl, sym, ap, _∙_}
+use mathlib.Core.Path.{_≡_, sym, _∙_}
 use borrow.Author.Needs.{needs}
 use native.Mathlib.Omega.{arith}
 use Rattle.ldpc_encode.proofs.add_rows.Statement.{statement}

@@ -1,7 +1,7 @@
 -- `ldpc_encode::add_turned` meets its contract. Assumes nothing.
 use Rattle.ldpc_encode.proofs.Bits.{first-fits, middle-length, second-fits, turned-done}
 use lib.Seq.{length-take-le}
-use mathlib.Core.Path.{_≡_, sym, _∙_}
+use mathlib.Core.Path.{sym, _∙_}
 use native.Mathlib.Omega.{arith}
 use borrow.Author.Needs.{needs}
 use Rattle.ldpc_encode.proofs.add_turned.Statement.{statement}

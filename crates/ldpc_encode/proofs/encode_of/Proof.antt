@@ -2,10 +2,10 @@
 use Rattle.ldpc_encode.proofs.Residue.{n-parts}
 use Rattle.ldpc_encode.proofs.Bytes.{rest-length, put-behind}
 use Rattle.ldpc_edges.specs.Code.{encode}
-use lib.ListN.{length, drop, length-append, length-drop}
-use Prim.Native.Nat.{ℕ, _+_, _≤_, _-_}
+use lib.ListN.{length, drop, length-append}
+use Prim.Native.Nat.{_≤_}
 use mathlib.Core.List.{_++_}
-use mathlib.Core.Path.{_≡_, refl, sym, ap, _∙_}
+use mathlib.Core.Path.{ap, _∙_}
 use native.Mathlib.Omega.{arith}
 use borrow.Author.Needs.{needs}
 use Rattle.ldpc_encode.proofs.encode_of.Statement.{statement}

@@ -1,7 +1,5 @@
 -- `ldpc_encode::odd` meets its contract. Assumes nothing.
 use Rattle.laws.specs.Modulo.{xor-parity}
-use native.Mathlib.Nat.{mod-lt}
-use mathlib.Core.Path.{_≡_, refl}
 use native.Mathlib.Omega.{arith}
 use borrow.Author.Needs.{needs}
 use Rattle.ldpc_encode.proofs.odd.Statement.{statement}

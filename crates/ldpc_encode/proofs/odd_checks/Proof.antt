@@ -3,7 +3,7 @@ use Rattle.ldpc_encode.proofs.Residue.{at-next, at-fits, count-next}
 use Rattle.ldpc_encode.specs.Sums.{unmetAt}
 use Rattle.laws.specs.Modulo.{sumTo, sum-none}
 use Prim.Native.Nat.{ℕ, _+_, _*_, _≤_, _-_}
-use mathlib.Core.Path.{_≡_, refl, sym, ap, _∙_}
+use mathlib.Core.Path.{_≡_, ap, _∙_}
 use borrow.Author.Needs.{needs}
 use native.Mathlib.Omega.{arith}
 use Rattle.ldpc_encode.proofs.odd_checks.Statement.{statement}

@@ -2,8 +2,8 @@
 use Prim.Native.Nat.{_%_}
 use Rattle.ldpc_encode.proofs.Residue.{Done, infoOnes, rows-fit, adds, k-fits, s-fits, info-is, done-start, done-again, parity-done}
 use lib.ListN.{length}
-use Prim.Native.Nat.{ℕ, _+_, _*_, _≤_, _-_}
-use mathlib.Core.Path.{_≡_, refl, sym, ap, _∙_}
+use Prim.Native.Nat.{ℕ, _≤_, _-_}
+use mathlib.Core.Path.{_≡_, refl, ap, _∙_}
 use borrow.Author.Needs.{needs}
 use native.Mathlib.Omega.{arith}
 use Rattle.ldpc_encode.proofs.parity_of.Statement.{statement}

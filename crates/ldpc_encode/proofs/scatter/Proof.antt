@@ -1,9 +1,8 @@
 -- `ldpc_encode::scatter` meets its contract. Assumes nothing.
 use Rattle.ldpc_encode.proofs.Residue.{at-next, at-fits, scatter-start, scatter-again, scatter-end}
 use Rattle.ldpc_encode.specs.Sums.{Scattered}
-use lib.ListN.{length}
-use Prim.Native.Nat.{ℕ, _+_, _*_, _≤_, _-_}
-use mathlib.Core.Path.{_≡_, refl, sym, _∙_}
+use Prim.Native.Nat.{_+_, _*_, _≤_, _-_}
+use mathlib.Core.Path.{_≡_}
 use borrow.Author.Needs.{needs}
 use native.Mathlib.Omega.{arith}
 use Rattle.ldpc_encode.proofs.scatter.Statement.{statement}

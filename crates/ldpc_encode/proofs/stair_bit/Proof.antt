@@ -1,8 +1,5 @@
 -- `ldpc_encode::stair_bit` meets its contract. Assumes nothing.
 use Rattle.ldpc_encode.proofs.Bits.{stair-first, stair-later}
-use Rattle.ldpc_encode.specs.Sums.{stairBit}
-use mathlib.Core.Path.{_≡_, refl, ap, sym, _∙_}
-use native.Mathlib.Omega.{arith}
 use borrow.Author.Needs.{needs}
 use Rattle.ldpc_encode.proofs.stair_bit.Statement.{statement}
 use Rattle.ldpc_encode.proofs.stair_bit.Tie as tie

@@ -1,7 +1,6 @@
 -- `ldpc_encode::sums_of` meets its contract. Assumes nothing.
 use Rattle.ldpc_encode.proofs.Residue.{from-zeros}
-use mathlib.Core.Path.{_≡_, refl, sym, ap, _∙_}
-use native.Mathlib.Omega.{arith}
+use mathlib.Core.Path.{refl}
 use borrow.Author.Needs.{needs}
 use Rattle.ldpc_encode.proofs.sums_of.Statement.{statement}
 use Rattle.ldpc_encode.proofs.sums_of.Tie as tie

@@ -1,8 +1,7 @@
 -- `ldpc_encode::weight_of` meets its contract. Assumes nothing.
 use Rattle.ldpc_encode.proofs.Residue.{unmetBelow, rows-fit, adds, n-fits, s-fits, info-is, below-start, below-next, below-end, parity-part, parity-size}
-use lib.ListN.{length, drop, take}
-use Prim.Native.Nat.{ℕ, _+_, _*_, _%_, _≤_, _-_}
-use mathlib.Core.Path.{_≡_, refl, sym, ap, _∙_}
+use Prim.Native.Nat.{ℕ, _*_, _%_, _≤_, _-_}
+use mathlib.Core.Path.{_≡_, ap, _∙_}
 use borrow.Author.Needs.{needs}
 use native.Mathlib.Omega.{arith}
 use Rattle.ldpc_encode.proofs.weight_of.Statement.{statement}

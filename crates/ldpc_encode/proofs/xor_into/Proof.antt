@@ -4,7 +4,7 @@ use Rattle.ldpc_encode.specs.Sums.{xors}
 use lib.ListN.{length, take, drop, length-set}
 use Prim.Native.Nat.{_≤_, _-_}
 use mathlib.Core.List.{_++_}
-use mathlib.Core.Path.{_≡_, refl, ap, sym, _∙_}
+use mathlib.Core.Path.{_≡_, refl, _∙_}
 use borrow.Author.Needs.{needs}
 use native.Mathlib.Omega.{arith}
 use Rattle.ldpc_encode.proofs.xor_into.Statement.{statement}

@@ -1,10 +1,10 @@
 -- `ldpc_lists::ends` meets its contract. Assumes nothing.
-use Rattle.ldpc_lists.specs.Ends.{Few, Ends, ending, ending-le, ending-next, ends-again, ends-last, ends-start, ending-start}
+use Rattle.ldpc_lists.specs.Ends.{Ends, ending, ending-le, ending-next, ends-again, ends-last, ends-start, ending-start}
 use lib.Seq.{getD-set-same}
-use lib.ListN.{length, getD, set, length-set}
+use lib.ListN.{length, length-set}
 use native.Mathlib.Nat.{mod-lt}
-use Prim.Native.Nat.{ℕ, suc, _+_, _*_, _≤_, _<_, _-_, _%_}
-use mathlib.Core.Path.{_≡_, refl, ap, sym, _∙_, subst}
+use Prim.Native.Nat.{_≤_, _<_, _-_, _%_}
+use mathlib.Core.Path.{_≡_, refl, ap, _∙_, subst}
 use borrow.Author.Needs.{needs}
 use native.Mathlib.Omega.{arith}
 use Rattle.ldpc_lists.proofs.ends.Statement.{statement}

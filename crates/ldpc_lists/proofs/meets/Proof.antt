@@ -1,7 +1,6 @@
 -- `ldpc_lists::meets` meets its contract. Assumes nothing.
 use Prim.Native.Nat.{_+_}
 use native.Mathlib.Nat.{mod-lt}
-use mathlib.Core.Path.{refl}
 use native.Mathlib.Omega.{arith}
 use borrow.Author.Needs.{needs}
 use Rattle.ldpc_lists.proofs.meets.Statement.{statement}

@@ -1,10 +1,10 @@
 -- `ldpc_lists::put_met` meets its contract. Assumes nothing.
 use Rattle.ldpc_lists.proofs.Loops.{shift-fits, same-parts, met-start, met-room, met-again, met-end}
-use Rattle.ldpc_lists.specs.Build.{parts, put, putAll}
+use Rattle.ldpc_lists.specs.Build.{parts, putAll}
 use Rattle.ldpc_edges.specs.Code.{met}
-use lib.ListN.{length, getD, drop}
-use Prim.Native.Nat.{ℕ, _+_, _*_, _≤_, _<_, _-_, _%_}
-use mathlib.Core.Path.{_≡_, refl, ap, sym, _∙_, subst}
+use lib.ListN.{length, drop}
+use Prim.Native.Nat.{_≤_}
+use mathlib.Core.Path.{_≡_}
 use borrow.Author.Needs.{needs}
 use native.Mathlib.Omega.{arith}
 use Rattle.ldpc_lists.proofs.put_met.Statement.{statement}

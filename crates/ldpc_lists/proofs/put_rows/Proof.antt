@@ -4,7 +4,7 @@ use Rattle.ldpc_lists.specs.Build.{parts, putAll}
 use Rattle.ldpc_edges.specs.Code.{ofRows}
 use Rattle.ldpc_shape.specs.Shape.{rowsOf}
 use lib.ListN.{length, drop}
-use Prim.Native.Nat.{_+_, _*_, _≤_, _-_}
+use Prim.Native.Nat.{_*_, _≤_}
 use mathlib.Core.Path.{_≡_, sym, _∙_}
 use borrow.Author.Needs.{needs}
 use native.Mathlib.Omega.{arith}

@@ -1,7 +1,5 @@
 -- `ldpc_lists::stair` meets its contract. Assumes nothing.
 use borrow.Author.Tests.{eq-eqb, ne-eqb}
-use mathlib.Core.Path.{_≡_, refl}
-use borrow.Author.Needs.{needs}
 use native.Mathlib.Omega.{arith}
 use Rattle.ldpc_lists.proofs.stair.Statement.{statement}
 use Rattle.ldpc_lists.proofs.stair.Tie as tie

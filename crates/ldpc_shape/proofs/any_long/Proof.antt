@@ -1,9 +1,9 @@
 -- `ldpc_shape::any_long` meets its contract. Assumes nothing.
 use native.Mathlib.Omega.{arith}
-use mathlib.Core.Path.{_≡_, refl, ap, sym, _∙_}
-use Prim.Native.Nat.{ℕ, _+_, _≤_, _<_, _-_}
-use lib.ListN.{length, drop, getD}
-use Rattle.ldpc_shape.specs.Shape.{anyOver, total}
+use mathlib.Core.Path.{_≡_, refl}
+use Prim.Native.Nat.{_≤_, _-_}
+use lib.ListN.{length, drop}
+use Rattle.ldpc_shape.specs.Shape.{anyOver}
 use Rattle.ldpc_shape.proofs.Loops.{over-hit, over-miss, over-end}
 use borrow.Author.Needs.{needs}
 use Rattle.ldpc_shape.proofs.any_long.Statement.{statement}

@@ -3,7 +3,7 @@ use Rattle.ldpc_shape.proofs.Loops.{tops-hit, tops-miss, tops-end}
 use Rattle.ldpc_shape.specs.Counts.{tops}
 use Rattle.ldpc_shape.specs.Shape.{anyOver}
 use Prim.Native.Nat.{ℕ, _≤_}
-use mathlib.Core.Path.{_≡_, refl, ap, sym, _∙_}
+use mathlib.Core.Path.{_≡_, ap, sym}
 use borrow.Author.Needs.{needs}
 use native.Mathlib.Omega.{arith}
 use Rattle.ldpc_shape.proofs.any_many.Statement.{statement}

@@ -1,5 +1,5 @@
 -- `ldpc_shape::bad_length` meets its contract. Assumes nothing.
-use mathlib.Core.Path.{_≡_, refl, sym}
+use mathlib.Core.Path.{sym}
 use borrow.Author.Tests.{eq-eqb, ne-eqb}
 use Rattle.ldpc_shape.specs.Shape.{badLength}
 use Rattle.ldpc_shape.proofs.bad_length.Statement.{statement}

@@ -1,6 +1,6 @@
 -- `ldpc_shape::counts` meets its contract. Assumes nothing.
 use mathlib.Core.Path.{_≡_, refl, _∙_}
-use Prim.Native.Nat.{ℕ, _≤_, _-_}
+use Prim.Native.Nat.{_≤_, _-_}
 use lib.ListN.{length, take, length-set}
 use Rattle.ldpc_shape.specs.Counts.{Counts-of}
 use Rattle.ldpc_shape.proofs.Loops.{counted-start, counted-again, counted-room, counted-end}

@@ -2,7 +2,7 @@
 use Rattle.ldpc_shape.proofs.Loops.{sum-fits, small, refuse-length, refuse-rows, refuse-over, refuse-sum, refuse-many, refuse-none}
 use lib.ListN.{length}
 use Prim.Native.Nat.{ℕ, _≤_, _<_}
-use mathlib.Core.Path.{_≡_, refl, sym, _∙_, subst}
+use mathlib.Core.Path.{refl, sym, _∙_, subst}
 use native.Mathlib.Omega.{arith}
 use borrow.Author.Needs.{needs}
 use Rattle.ldpc_shape.proofs.refusal.Statement.{statement}

@@ -1,9 +1,9 @@
 -- `ldpc_shape::sum_of` meets its contract. Assumes nothing.
 use native.Mathlib.Omega.{arith}
-use mathlib.Core.Path.{_≡_, refl, ap, sym, _∙_}
-use Prim.Native.Nat.{ℕ, _+_, _≤_, _<_, _-_}
-use lib.ListN.{length, drop, getD}
-use Rattle.ldpc_shape.specs.Shape.{anyOver, total}
+use mathlib.Core.Path.{_≡_, ap, _∙_}
+use Prim.Native.Nat.{ℕ, _+_, _≤_, _-_}
+use lib.ListN.{length, drop}
+use Rattle.ldpc_shape.specs.Shape.{total}
 use Rattle.ldpc_shape.proofs.Loops.{sum-again, sum-room, sum-end}
 use borrow.Author.Needs.{needs}
 use Rattle.ldpc_shape.proofs.sum_of.Statement.{statement}

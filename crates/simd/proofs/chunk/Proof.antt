@@ -1,9 +1,5 @@
 use native.Mathlib.Omega.{arith}
 use borrow.Author.Needs.{needs}
-use mathlib.Core.Path.{_≡_, subst}
-use mathlib.Core.List.{List}
-use Prim.Native.Nat.{ℕ}
-use lib.IntN.{ℤ}
 use Rattle.laws.specs.Signed.{plain}
 use Rattle.lane16.specs.Lanes.{readied-to, reduced-none-negative}
 use Rattle.lane_memory.specs.Column.{part-offset}

@@ -1,14 +1,14 @@
--- `decoder_refuse::edges` meets its contract, by what acceptance says of a code.
+-- `ldpc_shape::edges` meets its contract, by what acceptance says of a code.
 -- Assumes nothing.
 use mathlib.Core.Path.{ap}
 use Prim.Native.Nat.{ℕ, _-_, _+_, _*_}
 use native.Mathlib.Omega.{arith}
 use borrow.Author.Needs.{needs}
 use lib.ListN.{length}
 use Rattle.ldpc_shape.specs.Shape.{eOf}
 use Rattle.ldpc_shape.specs.Accepted.{accepted, addrs-le, p-le, p-pos}
-use Rattle.decoder_refuse.proofs.edges.Statement.{statement}
-use Rattle.decoder_refuse.proofs.edges.Tie as tie
+use Rattle.ldpc_shape.proofs.edges.Statement.{statement}
+use Rattle.ldpc_shape.proofs.edges.Tie as tie
 
 mul-result : tie.Need-mul-result
 mul-result c = omega (arith, addrs-le _ _ _ (accepted _ _ _ (c .before .before .pre)))

@@ -1,13 +1,13 @@
--- `decoder_refuse::checks` meets its contract, by what acceptance says of a code.
+-- `ldpc_shape::checks` meets its contract, by what acceptance says of a code.
 -- Assumes nothing.
 use mathlib.Core.Path.{ap₂}
 use Prim.Native.Nat.{_-_}
 use native.Mathlib.Omega.{arith}
 use borrow.Author.Needs.{needs}
 use Rattle.ldpc_shape.specs.Shape.{pOf}
 use Rattle.ldpc_shape.specs.Accepted.{accepted, rows-le, n-is}
-use Rattle.decoder_refuse.proofs.checks.Statement.{statement}
-use Rattle.decoder_refuse.proofs.checks.Tie as tie
+use Rattle.ldpc_shape.proofs.checks.Statement.{statement}
+use Rattle.ldpc_shape.proofs.checks.Tie as tie
 
 wide-requires : tie.Need-wide-requires
 wide-requires c κs = search needs
