@@ -1,10 +1,11 @@
 -- What a run promises: one record whose fields read as demand 3's sentence. The run is the scope's own (schedule, Run); a word alone is outcome's
 -- `alone`; neither knows of the other, and the schedule's Demand joins them.
-use mathlib.Core.Path.{_≡_}
+use mathlib.Core.Path.{_≡_, sym, ap, _∙_}
 use mathlib.Core.Logic.{_≢_}
 use mathlib.Core.Bool.{Bool}
 use mathlib.Core.List.{List, _++_}
 use Prim.Native.Nat.{ℕ, _+_, _-_, _*_, _≤_, _<_}
+use native.Mathlib.Decide.{ℕ-discrete}
 use lib.IntN.{ℤ, pos}
 use lib.ListN.{length, getD, drop, replicate}
 use Rattle.lane_math.specs.Check.{Word}
@@ -91,3 +92,12 @@ pub record Runs (n : ℕ) (lens addrs : List ℕ) (soft : List ℤ) (set : Setti
   pub refused : runRefusal n lens addrs soft set room out work index ≢ 0 → Refuses (runRefusal n lens addrs soft set room out work index) out out′ work work′ index index′ r
   pub accepted : runRefusal n lens addrs soft set room out work index ≡ 0
       → Accepts (planOf n lens soft set) lens addrs soft (isLayered (set .schedule)) (stepOf (set .schedule)) (set .offset) (set .rounds) out out′ work work′ index index′ r
+
+-- the number that a run answers is the first refusal that applies
+pub run-number : (n : ℕ) (lens addrs : List ℕ) (soft : List ℤ) (set : Settings) (room : ℕ) (out out′ : List ℕ) (work work′ : List ℤ) (index index′ : List ℕ) (r : Ran)
+    → Runs n lens addrs soft set room out out′ work work′ index index′ r → r .refusal ≡ runRefusal n lens addrs soft set room out work index
+run-number n lens addrs soft set room out out′ work work′ index index′ r R = at (ℕ-discrete (runRefusal n lens addrs soft set room out work index) 0)
+  where
+    at : Dec (runRefusal n lens addrs soft set room out work index ≡ 0) → r .refusal ≡ runRefusal n lens addrs soft set room out work index
+    at (yes e) = R .accepted e .number ∙ sym e
+    at (no e) = ap (λ (x : Ran). x .refusal) (R .refused e .answer)

@@ -1,16 +1,15 @@
 -- A row's edges stand together in a check's list, at the same place in every check of a layer: as many as the row has addresses equal to l modulo q.
 use mathlib.Core.Path.{_≡_, refl, sym, ap, _∙_, subst}
-use mathlib.Core.Bool.{Bool, true, false, cond}
 use mathlib.Core.List.{List, [], _∷_, _++_}
 use Prim.Native.Nat.{ℕ, zero, suc, _+_, _*_, _-_, _%_, _≤_, _<_}
 use native.Mathlib.Omega.{arith}
 use native.Mathlib.Decide.{decLt}
-use lib.Dec.{eqb}
 use lib.ListN.{length, take, drop, getD, length-append, length-drop, List·getD-append}
 use lib.Seq.{getD-append-add}
 use Rattle.ldpc_shape.specs.Shape.{rowsOf, total, countMod}
-use Rattle.ldpc_edges.specs.Code.{Edge, edge, ofBits, ofRows, only}
-use Rattle.ldpc_edges.specs.Inside.{Inside, bits-inside, only-append}
+use Rattle.ldpc_edges.specs.Code.{ofBits, ofRows, only}
+use Rattle.ldpc_edges.specs.Inside.{bits-inside, only-append}
+use Rattle.ldpc_edges.specs.Count.{only-inside}
 use Rattle.ldpc_edges.specs.Insert.{Rising}
 use Rattle.ldpc_edges.specs.Degree.{bits-count, count-split, rows-rising}
 use Rattle.fixed_conflicts.specs.Edges.{rowOf, row-next}
@@ -48,16 +47,6 @@ rising-at v [] R k h = absurd (omega (arith, h))
 rising-at v (b ∷ bs) R zero h = R .0
 rising-at v (b ∷ bs) R (suc k) h = omega (arith, R .0, rising-at b bs (R .1) k (omega arith))
 
-only-below : (P top c : ℕ) (es : List Edge) → Inside P top es → (k : ℕ) → k < length (only c es) → getD (only c es) k 0 < top
-unfolding only
-only-below P top c [] I k h = absurd (omega (arith, h))
-only-below P top c (edge p m ∷ es) I k h = go (eqb p c) k h (only-below P top c es (I .2))
-  where
-    go : (b : Bool) (k : ℕ) → k < length (cond b (m ∷ only c es) (only c es)) → ((k : ℕ) → k < length (only c es) → getD (only c es) k 0 < top) → getD (cond b (m ∷ only c es) (only c es)) k 0 < top
-    go true zero h ih = I .1
-    go true (suc k) h ih = ih k (omega arith)
-    go false k h ih = ih k h
-
 module _ (q c : ℕ) (pos : 0 < q) (h : c < 374 * q) where
   abbrev list : ℕ → List ℕ → List ℕ → List ℕ
   list m lens addrs = only c (ofRows (374 * q) q m (rowsOf lens addrs))
@@ -70,7 +59,7 @@ module _ (q c : ℕ) (pos : 0 < q) (h : c < 374 * q) where
   parts m n lens addrs = only-append c (ofBits (374 * q) q 374 m 0 (take n addrs)) (ofRows (374 * q) q (m + 374) (rowsOf lens (drop n addrs)))
 
   first-below : (m : ℕ) (row : List ℕ) (k : ℕ) → k < length (first m row) → getD (first m row) k 0 < m + 374
-  first-below m row k r = only-below (374 * q) (m + 374) c (ofBits (374 * q) q 374 m 0 row) (bits-inside (374 * q) q (m + 374) 374 m 0 row (omega arith) (omega arith)) k r
+  first-below m row k r = only-inside (374 * q) (m + 374) c (ofBits (374 * q) q 374 m 0 row) (bits-inside (374 * q) q (m + 374) 374 m 0 row (omega arith) (omega arith)) k r
 
   pub groups-below : (m : ℕ) (lens addrs : List ℕ) (g k : ℕ) → k < spanOf q (c % q) lens addrs g → k < length (list m lens addrs) → getD (list m lens addrs) k 0 < m + 374 * g
   unfolding spanOf

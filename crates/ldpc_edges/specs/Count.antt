@@ -178,7 +178,7 @@ pub start-last : (n : ℕ) (lens addrs : List ℕ) → Accepted n lens addrs →
 start-last n lens addrs A = sym (start-of n lens addrs (pOf n lens) (omega arith)) ∙ all-start n lens addrs A
 
 -- ---- every bit of a check's list is below n
-only-inside : (P k c : ℕ) (es : List Edge) → Inside P k es → (i : ℕ) → i < length (only c es) → getD (only c es) i 0 < k
+pub only-inside : (P k c : ℕ) (es : List Edge) → Inside P k es → (i : ℕ) → i < length (only c es) → getD (only c es) i 0 < k
 unfolding only
 only-inside P k c [] I i h = absurd (omega arith)
 only-inside P k c (edge p m ∷ es) I i h = go (eqb p c) i h (only-inside P k c es (I .2))

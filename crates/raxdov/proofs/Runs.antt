@@ -3,12 +3,11 @@ use mathlib.Core.Path.{_≡_, refl, sym, ap, _∙_, transport}
 use mathlib.Core.Logic.{_≢_}
 use mathlib.Core.List.{List, [], _∷_, _++_}
 use Prim.Native.Nat.{ℕ, zero, suc, _*_, _/_, _≤_}
-use native.Mathlib.Decide.{ℕ-discrete}
 use native.Mathlib.Omega.{arith}
 use lib.IntN.{ℤ}
 use lib.ListN.{length, drop}
 use Rattle.decoder.specs.Settings.{runRefusal}
-use Rattle.decoder.specs.Runs.{Runs}
+use Rattle.decoder.specs.Runs.{Runs, run-number}
 use Rattle.decoder.specs.declared.Ran.{Ran}
 use Rattle.decoder.specs.declared.Schedule.{Schedule}
 use Rattle.decoder.specs.declared.Settings.{Settings}
@@ -33,11 +32,7 @@ module _ (n : ℕ) (lens addrs : List ℕ) (soft : List ℤ) (lanes limit layere
     runs = transport (λ i. Run (settingsBy (es i) (eo i))) R
 
     refusal-is : r .refusal ≡ number
-    refusal-is = at (ℕ-discrete number 0)
-      where
-        at : Dec (number ≡ 0) → r .refusal ≡ number
-        at (yes e) = runs .accepted e .number ∙ sym e
-        at (no e) = ap (λ (x : Ran). x .refusal) (runs .refused e .answer)
+    refusal-is = run-number n lens addrs soft told (length records / 5) out out′ work work′ index index′ r runs
 
     -- the words fit the records lent
     pub fit : (r .words ≤ 4096) × (5 * r .words ≤ length records)

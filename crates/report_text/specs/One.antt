@@ -17,14 +17,13 @@ use Rattle.decoder_words.specs.Book.{View, view, book, ownPart}
 use Rattle.decoder_words.specs.Tells.{Tells}
 use Rattle.decoder_words.specs.declared.Plan.{Plan}
 use Rattle.decoder.specs.Settings.{isLayered, stepOf, runRefusal, planOf}
-use Rattle.decoder.specs.Runs.{Accepts, theRun}
+use Rattle.decoder.specs.Runs.{Accepts, theRun, run-number}
 use Rattle.decoder.specs.declared.Ran.{Ran}
 use Rattle.report_form.specs.Description.{Description, flat}
 use Rattle.report_form.specs.Reading.{softWords}
 use Rattle.report_lines.specs.Lines.{Result, renderResult, refusedLine}
 use Rattle.report_text.specs.Report.{runSettings, resultFor, resultIn, resultsIn, linesFor, linesOf, outputOf, Run, Reported}
 use Rattle.report_text.specs.Lines.{lines-refused}
-use Rattle.report_text.specs.Room.{number-is}
 use Rattle.report_text.specs.declared.Output.{Output}
 
 -- what a line shows of a word's record
@@ -81,10 +80,10 @@ module _ (d : Description) (r r′ : Ran) (R : Run d r) (R′ : Run d r′) wher
   asked′ = runRefusal (d .n) (map length (d .rows)) (flat (d .rows)) (softWords (d .n) (d .words)) (runSettings (d .settings)) (R′ .room) (R′ .out) (R′ .work) (R′ .index)
 
   is : r .refusal ≡ asked
-  is = number-is (d .n) (map length (d .rows)) (flat (d .rows)) (softWords (d .n) (d .words)) (runSettings (d .settings)) (R .room) (R .out) (R .out′) (R .work) (R .work′) (R .index) (R .index′) r (R .runs)
+  is = run-number (d .n) (map length (d .rows)) (flat (d .rows)) (softWords (d .n) (d .words)) (runSettings (d .settings)) (R .room) (R .out) (R .out′) (R .work) (R .work′) (R .index) (R .index′) r (R .runs)
 
   is′ : r′ .refusal ≡ asked′
-  is′ = number-is (d .n) (map length (d .rows)) (flat (d .rows)) (softWords (d .n) (d .words)) (runSettings (d .settings)) (R′ .room) (R′ .out) (R′ .out′) (R′ .work) (R′ .work′) (R′ .index) (R′ .index′) r′ (R′ .runs)
+  is′ = run-number (d .n) (map length (d .rows)) (flat (d .rows)) (softWords (d .n) (d .words)) (runSettings (d .settings)) (R′ .room) (R′ .out) (R′ .out′) (R′ .work) (R′ .work′) (R′ .index) (R′ .index′) r′ (R′ .runs)
 
   asked-same : asked ≡ asked′
   unfolding runRefusal refusalOf

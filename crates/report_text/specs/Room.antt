@@ -25,7 +25,7 @@ use Rattle.decoder_words.specs.Book.{View, view, book, ownPart}
 use Rattle.decoder_words.specs.Tells.{Tells}
 use Rattle.decoder_words.specs.declared.Plan.{Plan}
 use Rattle.decoder.specs.Settings.{isLayered, stepOf, runRefusal, planOf}
-use Rattle.decoder.specs.Runs.{Runs, Accepts, theRun}
+use Rattle.decoder.specs.Runs.{Runs, Accepts, theRun, run-number}
 use Rattle.decoder.specs.declared.Ran.{Ran}
 use Rattle.decoder.specs.declared.Settings.{Settings}
 use Rattle.decoder.specs.declared.Schedule.{Schedule}
@@ -167,14 +167,6 @@ module _ (n : ℕ) (lens addrs : List ℕ) (soft : List ℤ) (set : Settings) (r
   abbrev number : ℕ
   number = runRefusal n lens addrs soft set room out work index
 
-  -- the run's number is the first refusal that applies
-  pub number-is : ran .refusal ≡ runRefusal n lens addrs soft set room out work index
-  number-is = at (ℕ-discrete number 0)
-    where
-      at : Dec (number ≡ 0) → ran .refusal ≡ number
-      at (yes e) = R .accepted e .number ∙ sym e
-      at (no e) = ap (λ (x : Ran). x .refusal) (R .refused e .answer)
-
   pub writable : room ≤ 16 → Writable ran
   writable h = at (ℕ-discrete number 0)
     where
@@ -244,7 +236,7 @@ module _ {text : List ℕ} {words words′ : List ℤ} {r : Reading} (D : OneDes
             (D .within .n) (D .within .sixteen) (soft-words-length (d .n) (d .words))
             (subst (λ (k : ℕ). length (flat (d .rows)) ≤ k * 4) (sym (length-map (d .rows) length)) (flat-few (d .rows) (D .within .rows)))
             (D .within .settings .lanes) (R .out-long) (R .work-long) (R .index-long)
-            (sym (number-is (d .n) (map length (d .rows)) (flat (d .rows)) (softWords (d .n) (d .words)) (runSettings (d .settings)) 16 (R .out) (R .out′) (R .work) (R .work′) (R .index) (R .index′) ran runs-so) ∙ e);
+            (sym (run-number (d .n) (map length (d .rows)) (flat (d .rows)) (softWords (d .n) (d .words)) (runSettings (d .settings)) 16 (R .out) (R .out′) (R .work) (R .work′) (R .index) (R .index′) ran runs-so) ∙ e);
       }
 
   pub run-writable : Writable ran
