@@ -8,8 +8,9 @@ use native.Mathlib.Decide.{ℕ-discrete}
 use native.Mathlib.Numerals.{add-one}
 use native.Mathlib.Omega.{arith}
 use lib.ListN.{length, getD, set, length-set}
-use lib.Seq.{getD-set-same, getD-set-other, ext-getD}
+use lib.Seq.{getD-set-other, ext-getD}
 use Rattle.laws.specs.Xor.{_⊕_}
+use Rattle.laws.specs.Put.{set-at}
 use Rattle.algebra.specs.GfField.{El}
 use Rattle.gf16.specs.Field16.{gf16}
 use Rattle.gf16.specs.Alpha.{R16}
@@ -63,8 +64,7 @@ flipAll-at w at (suc k) i h inside apart = pick (ℕ-discrete i k) (λ g. flipAl
         let t : indexOf (length w) (at i) ≡ there = ap₂ (λ (x y : ℕ). indexOf x y) (sym n) (ap at e) in
         let b : there ≡ indexOf (length w) (at k) = ap (λ (x : ℕ). indexOf x (at k)) n in
         let inn : there < length (flipAll w at k) = omega (arith, n, a) in
-        ap (λ (j : ℕ). getD (set (flipAll w at k) there (getD (flipAll w at k) there 0 ⊕ 1)) j 0) t
-        ∙ getD-set-same (flipAll w at k) there _ 0 inn
+        set-at 0 (flipAll w at k) there _ (indexOf (length w) (at i)) inn t
         ∙ ap (λ (j : ℕ). getD (flipAll w at k) j 0 ⊕ 1) b
         ∙ ap (λ (x : ℕ). x ⊕ 1) (flipAll-off w at k (at k) a (λ i g. inside i (omega arith)) (λ i g. apart i k g (le-refl (suc k))))
         ∙ ap (λ (j : ℕ). getD w (indexOf (length w) (at j)) 0 ⊕ 1) (sym e)

@@ -1,17 +1,16 @@
 -- An array of sixteen that a loop fills: each entry below i meets P. Assumes nothing.
-use mathlib.Core.Path.{_≡_, refl, sym, ap, _∙_, subst}
+use mathlib.Core.Path.{_≡_, refl, _∙_}
 use mathlib.Core.List.{List}
 use Prim.Native.Nat.{ℕ, _+_, _*_, _≤_, _<_}
 use native.Mathlib.Nat.{mul-le-mul, le-of-suc-le-suc}
-use native.Mathlib.Decide.{ℕ-discrete}
 use native.Mathlib.Omega.{arith}
 use lib.ListN.{getD, set, length-set, replicate}
-use lib.Seq.{getD-set-same, getD-set-other}
 use Rattle.algebra.specs.Values.{ev}
 use Rattle.gf16.specs.Alpha.{R16, α}
 use Rattle.bch_locator.specs.Element.{toEl, poly}
 use Rattle.bch_locator.specs.Lanes.{Lanes, Products}
 use Rattle.laws.specs.Lists.{zeros-at}
+use Rattle.laws.specs.Put.{set-each, grown}
 
 pub record Filling (P : ℕ → ℕ → Type 0) (r : List ℕ) (i : ℕ) : Type 0 where
   pub lanes : Lanes r
@@ -25,20 +24,11 @@ pub filling-start : (P : ℕ → ℕ → Type 0) (r : List ℕ) → Lanes r → 
 filling-start P r z = record { lanes = z; below = omega arith; at = λ j h. absurd (omega arith) }
 
 pub lanes-set : (r : List ℕ) (i v : ℕ) → Lanes r → i < 16 → v < 65536 → Lanes (set r i v)
-lanes-set r i v l h hv = record { len = length-set r i v ∙ l .len; fit = λ j. fits j (ℕ-discrete j i) }
-  where
-    fits : (j : ℕ) → Dec (j ≡ i) → getD (set r i v) j 0 < 65536
-    fits j (yes e) = subst (λ (z : ℕ). z < 65536) (sym (ap (λ (k : ℕ). getD (set r i v) k 0) e ∙ getD-set-same r i v 0 (omega (arith, l .len)))) hv
-    fits j (no ne) = subst (λ (z : ℕ). z < 65536) (sym (getD-set-other r i j v 0 ne)) (l .fit j)
+lanes-set r i v l h hv = record { len = length-set r i v ∙ l .len; fit = set-each 0 (λ _ x. x < 65536) r i v (omega (arith, l .len)) hv (λ j _. l .fit j) }
 
 pub filling-again : (P : ℕ → ℕ → Type 0) (r : List ℕ) (i v : ℕ) → Filling P r i → i < 16 → v < 65536 → P i v → Filling P (set r i v) (i + 1)
 filling-again P r i v F h hv p =
-    record { lanes = lanes-set r i v (F .lanes) h hv; below = omega arith; at = λ j g. pick j g (ℕ-discrete j i) }
-  where
-    pick : (j : ℕ) → j < i + 1 → Dec (j ≡ i) → P j (getD (set r i v) j 0)
-    pick j g (yes e) =
-        subst (λ (k : ℕ). P k (getD (set r i v) k 0)) (sym e) (subst (P i) (sym (getD-set-same r i v 0 (omega (arith, F .lanes .len)))) p)
-    pick j g (no ne) = subst (P j) (sym (getD-set-other r i j v 0 ne)) (F .at j (omega arith))
+    record { lanes = lanes-set r i v (F .lanes) h hv; below = omega arith; at = grown 0 P r i v (omega (arith, F .lanes .len)) (F .at) p }
 
 -- ---- `times`
 abbrev pub At : List ℕ → List ℕ → ℕ → ℕ → Type 0

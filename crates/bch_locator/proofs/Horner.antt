@@ -25,6 +25,7 @@ use Rattle.bch_locator.proofs.Product.{digit-top, digit-next}
 use Rattle.bch_locator.proofs.Raised.{lanes-raised, ev-join}
 use Rattle.bch_locator.proofs.Filling.{Filling}
 use Rattle.laws.specs.Lists.{zeros-at}
+use Rattle.laws.specs.Put.{set-at}
 
 -- ---- `add_bit`
 abbrev pub Plus : List ℕ → ℕ → ℕ → ℕ → Type 0
@@ -187,9 +188,8 @@ squaring-again s t k v q h S e f =
 
     square : (j : ℕ) → j < k + 1 → Dec (j ≡ k) → toEl (getD s′ (2 * j + 1) 0) ≡ R16 ._⊠_ (toEl (getD s′ j 0)) (toEl (getD s′ j 0))
     square j g (yes d) =
-        let a : 2 * j + 1 ≡ 2 * k + 1 = omega arith in
         let b : getD u k 0 ≡ getD s′ j 0 = sym (ap (λ (m : ℕ). getD s′ m 0) d ∙ early k (omega arith)) in
-        ap toEl (ap (λ (m : ℕ). getD s′ m 0) a ∙ getD-set-same u (2 * k + 1) q 0 (omega (arith, length-set s (2 * k) v, S .len))) ∙ f
+        ap toEl (set-at 0 u (2 * k + 1) q (2 * j + 1) (omega (arith, length-set s (2 * k) v, S .len)) (omega arith)) ∙ f
         ∙ ap (λ (m : ℕ). R16 ._⊠_ (toEl m) (toEl m)) b
     square j g (no d) =
         ap toEl (earlier (2 * j + 1) (omega arith)) ∙ S .square j (omega arith) ∙ ap (λ (m : ℕ). R16 ._⊠_ (toEl m) (toEl m)) (sym (earlier j (omega arith)))

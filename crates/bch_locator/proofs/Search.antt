@@ -9,7 +9,7 @@ use native.Mathlib.Decide.{ℕ-discrete, decLt}
 use native.Mathlib.Omega.{arith}
 use lib.Bits.{bitXor}
 use lib.ListN.{getD, length, set, length-set, replicate}
-use lib.Seq.{getD-set-same, getD-set-other}
+use lib.Seq.{getD-set-other}
 use Rattle.laws.specs.Xor.{_⊕_}
 use Rattle.algebra.specs.Ring.{Ring, ⊠-zero, ⊠-lc, ⊞-cancel, one-⊠}
 use Rattle.algebra.specs.Series.{sum, sum-none, sum-last, sum-front, sum-ext, sum-more, pow, pow-add, conv-sum, conv-pow}
@@ -26,6 +26,7 @@ use Rattle.bch_locator.specs.Lanes.{Lanes, Products, PowersOf}
 use Rattle.bch_locator.specs.Places.{valueAt, Places-of, Reversed}
 use Rattle.bch_locator.proofs.Raised.{raised, lanes-raised, lanes-past}
 use Rattle.laws.specs.Lists.{zeros-at}
+use Rattle.laws.specs.Put.{set-at, grown}
 use Rattle.bch_locator.proofs.Filling.{zero-lanes, lanes-set}
 
 -- ---- the terms
@@ -218,11 +219,11 @@ places-hit at count c l p hl h head D z =
     old : (i : ℕ) → i < count → getD (set at count p) i 0 ≡ getD at i 0
     old i a = getD-set-other at count i p 0 (omega arith)
 
-    new : getD (set at count p) count 0 ≡ p
-    new = getD-set-same at count p 0 (omega (arith, D .size, small))
-
     newest : (i : ℕ) → i ≡ count → getD (set at count p) i 0 ≡ p
-    newest i e = ap (λ (k : ℕ). getD (set at count p) k 0) e ∙ new
+    newest i e = set-at 0 at count p i (omega (arith, D .size, small)) e
+
+    new : getD (set at count p) count 0 ≡ p
+    new = newest count refl
 
     order : (i j : ℕ) → i < j → j < count + 1 → Dec (j ≡ count) → getD (set at count p) i 0 < getD (set at count p) j 0
     order i j a b (yes e) = let u = old i (omega arith) in let w = newest j e in let t = D .inside i (omega arith) in omega arith
@@ -291,15 +292,11 @@ reversing-again t c l i v hl h hv W e =
     record {
       lanes = lanes-set t i v (W .lanes) (omega arith) hv;
       below = omega arith;
-      at = λ j g. pick j g (ℕ-discrete j i);
+      at =
+          (let k : l - 1 - i ≡ l - suc i = omega arith in
+          grown 0 (λ j x. x ≡ getD c (l - suc j) 0) t i v (omega (arith, W .lanes .len)) (W .at) (e ∙ ap (λ (m : ℕ). getD c m 0) k));
       rest = λ j g. getD-set-other t i j v 0 (omega arith) ∙ W .rest j (omega arith);
     }
-  where
-    pick : (j : ℕ) → j < i + 1 → Dec (j ≡ i) → getD (set t i v) j 0 ≡ getD c (l - suc j) 0
-    pick j g (yes q) =
-        let k : l - 1 - i ≡ l - suc j = omega arith in
-        ap (λ (m : ℕ). getD (set t i v) m 0) q ∙ getD-set-same t i v 0 (omega (arith, W .lanes .len)) ∙ e ∙ ap (λ (m : ℕ). getD c m 0) k
-    pick j g (no q) = getD-set-other t i j v 0 q ∙ W .at j (omega arith)
 
 pub reversing-end : (t c : List ℕ) (l i : ℕ) → l ≤ i → Reversing t c l i → Reversed t c l
 reversing-end t c l i h W = record { lanes = W .lanes; at = λ j g. W .at j (omega arith); rest = λ j g. W .rest j (omega (arith, W .below)) }

@@ -10,7 +10,8 @@ use borrow.Author.Tests.{eqb-true, eqb-false}
 use lib.Dec.{eqb}
 use lib.IntN.{ℤ, pos}
 use lib.ListN.{length, getD, set}
-use lib.Seq.{getD-set-same, getD-set-other}
+use lib.Seq.{getD-set-other}
+use Rattle.laws.specs.Put.{set-at}
 use Rattle.lane_math.specs.Check.{Word}
 use Rattle.simd.specs.Words.{wordOf, word}
 use Rattle.fixed_lanes.specs.Load.{Loaded, loaded-word}
@@ -87,7 +88,7 @@ module _ (n E lanes : ℕ) (soft : List ℤ) (held iters : List ℕ) where
       at : (k : ℕ) → k < l + 1 → Fresh held iters k → Dec (k ≡ l) → (word n E lanes a″ k .L ≡ begin n (taken k) .L) × (on fresh′ k ≡ true)
       at k g w (yes e) = (
         ap (λ j. word n E lanes a″ j .L) e ∙ ap (λ (x : Word). x .L) (loaded-word E d) ∙ ap (λ s. begin n s .L) own-is ∙ ap (λ j. begin n (taken j) .L) (sym e),
-        ap (λ z. on z k) is ∙ ap (λ j. on (set fresh l true) j) e ∙ getD-set-same fresh l true false (omega (arith, v .size)),
+        ap (λ z. on z k) is ∙ set-at false fresh l true k (omega (arith, v .size)) e,
       )
       at k g w (no m) = (ap (λ (x : Word). x .L) (same k (omega arith) m) ∙ v .new k (omega arith) w .0, still k m ∙ v .new k (omega arith) w .1)
 

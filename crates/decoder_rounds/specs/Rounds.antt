@@ -5,12 +5,11 @@ use mathlib.Core.Bool.{Bool, true, false, cond, not, _&&_}
 use mathlib.Core.List.{List}
 use Prim.Native.Nat.{ℕ, _+_, _-_, _*_, _≤_, _<_}
 use native.Mathlib.Omega.{arith}
-use borrow.Author.Count.{below-more}
 use borrow.Author.Tests.{ne-eqb}
 use lib.Dec.{eqb}
 use lib.IntN.{ℤ}
 use lib.ListN.{length, getD, set, drop, length-set}
-use lib.Seq.{getD-set-same, getD-set-other}
+use Rattle.laws.specs.Put.{grown}
 use Rattle.lane_math.specs.Check.{Word}
 use Rattle.lane_math.specs.Iteration.{Code, unsatisfiedCount}
 use Rattle.simd.specs.Words.{word}
@@ -208,10 +207,7 @@ pub flagging-again : (held : List ℕ) (l : ℕ) (flags : List Bool) (b : Bool) 
 flagging-again held l flags b h e v =
     record {
       size = length-set flags l b ∙ v .size;
-      below =
-          below-more (λ k. getD (set flags l b) k false ≡ heldAt held k) l
-          (λ k q. getD-set-other flags l k b false (λ z. omega arith) ∙ v .below k q)
-          (getD-set-same flags l b false (omega (arith, v .size)) ∙ e);
+      below = grown false (λ k x. x ≡ heldAt held k) flags l b (omega (arith, v .size)) (v .below) e;
     }
 
 -- ---- the whole run

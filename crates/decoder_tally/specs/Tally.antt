@@ -4,11 +4,11 @@ use mathlib.Core.List.{List}
 use Prim.Native.Nat.{ℕ, zero, suc, _+_, _*_, _≤_, _<_}
 use native.Mathlib.Numerals.{add-one}
 use native.Mathlib.Omega.{arith}
-use borrow.Author.Count.{below-more}
 use lib.ListN.{length, getD, set, take, replicate, length-set, length-replicate, getD-replicate}
-use lib.Seq.{getD-set-same, getD-set-other, getD-take, length-take-le, ext-getD}
+use lib.Seq.{getD-take, length-take-le, ext-getD}
 use Rattle.schedule.specs.Status.{sum}
 use Rattle.laws.specs.Choice.{by-cond}
+use Rattle.laws.specs.Put.{grown}
 use Rattle.schedule.specs.Theorem.{counting, length-counting, getD-counting, input-order, input-is}
 use Rattle.outcome.specs.Outcome.{isFinished, keptOf, lostOf}
 use Rattle.outcome.specs.Laws.{kept-or-lost}
@@ -101,8 +101,7 @@ module _ {A : Type 0} (o : A) (f : ℕ → A) (old : List A) where
       record {
         long = length-set new k (f k) ∙ v .long;
         below =
-            below-more (λ i. getD (set new k (f k)) i o ≡ f i) k
-            (λ i q. getD-set-other new k i (f k) o (λ z. omega arith) ∙ v .below i q) (getD-set-same new k (f k) o (omega (arith, v .long)));
+            grown o (λ i x. x ≡ f i) new k (f k) (omega (arith, v .long)) (v .below) refl;
       }
 
 -- all of it: the same everywhere, and each place's own number

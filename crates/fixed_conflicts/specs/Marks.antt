@@ -7,7 +7,8 @@ use native.Mathlib.Nat.{mul-le-mul-right}
 use native.Mathlib.Numerals.{add-one}
 use native.Mathlib.Decide.{ℕ-discrete}
 use lib.ListN.{getD, set, length, take, drop, length-set}
-use lib.Seq.{getD-set-same, getD-set-other}
+use lib.Seq.{getD-set-other}
+use Rattle.laws.specs.Put.{grown-at}
 use Rattle.ldpc_shape.specs.Shape.{qOf, total, countMod}
 use Rattle.ldpc_shape.specs.Counts.{Counted}
 use Rattle.ldpc_shape.specs.Accepted.{Accepted, few}
@@ -30,15 +31,11 @@ pub advanced-again : {table counts : List ℕ} {g k : ℕ} {table′ : List ℕ}
 advanced-again {table} {counts} {g} {k} {table′} {y} v few room e =
     record {
       long = simp length-set (v .long);
-      done = λ l h. go l h (ℕ-discrete l k);
+      done =
+          grown-at 0 (λ l. (g + 1) * 120 + l) (λ l x. x ≡ spanAt table l g + getD counts l 0) table′ k y (omega (arith, v .long)) (λ l h r. omega arith) (v .done)
+          (e ∙ ap (λ (z : ℕ). z + getD counts k 0) (v .still (g * 120 + k) (omega arith)));
       still = λ i h. getD-set-other table′ ((g + 1) * 120 + k) i y 0 (λ r. omega arith) ∙ v .still i h;
     }
-  where
-    go : (l : ℕ) → l < k + 1 → Dec (l ≡ k) → getD (set table′ ((g + 1) * 120 + k) y) ((g + 1) * 120 + l) 0 ≡ spanAt table l g + getD counts l 0
-    go l h (yes r) =
-        subst (λ (j : ℕ). getD (set table′ ((g + 1) * 120 + k) y) ((g + 1) * 120 + j) 0 ≡ spanAt table j g + getD counts j 0) (sym r)
-        (getD-set-same table′ ((g + 1) * 120 + k) y 0 (omega (arith, v .long)) ∙ e ∙ ap (λ (z : ℕ). z + getD counts k 0) (v .still (g * 120 + k) (omega arith)))
-    go l h (no r) = getD-set-other table′ ((g + 1) * 120 + k) ((g + 1) * 120 + l) y 0 (λ z. omega arith) ∙ v .done l (omega arith)
 
 pub advanced-end : {table counts : List ℕ} {g k q : ℕ} {table′ : List ℕ} → k ≡ q → Advanced table counts g k table′ → Advanced table counts g q table′
 advanced-end {table} {counts} {g} {k} {q} {table′} e v = subst (λ (j : ℕ). Advanced table counts g j table′) e v

@@ -4,10 +4,10 @@ use mathlib.Core.Bool.{Bool, true, false, _||_}
 use mathlib.Core.List.{List}
 use Prim.Native.Nat.{ℕ, zero, suc, _+_, _*_, _≤_, _<_}
 use native.Mathlib.Omega.{arith}
-use native.Mathlib.Decide.{ℕ-discrete}
 use lib.Dec.{T, eqb, ltb}
 use lib.ListN.{getD, set, length, replicate, length-set}
 use lib.Seq.{getD-set-same, getD-set-other}
+use Rattle.laws.specs.Put.{set-each, grown}
 use Rattle.lane_math.specs.Iteration.{Code, degree}
 use Rattle.lane_memory.specs.Room.{sharedIn}
 
@@ -65,36 +65,24 @@ flagged-start table rows q l flags any long few zeros e =
       of-row = λ g h. absurd (omega (arith, h));
       of-parity = getD-set-same flags rows any false (omega arith) ∙ e;
       others = λ g h k. getD-set-other flags rows g any false k ∙ zeros g;
-      none = λ f g. go f g (ℕ-discrete g rows);
+      none = λ f. set-each false (λ _ b. b ≡ false) flags rows any (omega arith) f (λ g _. zeros g);
       some = λ f. (rows, getD-set-same flags rows any false (omega arith) ∙ f);
     }
-  where
-    go : any ≡ false → (g : ℕ) → Dec (g ≡ rows) → getD (set flags rows any) g false ≡ false
-    go f g (yes r) = ap (λ (j : ℕ). getD (set flags rows any) j false) r ∙ getD-set-same flags rows any false (omega arith) ∙ f
-    go f g (no r) = getD-set-other flags rows g any false r ∙ zeros g
 
 pub flagged-again : {table : List ℕ} {rows q l k : ℕ} {flags : List Bool} {any any′ many : Bool} → Flagged table rows q l k flags any → k < rows → rows < 120
     → many ≡ ltb (spanAt table l k + 1) (spanAt table l (k + 1)) → any′ ≡ (any || many) → Flagged table rows q l (k + 1) (set flags k many) any′
 flagged-again {table} {rows} {q} {l} {k} {flags} {any} {any′} {many} v h few e f =
     record {
       long = simp length-set (v .long);
-      of-row = λ g r. row g r (ℕ-discrete g k);
+      of-row = grown false (λ g b. b ≡ ltb (spanAt table l g + 1) (spanAt table l (g + 1))) flags k many (omega (arith, v .long)) (v .of-row) e;
       of-parity = getD-set-other flags k rows many false (λ r. omega arith) ∙ v .of-parity;
       others = λ g r s. getD-set-other flags k g many false (λ t. omega arith) ∙ v .others g (omega arith) s;
-      none = λ r g. let o = or-false any many (sym f ∙ r) in all (o .0) (o .1) g (ℕ-discrete g k);
+      none = λ r. let o = or-false any many (sym f ∙ r) in set-each false (λ _ b. b ≡ false) flags k many (omega (arith, v .long)) (o .1) (λ g _. v .none (o .0) g);
       some = λ r. found any many refl refl (sym f ∙ r);
     }
   where
     same : getD (set flags k many) k false ≡ many
     same = getD-set-same flags k many false (omega (arith, v .long))
-
-    row : (g : ℕ) → g < k + 1 → Dec (g ≡ k) → getD (set flags k many) g false ≡ ltb (spanAt table l g + 1) (spanAt table l (g + 1))
-    row g r (yes s) = subst (λ (j : ℕ). getD (set flags k many) j false ≡ ltb (spanAt table l j + 1) (spanAt table l (j + 1))) (sym s) (same ∙ e)
-    row g r (no s) = getD-set-other flags k g many false s ∙ v .of-row g (omega arith)
-
-    all : any ≡ false → many ≡ false → (g : ℕ) → Dec (g ≡ k) → getD (set flags k many) g false ≡ false
-    all a b g (yes s) = ap (λ (j : ℕ). getD (set flags k many) j false) s ∙ same ∙ b
-    all a b g (no s) = getD-set-other flags k g many false s ∙ v .none a g
 
     -- a row that was flagged is another one: row k was not yet
     kept : any ≡ true → (g : ℕ) × (getD (set flags k many) g false ≡ true)

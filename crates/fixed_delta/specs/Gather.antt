@@ -5,12 +5,11 @@ use mathlib.Core.List.{List}
 use Prim.Native.Nat.{ℕ, _+_, _*_, _≤_, _<_}
 use native.Mathlib.Omega.{arith}
 use native.Mathlib.Decide.{ℕ-discrete}
-use borrow.Author.Count.{below-more}
 use lib.ListN.{set, length, length-set}
-use lib.Seq.{getD-set-same, getD-set-other}
+use lib.Seq.{getD-set-other}
 use lib.IntN.{ℤ, pos, natAbs, _+ℤ_, _-ℤ_}
+use Rattle.laws.specs.Put.{put, grown-at}
 use Rattle.lane_math.specs.Value.{satZ}
-use Rattle.lane_math.specs.Check.{put}
 use Rattle.lane16.specs.Lanes.{z}
 use Rattle.lane_memory.specs.Column.{column}
 use Rattle.fixed_lanes.specs.Place.{Placed}
@@ -39,9 +38,8 @@ edge-again {lanes} {at} {tu} {ru} {ou} {seen} {a} {sums} {sums′} {k} y g h e =
     record {
       long = simp length-set (g .long);
       done =
-          below-more (λ (i : ℕ). z (set sums′ (at + k) y) (at + i) ≡ plus seen (column lanes a i) tu ru ou (z sums (at + i))) k
-          (λ i q. getD-set-other sums′ (at + k) (at + i) y (pos 0) (λ x. omega arith) ∙ g .done i q)
-          (getD-set-same sums′ (at + k) y (pos 0) (omega (arith, g .long)) ∙ e ∙ ap (plus seen (column lanes a k) tu ru ou) (g .still (at + k) (λ i q x. omega arith)));
+          grown-at (pos 0) (λ i. at + i) (λ i x. x ≡ plus seen (column lanes a i) tu ru ou (z sums (at + i))) sums′ k y (omega (arith, g .long)) (λ i q r. omega arith) (g .done)
+          (e ∙ ap (plus seen (column lanes a k) tu ru ou) (g .still (at + k) (λ i q x. omega arith)));
       still = λ j f. getD-set-other sums′ (at + k) j y (pos 0) (λ x. f k (omega arith) x) ∙ g .still j (λ i q x. f i (omega arith) x);
     }
 
@@ -66,9 +64,8 @@ pub growing-again : {lanes at m k : ℕ} {sums : List ℤ} (seen : Bool) (f : �
 growing-again {lanes} {at} {m} {k} {sums} seen f tu ru ou y g h room ht hr ho e =
     record {
       done =
-          below-more (λ (i : ℕ). natAbs (z (set sums (at + k) y) (at + i)) ≤ 256 * (m + 1 + 1)) k
-          (λ i q. subst (λ (x : ℤ). natAbs x ≤ 256 * (m + 1 + 1)) (sym (getD-set-other sums (at + k) (at + i) y (pos 0) (λ x. omega arith))) (g .done i q))
-          (subst (λ (x : ℤ). natAbs x ≤ 256 * (m + 1 + 1)) (sym (getD-set-same sums (at + k) y (pos 0) room ∙ e)) (plus-small seen f tu ru ou m (z sums (at + k)) ht hr ho (λ b. g .still b k (omega arith) h)));
+          grown-at (pos 0) (λ i. at + i) (λ _ x. natAbs x ≤ 256 * (m + 1 + 1)) sums k y room (λ i q r. omega arith) (g .done)
+          (subst (λ (x : ℤ). natAbs x ≤ 256 * (m + 1 + 1)) (sym e) (plus-small seen f tu ru ou m (z sums (at + k)) ht hr ho (λ b. g .still b k (omega arith) h)));
       still = λ b i q l. subst (λ (x : ℤ). natAbs x ≤ 256 * (m + 1)) (sym (getD-set-other sums (at + k) (at + i) y (pos 0) (λ x. omega arith))) (g .still b i (omega arith) l);
     }
 

@@ -6,13 +6,12 @@ use Prim.Native.Nat.{ℕ, zero, suc, _+_, _≤_, _<_}
 use native.Mathlib.Omega.{arith}
 use native.Mathlib.Numerals.{add-one}
 use native.Mathlib.Decide.{ℕ-discrete}
-use borrow.Author.Tests.{eqb-true, ltb-true}
-use lib.Dec.{eqb, ltb}
+use borrow.Author.Tests.{ltb-true}
+use lib.Dec.{ltb}
 use lib.ListN.{getD}
 use lib.IntN.{ℤ, pos}
 use Rattle.laws.specs.Choice.{by-cond, by-bool}
-use Rattle.lane_math.specs.Check.{put}
-use Rattle.lane_math.specs.Laws.{put-same, put-other}
+use Rattle.laws.specs.Put.{put, put-same, put-other, put-self}
 use Rattle.lane_memory.specs.Column.{column}
 use Rattle.simd.specs.Words.{within, wordOf, word}
 use Rattle.fixed_lanes.specs.Place.{Placed}
@@ -52,10 +51,6 @@ pub record RowCleared (lanes u : ℕ) (fresh : List Bool) (a : List ℤ) (k : �
 
 pub row-start : (lanes u : ℕ) (fresh : List Bool) (a : List ℤ) → RowCleared lanes u fresh a 0 a
 row-start lanes u fresh a = record { done = λ i q h. absurd (omega (arith, q)); still = λ i q h. refl }
-
-put-self : (f : ℕ → ℤ) (u : ℕ) → put f u (f u) ≡ f
-unfolding put
-put-self f u = λ i w. by-cond (λ x. x ≡ f w) (eqb w u) (f u) (f w) (λ e. ap f (sym (eqb-true w u e))) (λ _. refl) i
 
 put-cond : (b : Bool) (f : ℕ → ℤ) (u : ℕ) → put f u (cond b (pos 0) (f u)) ≡ cond b (put f u (pos 0)) f
 put-cond true f u = refl

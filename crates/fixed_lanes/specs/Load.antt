@@ -8,7 +8,7 @@ use borrow.Author.Tests.{eqb-true, eqb-false, ltb-true, ltb-false, lt-ltb, le-lt
 use lib.Dec.{eqb, ltb}
 use lib.ListN.{getD}
 use lib.IntN.{ℤ, pos}
-use Rattle.lane_math.specs.Check.{put}
+use Rattle.laws.specs.Put.{put}
 use Rattle.lane_memory.specs.Column.{column}
 use Rattle.simd.specs.Words.{within, wordOf, word}
 use Rattle.fixed_lanes.specs.Place.{Placed}

@@ -9,7 +9,7 @@ use lib.Dec.{eqb}
 use lib.ListN.{getD, set, length}
 use lib.Seq.{getD-set-same, getD-set-other}
 use lib.IntN.{ℤ, pos}
-use Rattle.lane_math.specs.Check.{put}
+use Rattle.laws.specs.Put.{put}
 use Rattle.lane_memory.specs.Column.{column, one-place, row-ends}
 
 pub record Placed (lanes lane u : ℕ) (x : ℤ) (a a′ : List ℤ) : Type 0 where

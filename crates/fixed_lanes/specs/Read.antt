@@ -4,10 +4,10 @@ use mathlib.Core.List.{List, [], _∷_, _++_}
 use Prim.Native.Nat.{ℕ, zero, suc, _+_, _-_, _≤_, _<_}
 use native.Mathlib.Omega.{arith}
 use native.Mathlib.Decide.{decLt}
-use borrow.Author.Count.{below-more}
 use lib.ListN.{getD, set, length, drop, length-append, length-drop, List·getD-append}
-use lib.Seq.{getD-set-same, getD-set-other, getD-append-add, getD-drop, ext-getD}
+use lib.Seq.{getD-append-add, getD-drop, ext-getD}
 use lib.IntN.{ℤ}
+use Rattle.laws.specs.Put.{grown, kept}
 use Rattle.lane_math.specs.Iteration.{hard}
 
 -- those of d variables from u on: 1 where L < 0
@@ -41,11 +41,8 @@ pub deciding-again : {L : ℕ → ℤ} {old new new′ : List ℕ} {k y : ℕ} �
 deciding-again {L} {old} {new} {new′} {k} {y} d h e len is =
     record {
       long = len ∙ d .long;
-      bits =
-          below-more (λ (u : ℕ). getD new′ u 0 ≡ hard (L u)) k
-          (λ u q. at u ∙ getD-set-other new k u y 0 (λ z. omega arith) ∙ d .bits u q)
-          (at k ∙ getD-set-same new k y 0 (omega (arith, d .long)) ∙ e);
-      rest = λ u q. at u ∙ getD-set-other new k u y 0 (λ z. omega arith) ∙ d .rest u (omega arith);
+      bits = λ u q. at u ∙ grown 0 (λ u x. x ≡ hard (L u)) new k y (omega (arith, d .long)) (d .bits) e u q;
+      rest = λ u q. at u ∙ kept 0 new old k y (d .rest) u q;
     }
   where
     at : (u : ℕ) → getD new′ u 0 ≡ getD (set new k y) u 0

@@ -10,8 +10,9 @@ use lib.Dec.{eqb, ltb}
 use lib.ListN.{getD}
 use lib.IntN.{ℤ, pos, _+ℤ_, _-ℤ_}
 use Rattle.laws.specs.Choice.{eqb-sym}
+use Rattle.laws.specs.Put.{put}
 use Rattle.lane_math.specs.Value.{satZ}
-use Rattle.lane_math.specs.Check.{Word, check, message, put, wrote, tOf, newL, newR}
+use Rattle.lane_math.specs.Check.{Word, check, message, wrote, tOf, newL, newR}
 use Rattle.lane_math.specs.Iteration.{Code, degree, Run, Sum, nothing, gather, gatherEdge, gatherCheck, gatherRun, settle, run, runOf, runR, inTurn}
 use Rattle.lane_math.specs.Laws.{message-same, wrote-same, wrote-other}
 use Rattle.lane_memory.specs.Column.{column}

@@ -7,9 +7,10 @@ use native.Mathlib.Nat.{mul-le-mul-right}
 use native.Mathlib.Decide.{ℕ-discrete}
 use lib.ListN.{getD}
 use lib.IntN.{ℤ}
-use Rattle.lane_math.specs.Check.{put, wrote, newR}
+use Rattle.laws.specs.Put.{put, put-same, put-other}
+use Rattle.lane_math.specs.Check.{wrote, newR}
 use Rattle.lane_math.specs.Iteration.{Code, degree, runR}
-use Rattle.lane_math.specs.Laws.{wrote-other, put-same, put-other}
+use Rattle.lane_math.specs.Laws.{wrote-other}
 use Rattle.fixed_code.specs.Lists.{Lists, edgesIn, codeIn, start-in, degree-in}
 use Rattle.fixed.specs.Sequential.{stepped}
 use Rattle.fixed_layered.specs.Full.{placeOf, laidOut}

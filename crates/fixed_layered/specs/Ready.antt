@@ -6,8 +6,9 @@ use native.Mathlib.Omega.{arith}
 use borrow.Author.Tests.{ltb-true, ltb-false}
 use lib.Dec.{eqb, ltb}
 use lib.IntN.{ℤ, pos, _-ℤ_}
+use Rattle.laws.specs.Put.{put}
 use Rattle.lane_math.specs.Value.{satZ}
-use Rattle.lane_math.specs.Check.{put, wrote, tOf}
+use Rattle.lane_math.specs.Check.{wrote, tOf}
 use Rattle.lane_math.specs.Iteration.{Code, degree, Run, runOf}
 use Rattle.lane_math.specs.Laws.{wrote-other}
 use Rattle.simd.specs.Words.{within, wordOf, within-at}

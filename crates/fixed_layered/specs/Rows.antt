@@ -13,8 +13,9 @@ use lib.ListN.{getD, set, length}
 use lib.Seq.{getD-set-same, getD-set-other}
 use lib.IntN.{ℤ, natAbs}
 use Rattle.laws.specs.Choice.{eqb-sym}
+use Rattle.laws.specs.Put.{put}
 use Rattle.lane_math.specs.Value.{satZ}
-use Rattle.lane_math.specs.Check.{put, wrote}
+use Rattle.lane_math.specs.Check.{wrote}
 use Rattle.lane_math.specs.Iteration.{Code, degree, Sum, gather}
 use Rattle.lane_math.specs.Laws.{wrote-other}
 use Rattle.lane16.specs.Lanes.{z}

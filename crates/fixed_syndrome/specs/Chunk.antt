@@ -5,12 +5,12 @@ use mathlib.Core.List.{List}
 use Prim.Native.Nat.{ℕ, zero, suc, _+_, _*_, _-_, _≤_, _<_, min}
 use native.Mathlib.Omega.{arith}
 use native.Mathlib.Numerals.{add-one}
-use borrow.Author.Count.{below-more}
 use borrow.Author.Tests.{ltb-true, ltb-false}
 use lib.Dec.{ltb}
 use lib.ListN.{getD, set, length, length-set}
-use lib.Seq.{getD-set-same, getD-set-other}
+use lib.Seq.{getD-set-other}
 use lib.IntN.{ℤ}
+use Rattle.laws.specs.Put.{grown-at}
 use Rattle.lane_math.specs.Iteration.{degree, unsatisfied}
 use Rattle.lane_math.specs.Laws.{last-or}
 use Rattle.lane_memory.specs.Column.{Off}
@@ -32,10 +32,7 @@ pub written-again : {A : Type 0} {o : A} {f : ℕ → A} {at : ℕ} {old : List 
 written-again {A} {o} {f} {at} {old} {i} {new} x c room e =
     record {
       long = simp length-set (c .long);
-      inside =
-          below-more (λ (k : ℕ). getD (set new (at + i) x) (at + k) o ≡ f k) i
-          (λ k q. getD-set-other new (at + i) (at + k) x o (λ r. omega arith) ∙ c .inside k q)
-          (getD-set-same new (at + i) x o (omega (arith, c .long)) ∙ e);
+      inside = grown-at o (λ k. at + k) (λ k y. y ≡ f k) new i x (omega (arith, c .long)) (λ k q r. omega arith) (c .inside) e;
       outside = λ q off. getD-set-other new (at + i) q x o (λ r. off i (omega arith) r) ∙ c .outside q (λ k b r. off k (omega arith) r);
     }
 

@@ -1,3 +1,2 @@
--- What the functions on sixteen lanes make of each lane; the step of a loop that writes one element a turn.
+-- What the functions on sixteen lanes make of each lane.
 pub mod Lanes
-pub mod Grow

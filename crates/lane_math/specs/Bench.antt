@@ -4,8 +4,9 @@ use mathlib.Core.Path.{_≡_, refl}
 use mathlib.Core.List.{List, [], _∷_}
 use lib.ListN.{getD}
 use lib.IntN.{ℤ, pos, negsuc}
+use Rattle.laws.specs.Put.{put}
 use Rattle.lane_math.specs.Value.{magnitude}
-use Rattle.lane_math.specs.Check.{Word, check, min1, min2, first, others, message, put, wrote, tOf, newR, newL}
+use Rattle.lane_math.specs.Check.{Word, check, min1, min2, first, others, message, wrote, tOf, newR, newL}
 use Rattle.lane_math.specs.Iteration.{Code, gather, settle, nothing, runR, gatherEdge, gatherCheck, gatherRun, run, unsatisfied, negatives}
 
 -- a word of these values, every message 0, and the check of all its variables in order, once each

@@ -4,6 +4,7 @@ use mathlib.Core.Bool.{Bool, false, cond}
 use lib.Dec.{ltb, eqb}
 use lib.IntN.{ℤ, _+ℤ_, _-ℤ_}
 use Rattle.laws.specs.Signed.{negative, times}
+use Rattle.laws.specs.Put.{put}
 use Rattle.lane_math.specs.Value.{satZ, magnitude, reduced, signed}
 
 -- Of the first n edges' t: min1 and min2 start at 127 and become the two smallest;
@@ -29,10 +30,7 @@ others t e (suc n) = cond (eqb n e) (others t e n) (times (others t e n) (negati
 unfoldable pub message : ℤ → (ℕ → ℤ) → ℕ → ℕ → ℤ
 message offset t d e = signed (others t e d) (reduced offset (cond (eqb e (first t d)) (min2 t d) (min1 t d)))
 
--- f with x at u; and after n such writes in order, a later one over an earlier.
-unfoldable pub put : (ℕ → ℤ) → ℕ → ℤ → ℕ → ℤ
-put f u x w = cond (eqb w u) x (f w)
-
+-- f after n writes in order, x k at u k, a later one over an earlier.
 unfoldable pub wrote : (ℕ → ℕ) → (ℕ → ℤ) → (ℕ → ℤ) → ℕ → ℕ → ℤ
 wrote u x f zero = f
 wrote u x f (suc n) = put (wrote u x f n) (u n) (x n)

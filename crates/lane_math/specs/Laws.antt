@@ -11,8 +11,9 @@ use lib.IntN.{ℤ, pos, _-ℤ_}
 use lib.Signed.{ltZ}
 use Rattle.laws.specs.Signed.{negative, times, times-swap, times-twice, max-nonneg}
 use Rattle.laws.specs.Choice.{by-cond}
+use Rattle.laws.specs.Put.{put, put-other}
 use Rattle.lane_math.specs.Value.{satZ, magnitude, signed, reduced, replied}
-use Rattle.lane_math.specs.Check.{min1, min2, first, others, message, put, wrote}
+use Rattle.lane_math.specs.Check.{min1, min2, first, others, message, wrote}
 use Rattle.lane_math.specs.Iteration.{negatives, unsatisfied}
 
 -- the sign of the product of the first n edges
@@ -179,14 +180,6 @@ pub wrote-same : (u : ℕ → ℕ) (x y f : ℕ → ℤ) (n : ℕ) → ((k : ℕ
 unfolding wrote
 wrote-same u x y f zero h = refl
 wrote-same u x y f (suc n) h = λ i. put (wrote-same u x y f n (λ k q. h k (omega arith)) i) (u n) (h n (omega arith) i)
-
-pub put-same : (f : ℕ → ℤ) (u : ℕ) (x : ℤ) → put f u x u ≡ x
-unfolding put
-put-same f u x = ap (λ (b : Bool). cond b x (f u)) (eq-eqb u u refl)
-
-pub put-other : (f : ℕ → ℤ) (u : ℕ) (x : ℤ) (w : ℕ) → (w ≡ u → ⊥) → put f u x w ≡ f w
-unfolding put
-put-other f u x w h = ap (λ (b : Bool). cond b x (f w)) (ne-eqb w u h)
 
 pub wrote-other : (u : ℕ → ℕ) (x f : ℕ → ℤ) (n w : ℕ) → ((k : ℕ) → k < n → w ≡ u k → ⊥) → wrote u x f n w ≡ f w
 unfolding wrote

@@ -6,13 +6,12 @@ use Prim.Native.Nat.{ℕ, _+_, _*_, _-_, _/_, _%_, _≤_, _<_}
 use native.Mathlib.Omega.{arith}
 use native.Mathlib.Nat.{mul-le-mul-right}
 use borrow.Author.Tests.{ltb-true, ltb-false, eqb-true, eqb-false}
-use borrow.Author.Count.{below-more}
 use lib.Dec.{ltb, eqb}
 use lib.Arith.{digits-div, digits-mod}
 use lib.ListN.{getD, set, length}
-use lib.Seq.{getD-set-same, getD-set-other}
+use lib.Seq.{getD-set-other}
 use lib.IntN.{ℤ, pos}
-use Rattle.lane_math.specs.Check.{put}
+use Rattle.laws.specs.Put.{put, grown-at}
 use Rattle.lane16.specs.Lanes.{z}
 
 unfoldable pub column : ℕ → List ℤ → ℕ → ℕ → ℤ
@@ -98,9 +97,7 @@ storing-again {base} {x} {old} {a} {i} {y} b v room same is e =
     record {
       long = same ∙ v .long;
       put-in =
-          below-more (λ (k : ℕ). getD b (base + k) (pos 0) ≡ z x k) i
-          (λ k q. at-b (base + k) ∙ getD-set-other a (base + i) (base + k) y (pos 0) (λ r. omega arith) ∙ v .put-in k q)
-          (at-b (base + i) ∙ getD-set-same a (base + i) y (pos 0) (omega (arith, v .long)) ∙ e);
+          λ k q. at-b (base + k) ∙ grown-at (pos 0) (λ k. base + k) (λ k t. t ≡ z x k) a i y (omega (arith, v .long)) (λ k q r. omega arith) (v .put-in) e k q;
       kept = λ p off. at-b p ∙ getD-set-other a (base + i) p y (pos 0) (λ r. off i (omega arith) r) ∙ v .kept p (λ k q e. off k (omega arith) e);
     }
   where

@@ -1,4 +1,4 @@
--- Laws that the kit lacks, one home for each: xor on numbers, computed tests, polynomials over two elements, signed numbers, lists, remainders, choices, decimal numbers, runs of stores.
+-- Laws that the kit lacks, one home for each: xor on numbers, computed tests, polynomials over two elements, signed numbers, lists, remainders, choices, decimal numbers, functions changed at one place and lists written one element at a time, runs of stores.
 pub mod Xor
 pub mod Tests
 pub mod Poly
@@ -6,5 +6,6 @@ pub mod Signed
 pub mod Lists
 pub mod Modulo
 pub mod Choice
+pub mod Put
 pub mod Decimal
 pub mod Stores

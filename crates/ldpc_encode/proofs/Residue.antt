@@ -6,8 +6,9 @@ use native.Mathlib.Omega.{arith}
 use native.Mathlib.Nat.{mod-lt, mul-lt-mul-of-pos-right, div-add-mod', div-lt-iff-lt-mul, zero-add}
 use native.Mathlib.Decide.{ℕ-discrete}
 use lib.ListN.{length, take, drop, getD, set, replicate, length-set, length-drop, getD-replicate}
-use lib.Seq.{getD-set-same, getD-set-other, getD-drop}
+use lib.Seq.{getD-set-other, getD-drop}
 use Rattle.laws.specs.Modulo.{sumTo, sum-none, sum-more, sum-same, sum-grid}
+use Rattle.laws.specs.Put.{set-at}
 use Rattle.ldpc_shape.specs.Shape.{kOf, pOf, qOf, rowsOf, total, refusalOf}
 use Rattle.ldpc_shape.specs.Accepted.{Accepted, accepted, p-is, p-pos, n-is, q-pos, q-le, rows-le}
 use Rattle.ldpc_shape.specs.Worked.{q-beside}
@@ -38,8 +39,7 @@ scatter-again q l x out out′ i c hl hi lo e S =
   where
     put : (j : ℕ) → j < i + 1 → Dec (j ≡ i) → getD (set out′ c (getD x i 0 % 2)) (l + j * q) 0 ≡ getD x j 0 % 2
     put j h (yes f) =
-        ap (λ (z : ℕ). getD (set out′ c (getD x i 0 % 2)) z 0) (ap (λ (z : ℕ). l + z * q) f ∙ sym e)
-        ∙ getD-set-same out′ c _ 0 (omega (arith, S .long, at-lt q l i hl hi)) ∙ ap (λ (z : ℕ). getD x z 0 % 2) (sym f)
+        set-at 0 out′ c _ (l + j * q) (omega (arith, S .long, at-lt q l i hl hi)) (ap (λ (z : ℕ). l + z * q) f ∙ sym e) ∙ ap (λ (z : ℕ). getD x z 0 % 2) (sym f)
     put j h (no f) =
         let g : j < i = omega arith in
         getD-set-other out′ c (l + j * q) _ 0 (λ z. omega (arith, mul-lt-mul-of-pos-right {k = q} g (omega arith))) ∙ S .put j g

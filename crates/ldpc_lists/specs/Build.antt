@@ -8,7 +8,8 @@ use native.Mathlib.Omega.{arith}
 use native.Mathlib.Decide.{ℕ-discrete, decLt}
 use borrow.Author.Tests.{eq-eqb, ne-eqb}
 use lib.ListN.{length, take, drop, getD, set, length-set}
-use lib.Seq.{getD-set-same, getD-set-other, ext-getD, slice, length-slice, getD-take, getD-drop}
+use lib.Seq.{getD-set-other, ext-getD, slice, length-slice, getD-take, getD-drop}
+use Rattle.laws.specs.Put.{set-at}
 use Rattle.ldpc_edges.specs.Code.{Edge, edge, only}
 use Rattle.ldpc_edges.specs.Inside.{Inside, only-length}
 use Rattle.ldpc_edges.specs.Count.{start, start-le}
@@ -85,7 +86,7 @@ put-at P k (edge p m ∷ es) st I l r c h =
         → getD (set (putAll es st .at) p new) c 0 + length (only c (edge p m ∷ es)) ≡ getD (st .at) c 0
     go (yes e) ih =
         let a : getD (set (putAll es st .at) p new) c 0 ≡ getD (putAll es st .at) p 0 - 1 =
-        ap (λ (z : ℕ). getD (set (putAll es st .at) p new) z 0) (sym e) ∙ getD-set-same (putAll es st .at) p new 0 (omega (arith, put-at-length es st, I .0)) in
+        set-at 0 (putAll es st .at) p new c (omega (arith, put-at-length es st, I .0)) (sym e) in
         let b : getD (putAll es st .at) p 0 ≡ getD (putAll es st .at) c 0 = ap (λ (z : ℕ). getD (putAll es st .at) z 0) e in
         omega (arith, ap length (only-hit p m c es e), r c h)
     go (no e) ih =
@@ -134,8 +135,8 @@ fill-one P all es p m st hp fit F =
     new : ℕ
     new = getD (st .at) p 0 - 1
 
-    at-new : getD (set (st .at) p new) p 0 ≡ new
-    at-new = getD-set-same (st .at) p new 0 (omega (arith, F .long))
+    at-new : (c : ℕ) → p ≡ c → getD (set (st .at) p new) c 0 ≡ new
+    at-new c e = set-at 0 (st .at) p new c (omega (arith, F .long)) (sym e)
 
     room : suc (start all p) ≤ getD (st .at) p 0
     room = omega (arith, F .from p hp, fit p hp, ap length (only-hit p m p es refl))
@@ -145,7 +146,7 @@ fill-one P all es p m st hp fit F =
 
     from : (c : ℕ) → c < P → Dec (p ≡ c) → getD (set (st .at) p new) c 0 + length (only c (edge p m ∷ es)) ≡ start all c + length (only c all)
     from c h (yes e) =
-        let a : getD (set (st .at) p new) c 0 ≡ new = ap (λ (z : ℕ). getD (set (st .at) p new) z 0) (sym e) ∙ at-new in
+        let a = at-new c e in
         let b : getD (st .at) p 0 ≡ getD (st .at) c 0 = ap (λ (z : ℕ). getD (st .at) z 0) e in
         omega (arith, F .from c h, ap length (only-hit p m c es e), room)
     from c h (no e) = omega (arith, F .from c h, ap length (only-miss p m c es e), getD-set-other (st .at) p c new 0 (λ f. e (sym f)))
@@ -153,15 +154,12 @@ fill-one P all es p m st hp fit F =
     has : (c i : ℕ) → c < P → i < length (only c (edge p m ∷ es)) → Dec (p ≡ c)
         → getD (set (st .bits) new m) (getD (set (st .at) p new) c 0 + i) 0 ≡ getD (only c (edge p m ∷ es)) i 0
     has c i h g (yes e) =
-        let a : getD (set (st .at) p new) c 0 ≡ new = ap (λ (z : ℕ). getD (set (st .at) p new) z 0) (sym e) ∙ at-new in
-        ap (λ (z : ℕ). getD (set (st .bits) new m) (z + i) 0) a
+        ap (λ (z : ℕ). getD (set (st .bits) new m) (z + i) 0) (at-new c e)
         ∙ place i (subst (λ (l : List ℕ). i < length l) (only-hit p m c es e) g)
         ∙ ap (λ (l : List ℕ). getD l i 0) (sym (only-hit p m c es e))
       where
         place : (i : ℕ) → i < suc (length (only c es)) → getD (set (st .bits) new m) (new + i) 0 ≡ getD (m ∷ only c es) i 0
-        place zero g =
-            let z : new + 0 ≡ new = omega arith in
-            ap (λ (y : ℕ). getD (set (st .bits) new m) y 0) z ∙ getD-set-same (st .bits) new m 0 (omega (arith, F .wide, room, above, start-le all (suc p) P hp))
+        place zero g = set-at 0 (st .bits) new m (new + 0) (omega (arith, F .wide, room, above, start-le all (suc p) P hp)) (omega arith)
         place (suc i) g =
             let z : new + suc i ≡ getD (st .at) p 0 + i = omega (arith, room) in
             getD-set-other (st .bits) new (new + suc i) m 0 (λ f. omega arith)

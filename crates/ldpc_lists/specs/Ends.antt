@@ -6,10 +6,10 @@ use Prim.Native.Nat.{ℕ, zero, suc, _+_, _*_, _%_, _≤_, _<_}
 use native.Mathlib.Omega.{arith}
 use native.Mathlib.Nat.{mod-lt}
 use native.Mathlib.Numerals.{add-one}
-use native.Mathlib.Decide.{ℕ-discrete}
 use lib.Dec.{eqb}
 use lib.ListN.{getD, set, length}
-use lib.Seq.{getD-set-same, getD-set-other}
+use lib.Seq.{getD-set-other}
+use Rattle.laws.specs.Put.{grown}
 use Rattle.ldpc_edges.specs.Degree.{stairs-le}
 
 -- where the list of check c ends, and that of check c + 1 begins
@@ -33,14 +33,7 @@ pub record Ends (r : List ℕ) (q : ℕ) (at : List ℕ) (i : ℕ) : Type 0 wher
 pub ends-again : (r : List ℕ) (q : ℕ) (at : List ℕ) (i e s : ℕ) → i < length at → s ≡ cond (eqb i 0) 1 2 → e ≡ ending r q i → Ends r q at i
     → Ends r q (set at i (e + getD r (i % q) 0 + s)) (i + 1)
 unfolding ending
-ends-again r q at i e s h f g E = record { set-to = λ c k. go c k (ℕ-discrete c i) }
-  where
-    go : (c : ℕ) → c < i + 1 → Dec (c ≡ i) → getD (set at i (e + getD r (i % q) 0 + s)) c 0 ≡ ending r q c + (getD r (c % q) 0 + cond (eqb c 0) 1 2)
-    go c k (yes w) =
-        let z : e + getD r (i % q) 0 + s ≡ ending r q i + (getD r (i % q) 0 + cond (eqb i 0) 1 2) = omega arith in
-        ap (λ (y : ℕ). getD (set at i (e + getD r (i % q) 0 + s)) y 0) w ∙ getD-set-same at i _ 0 h ∙ z
-        ∙ ap (λ (y : ℕ). ending r q y + (getD r (y % q) 0 + cond (eqb y 0) 1 2)) (sym w)
-    go c k (no w) = getD-set-other at i c _ 0 w ∙ E .set-to c (omega arith)
+ends-again r q at i e s h f g E = record { set-to = grown 0 (λ c x. x ≡ ending r q c + (getD r (c % q) 0 + cond (eqb c 0) 1 2)) at i _ h (E .set-to) (omega arith) }
 
 pub ending-next : (r : List ℕ) (q i e s : ℕ) → s ≡ cond (eqb i 0) 1 2 → e ≡ ending r q i → e + getD r (i % q) 0 + s ≡ ending r q (i + 1)
 unfolding ending

@@ -9,8 +9,9 @@ use native.Mathlib.Decide.{ℕ-discrete}
 use borrow.Author.Tests.{eqb-true, eq-eqb, ne-eqb, ltb-false, not-false, lt-ltb, le-ltb, le-leb, lt-leb}
 use lib.Dec.{eqb, ltb, leb}
 use lib.ListN.{length, take, drop, getD, set, replicate, length-take}
-use lib.Seq.{drop-cons, drop-length, getD-set-same, getD-set-other, take-suc, take-length}
+use lib.Seq.{drop-cons, drop-length, getD-set-other, take-suc, take-length}
 use Rattle.laws.specs.Lists.{or-left, or-right, zeros-at}
+use Rattle.laws.specs.Put.{set-at}
 use Rattle.ldpc_shape.specs.Shape.{qOf, total, anyOver, countMod, countsMod, badLength, refusalOf}
 use Rattle.ldpc_shape.specs.Accepted.{total-le}
 use Rattle.ldpc_shape.specs.Worked.{q-beside}
@@ -51,7 +52,7 @@ one-more q addrs r i p h e g hq C l hl =
   where
     go : Dec (p ≡ l) → getD (set r p (getD r p 0 + 1)) l 0 ≡ cond (eqb (getD addrs i 0 % q) l) (suc (countMod q l (take i addrs))) (countMod q l (take i addrs))
     go (yes f) =
-        ap (λ (z : ℕ). getD (set r p (getD r p 0 + 1)) z 0) (sym f) ∙ getD-set-same r p (getD r p 0 + 1) 0 g
+        set-at 0 r p (getD r p 0 + 1) l g (sym f)
         ∙ ap (λ (z : ℕ). getD r z 0 + 1) f ∙ add-one _ ∙ ap suc (C l hl)
         ∙ ap (λ b. cond b (suc (countMod q l (take i addrs))) (countMod q l (take i addrs))) (sym (eq-eqb _ l (sym e ∙ f)))
     go (no f) =

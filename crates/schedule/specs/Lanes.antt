@@ -14,6 +14,7 @@ use lib.Dec.{eqb}
 use lib.ListN.{length, getD, take, drop, set, length-set}
 use lib.Seq.{getD-set-same, getD-set-other, ext-getD, set-getD}
 use Rattle.laws.specs.Lists.{or-left, or-right}
+use Rattle.laws.specs.Put.{set-at}
 use Rattle.schedule.specs.Run.{Words, Lane, empty, holds, Left, Stock, Turn, each, held, logged}
 use Rattle.schedule.specs.Status.{Status, waiting, holding, done, log-words, seek}
 
@@ -68,7 +69,7 @@ module _ {X : Type 0} where
       at : (k : ℕ) → k < n → Dec (k ≡ l) → getD (table f′ 0 n) k empty ≡ getD (set (table f 0 n) l y) k empty
       at k e (yes d) =
           getD-table f′ 0 n k e ∙ ap f′ (zero-add k ∙ d) ∙ new
-          ∙ sym (ap (λ k. getD (set (table f 0 n) l y) k empty) d ∙ getD-set-same (table f 0 n) l y empty (omega (arith, length-table f 0 n)))
+          ∙ sym (set-at empty (table f 0 n) l y k (omega (arith, length-table f 0 n)) d)
       at k e (no m) =
           getD-table f′ 0 n k e ∙ ap f′ (zero-add k) ∙ others k e m
           ∙ sym (getD-set-other (table f 0 n) l k y empty m ∙ getD-table f 0 n k e ∙ ap f (zero-add k))

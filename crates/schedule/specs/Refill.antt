@@ -5,12 +5,13 @@ use mathlib.Core.Bool.{Bool, true, false, cond}
 use mathlib.Core.List.{List, [], _∷_}
 use Prim.Native.Nat.{ℕ, zero, suc, _+_, _-_, _≤_, _<_}
 use native.Mathlib.Numerals.{add-one}
-use native.Mathlib.Decide.{ℕ-discrete, decLt}
+use native.Mathlib.Decide.{decLt}
 use native.Mathlib.Omega.{arith}
 use borrow.Author.Tests.{eq-eqb, ne-eqb}
 use lib.Dec.{eqb}
 use lib.ListN.{length, getD, drop, set, length-set, drop-of-length-le}
 use lib.Seq.{getD-set-same, getD-set-other, drop-cons}
+use Rattle.laws.specs.Put.{grown}
 use Rattle.schedule.specs.Run.{Words, Lane, empty, holds, Left, Stock, Turn, each, over, logged, load, fill}
 use Rattle.schedule.specs.Lanes.{Setup, lane-of, rows, length-rows, getD-rows, rows-ext, set-rows, from, from-start, from-end, from-step, from-same, any-held, Kept, kept-more, stock, Stands, Sized}
 
@@ -58,11 +59,7 @@ module _ {X : Type 0} (words : Words X) where
             ∙ ap (λ b. cond b (load words q (logged words w B 0 d)) (holds w B 0, record { queue = q; log = d })) z
 
         all : (k : ℕ) → k < suc l → Stays (getD (set ls l (holds w B 0)) k empty)
-        all k g = at (ℕ-discrete k l)
-          where
-            at : Dec (k ≡ l) → Stays (getD (set ls l (holds w B 0)) k empty)
-            at (yes d) = subst Stays (sym (ap (λ k. getD (set ls l (holds w B 0)) k empty) d ∙ getD-set-same ls l (holds w B 0) empty h)) (λ s. refl)
-            at (no n) = subst Stays (sym (getD-set-other ls l k (holds w B 0) empty n)) (p k (omega arith))
+        all k g = grown empty (λ _ x. Stays x) ls l (holds w B 0) h p (λ s. refl) k (omega arith)
 
   -- with no word waiting nothing changes, nor with every lane held
   none-each : (ls : List (Lane X)) (d : List (Left X)) → each (fill words) ls (record { queue = []; log = d }) ≡ (ls, record { queue = []; log = d })

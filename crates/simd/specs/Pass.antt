@@ -9,9 +9,10 @@ use borrow.Author.Tests.{ltb-true, ltb-false}
 use lib.Dec.{ltb}
 use lib.IntN.{ℤ, pos, _+ℤ_, _-ℤ_}
 use Rattle.laws.specs.Signed.{negative, times}
+use Rattle.laws.specs.Put.{put, put-same, put-other}
 use Rattle.lane_math.specs.Value.{satZ, magnitude, reduced, replied}
-use Rattle.lane_math.specs.Check.{min1, min2, message, put, tOf}
-use Rattle.lane_math.specs.Laws.{min1-small, min2-small, min2-step, parity, reply-is, put-same, put-other, last-or}
+use Rattle.lane_math.specs.Check.{min1, min2, message, tOf}
+use Rattle.lane_math.specs.Laws.{min1-small, min2-small, min2-step, parity, reply-is, last-or}
 use Rattle.lane16.specs.Lanes.{z, n, Scanned, Reduced, Readied, Answered, Flipped}
 use Rattle.lane_memory.specs.Column.{column, Off, Stored, Part}
 

@@ -9,10 +9,11 @@ use lib.Dec.{ltb, eqb}
 use lib.ListN.{getD, length}
 use lib.IntN.{ℤ, pos, _+ℤ_, _-ℤ_}
 use Rattle.laws.specs.Choice.{by-bool}
+use Rattle.laws.specs.Put.{put, put-other}
 use Rattle.lane_math.specs.Value.{satZ}
-use Rattle.lane_math.specs.Check.{Word, check, message, put, wrote, tOf, newL, newR}
+use Rattle.lane_math.specs.Check.{Word, check, message, wrote, tOf, newL, newR}
 use Rattle.lane_math.specs.Iteration.{unsatisfied, negatives, hard}
-use Rattle.lane_math.specs.Laws.{message-same, wrote-same, put-other, unsatisfied-is}
+use Rattle.lane_math.specs.Laws.{message-same, wrote-same, unsatisfied-is}
 use Rattle.lane16.specs.Lanes.{Decided}
 use Rattle.lane_memory.specs.Column.{column, Mapped}
 use Rattle.lane_memory.specs.Room.{var, Room}

@@ -8,9 +8,10 @@ use native.Mathlib.Numerals.{add-one}
 use lib.Dec.{eqb}
 use lib.ListN.{length}
 use lib.IntN.{ℤ, _+ℤ_}
+use Rattle.laws.specs.Put.{put, put-other}
 use Rattle.lane_math.specs.Value.{satZ, replied}
-use Rattle.lane_math.specs.Check.{Word, message, put, wrote, tOf, newL, newR}
-use Rattle.lane_math.specs.Laws.{wrote-same, put-other}
+use Rattle.lane_math.specs.Check.{Word, message, wrote, tOf, newL, newR}
+use Rattle.lane_math.specs.Laws.{wrote-same}
 use Rattle.lane16.specs.Lanes.{z, n, Readied, Answered}
 use Rattle.lane_memory.specs.Column.{column, Off, Stored, Part, Mapped}
 use Rattle.lane_memory.specs.Room.{var, Room}

@@ -11,7 +11,7 @@ use borrow.Author.Needs.{sfits-of}
 use Rattle.laws.specs.Signed.{plain}
 use Rattle.lane_math.specs.Value.{reduced}
 use Rattle.lane16.specs.Lanes.{z, n, readied-to}
-use Rattle.lane16.specs.Grow.{grown}
+use Rattle.laws.specs.Put.{grown}
 use Rattle.lane16.proofs.prepare.Statement.{statement}
 use Rattle.lane16.proofs.prepare.Tie as tie
 

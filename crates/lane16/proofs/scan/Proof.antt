@@ -11,7 +11,7 @@ use borrow.Author.Needs.{sfits-of}
 use Rattle.laws.specs.Signed.{negative, times, plain}
 use Rattle.lane_math.specs.Value.{satZ, magnitude}
 use Rattle.lane16.specs.Lanes.{z, n}
-use Rattle.lane16.specs.Grow.{grown, kept}
+use Rattle.laws.specs.Put.{grown, kept}
 use Rattle.lane16.proofs.scan.Statement.{statement}
 use Rattle.lane16.proofs.scan.Tie as tie
 
