@@ -221,7 +221,7 @@ module _ {F : Type 0} (K : Field F) where
     ynz₀ p h z = L .wrong p h (domain K _ (pow R₂ (x (L .place p)) b) z (pow-nz K _ b (x-nz (L .place p) (L .inside p h))))
 
     -- the locator polynomial, the product of 1 + X_p x over the wrong places, is a register of the error's weight
-    pub locator-serves : Gen R₂ s k (locator R₂ x₀ (weight n ε)) (weight n ε)
+    locator-serves : Gen R₂ s k (locator R₂ x₀ (weight n ε)) (weight n ε)
     unfolding e
     locator-serves = gen-ext R₂ (syndrome R₂ e y₀ x₀) s k _ _ (λ j h. sym (agree j h)) (locator-gen K e y₀ x₀ nz₀ k)
 

@@ -6,7 +6,7 @@ use native.Mathlib.Nat.{not-suc-le-zero, le-of-suc-le-suc, le-suc}
 use native.Mathlib.Decide.{ℕ-discrete, decLe, decLt}
 use native.Mathlib.Omega.{arith}
 use Rattle.algebra.specs.Ring.{Ring, Field, ⊠-lc, zero-⊞, one-⊠, ⊠-zero, ⊞-swap}
-use Rattle.algebra.specs.Series.{sum, sum-ext, sum-zero, sum-none, sum-mul, sum-front, pow, pow-add, eval, eval-more, conv, up, conv-vanish, conv-add-r, conv-mul-r, conv-pow}
+use Rattle.algebra.specs.Series.{sum, sum-ext, sum-zero, sum-none, sum-mul, sum-front, pow, pow-add, eval, eval-more, conv, unit, up, conv-vanish, conv-add-r, conv-mul-r, conv-pow}
 use Rattle.algebra.specs.Roots.{Distinct, domain, pow-nz, inv-inj, roots, vandermonde}
 use Rattle.algebra.specs.Massey.{Gen}
 
@@ -52,12 +52,8 @@ module _ {F : Type 0} (R : Ring F) where
   eval-up n c z = zero-⊞ R _
 
   -- ---- the locator polynomial of the first p of x
-  unfoldable pub unit : ℕ → F
-  unit zero = 𝟙
-  unit (suc i) = 𝟘
-
   unfoldable pub locator : (ℕ → F) → ℕ → ℕ → F
-  locator x zero = unit
+  locator x zero = unit R
   locator x (suc p) = λ i. locator x p i ⊞ x p ⊠ up R (locator x p) i
 
   locator-head : (x : ℕ → F) (p : ℕ) → locator x p 0 ≡ 𝟙

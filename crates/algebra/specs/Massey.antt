@@ -6,7 +6,7 @@ use native.Mathlib.Nat.{not-suc-le-zero, le-of-suc-le-suc, le-suc, le-refl}
 use native.Mathlib.Decide.{ℕ-discrete, decLe}
 use native.Mathlib.Omega.{arith}
 use Rattle.algebra.specs.Ring.{Ring, Field, one-⊠, ⊠-zero, zero-⊠}
-use Rattle.algebra.specs.Series.{conv, up, conv-ext, conv-vanish, conv-head, conv-add-l, conv-mul-l, conv-up-l, conv-lc, sum, conv-sum, sum-more}
+use Rattle.algebra.specs.Series.{conv, unit, up, conv-ext, conv-vanish, conv-head, conv-add-l, conv-mul-l, conv-up-l, conv-lc, sum, conv-sum, sum-more}
 
 -- times x ^ m
 unfoldable pub ups : {F : Type 0} → Ring F → ℕ → (ℕ → F) → ℕ → F
@@ -147,12 +147,7 @@ module _ {F : Type 0} (K : Field F) where
   unfolding fixed
   fixed-below c q m b i h = ap (λ y. c i ⊞ q ⊠ y) (ups-below m i b h) ∙ ap (λ y. c i ⊞ y) (⊠-zero R q) ∙ ⊞-zero (c i)
 
-  -- 1, and then 0
-  unfoldable pub unit : ℕ → F
-  unit zero = 𝟙
-  unit (suc i) = 𝟘
-
-  pub inv-start : (s : ℕ → F) → Inv s 0 0 0 1 unit unit 𝟙
+  pub inv-start : (s : ℕ → F) → Inv s 0 0 0 1 (unit R) (unit R) 𝟙
   unfolding unit
   inv-start s =
       record {
@@ -166,7 +161,7 @@ module _ {F : Type 0} (K : Field F) where
         failed = λ j e. absurd (omega arith);
       }
     where
-      later : (i : ℕ) → 0 < i → unit i ≡ 𝟘
+      later : (i : ℕ) → 0 < i → unit R i ≡ 𝟘
       later zero h = absurd (not-suc-le-zero h)
       later (suc i) h = refl
 
@@ -242,7 +237,7 @@ module _ {F : Type 0} (K : Field F) where
     discrepancy =
         sym (conv-sum R k c s ∙ sum-more R (suc l) (suc k) _ (omega (arith, I .link, I .m-pos)) (λ i h h′. ap (λ y. y ⊠ s (k - i)) (I .gen .supp i h) ∙ zero-⊠ R _))
 
-    pub inv-shortest : Shortest R s k c l
+    inv-shortest : Shortest R s k c l
     inv-shortest = record { gen = I .gen; short = I .short }
 
   -- ---- Berlekamp-Massey: there is a shortest register, for every sequence and every stretch of it

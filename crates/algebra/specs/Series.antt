@@ -83,6 +83,11 @@ module _ {F : Type 0} (R : Ring F) where
   conv c s zero = c 0 ⊠ s 0
   conv c s (suc n) = c 0 ⊠ s (suc n) ⊞ conv (λ i. c (suc i)) s n
 
+  -- 1, and then 0
+  unfoldable pub unit : ℕ → F
+  unit zero = 𝟙
+  unit (suc i) = 𝟘
+
   -- times x
   unfoldable pub up : (ℕ → F) → ℕ → F
   up g zero = 𝟘

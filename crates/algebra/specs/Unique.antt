@@ -73,7 +73,7 @@ module _ {F : Type 0} (K : Field F) where
         all-of-it =
             le-ind (λ m. m ≤ k → Gen R s m moved (l - j)) (λ _. start) (λ m a ih h. again m a (ih (omega arith)) h) k (omega arith) (le-refl k)
 
-        pub no-start : ⊥
+        no-start : ⊥
         no-start = omega (arith, S .short moved (l - j) all-of-it, fits, pos)
 
       none-below : d 0 ≡ 𝟘 → (j i : ℕ) → i < j → d i ≡ 𝟘
@@ -90,7 +90,7 @@ module _ {F : Type 0} (K : Field F) where
           pick (no ne) low = low i (omega arith)
 
     -- two shortest registers of the same length are the same
-    pub only-at : l + l ≤ k → (c′ : ℕ → F) → Gen R s k c′ l → (i : ℕ) → c i ≡ c′ i
+    only-at : l + l ≤ k → (c′ : ℕ → F) → Gen R s k c′ l → (i : ℕ) → c i ≡ c′ i
     only-at half c′ g i =
         ⊞-cancel R (c i) (c′ i)
         (none-below half (λ i. c i ⊞ c′ i) (λ i h. ap₂ _⊞_ (S .gen .supp i h) (g .supp i h) ∙ ⊞-zero 𝟘)

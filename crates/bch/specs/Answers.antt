@@ -1,13 +1,13 @@
 -- The entry points: who is refused, by which number, and what every lent slice holds at exit.
 use mathlib.Core.Path.{_≡_, refl, sym, ap, ap₂, _∙_, subst}
 use mathlib.Core.Logic.{ite, if-pos, if-neg}
-use mathlib.Core.List.{List, [], _++_, append-nil, append-assoc}
+use mathlib.Core.List.{List, [], _++_, append-assoc}
 use Prim.Native.Nat.{ℕ, suc, _+_, _-_, _≤_, _<_}
-use native.Mathlib.Nat.{add-sub-cancel-left, le-refl}
 use native.Mathlib.Decide.{ℕ-discrete, decLt}
 use native.Mathlib.Omega.{arith}
-use lib.ListN.{length, take, drop, length-append, drop-of-length-le}
+use lib.ListN.{length, take, drop, length-append}
 use lib.Seq.{take-length, take-at, drop-at, drop-drop}
+use Rattle.laws.specs.Lists.{lent-from, back-from}
 use Rattle.bch_remainder.specs.Word.{parityOf, parityBits, Codeword, encoded}
 use Rattle.bch_remainder.specs.Laws.{encoded-codeword, length-bits}
 use Rattle.bch.specs.Decode.{answerBy, leftBy, register, answerOf, leftOf}
@@ -123,11 +123,9 @@ encoded-bytes m out copied part d e f =
     let k = length m in
     let c : copied ≡ m ++ drop k out = e ∙ ap (λ (l : List ℕ). l ++ drop k out) (take-length m) in
     let r : drop k copied ≡ drop k out = ap (drop k) c ∙ drop-at m (drop k out) k refl in
-    let n : length copied - k ≡ length (drop k out) = ap (λ (l : List ℕ). length l - k) c ∙ ap (λ (j : ℕ). j - k) (length-append m (drop k out)) ∙ add-sub-cancel-left k (length (drop k out)) in
-    let t : take (length copied - k) (drop k copied) ≡ drop k out = ap₂ (λ (j : ℕ) (l : List ℕ). take j l) n r ∙ take-length (drop k out) in
-    let z : drop (length copied - k) (drop k copied) ≡ [] = ap₂ (λ (j : ℕ) (l : List ℕ). drop j l) n r ∙ drop-of-length-le (drop k out) (le-refl _) in
-    ap₂ (λ (x y : List ℕ). x ++ (part ++ y)) (ap (take k) c ∙ take-at m (drop k out) k refl) z
-    ∙ ap (λ (l : List ℕ). m ++ l) (append-nil part ∙ f ∙ ap (λ (l : List ℕ). d ++ drop 192 l) t ∙ ap (λ (l : List ℕ). d ++ l) (drop-drop 192 k out))
+    back-from k copied part
+    ∙ ap₂ (λ (x y : List ℕ). x ++ y) (ap (take k) c ∙ take-at m (drop k out) k refl)
+    (f ∙ ap (λ (l : List ℕ). d ++ drop 192 l) (lent-from k copied ∙ r) ∙ ap (λ (l : List ℕ). d ++ l) (drop-drop 192 k out))
 
 pub located-to : {w v : List ℕ} (v′ : List ℕ) (r : Decoded) → v′ ≡ v → Located w v r → Located w v′ r
 located-to {w} v′ r e L = subst (λ (x : List ℕ). Located w x r) (sym e) L
@@ -141,4 +139,6 @@ encode-codeword m out f = subst Codeword (sym front) (encoded-codeword m)
     whole = sym (changed _ (m ++ (parityBits (parityOf m) ++ drop (length m + 192) out)) out f) ∙ sym (append-assoc m (parityBits (parityOf m)) (drop (length m + 192) out))
 
     front : take (length m + 192) (encodeOut m out) ≡ encoded m
-    front = ap (take (length m + 192)) whole ∙ take-at (encoded m) (drop (length m + 192) out) (length m + 192) (length-append m (parityBits (parityOf m)) ∙ ap (λ (k : ℕ). length m + k) (length-bits 192 (parityOf m)))
+    front =
+        ap (take (length m + 192)) whole
+        ∙ take-at (encoded m) (drop (length m + 192) out) (length m + 192) (length-append m (parityBits (parityOf m)) ∙ ap (λ (k : ℕ). length m + k) (length-bits 192 (parityOf m)))

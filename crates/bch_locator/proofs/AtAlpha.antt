@@ -54,7 +54,7 @@ quotient-add =
 times-add : (k : ℕ) → Additive (λ x. quotient x * 2 ^ k % 2 ^ 16)
 times-add k = add-low (λ x. quotient x * 2 ^ k) 16 (add-up quotient k quotient-add)
 
-pub folded-add : Additive folded
+folded-add : Additive folded
 unfolding folded
 folded-add =
     add-sum _ _ (add-sum _ _ (add-sum _ _ (add-sum _ _ (λ a b. ⊕-mod a b 16) quotient-add) (times-add 1)) (times-add 3)) (times-add 12)
@@ -93,13 +93,13 @@ power (suc i) h =
     toEl-mul 2 (folded (2 ^ i)) _ (lit< tt) (ltb→lt _ _ (below-at 31 _ steps-fit i (le-of-lt h))) (eqb→eq _ _ (below-at 30 _ steps-right i (le-of-suc-le-suc h)))
     ∙ ap₂ (R16 ._⊠_) toEl-two (power i (le-of-lt h))
 
-pub ev-power : {F : Type 0} (R : Ring F) (k i : ℕ) (z : F) → i < k → ev R k (2 ^ i) z ≡ pow R z i
+ev-power : {F : Type 0} (R : Ring F) (k i : ℕ) (z : F) → i < k → ev R k (2 ^ i) z ≡ pow R z i
 unfolding pow ev bit
 ev-power R zero i z h = absurd (not-suc-le-zero h)
 ev-power R (suc k) zero z h = ap (λ y. R ._⊞_ (R .𝟙) (R ._⊠_ z y)) (ev-zero R k z) ∙ ap (R ._⊞_ (R .𝟙)) (⊠-zero R z) ∙ R .⊞-zero (R .𝟙)
 ev-power R (suc k) (suc i) z h = ap (λ (w : ℕ). ev R (suc k) w z) (pow-suc 2 i) ∙ ev-double R k (2 ^ i) z ∙ ap (R ._⊠_ z) (ev-power R k i z (le-of-suc-le-suc h))
 
-pub folded-law : (x : ℕ) → x < 2147483648 → toEl (folded x) ≡ ev R16 32 x α
+folded-law : (x : ℕ) → x < 2147483648 → toEl (folded x) ≡ ev R16 32 x α
 folded-law =
     span (λ x. toEl (folded x) ≡ ev R16 32 x α) (ap toEl folded-zero ∙ toEl-zero ∙ sym (ev-zero R16 32 α)) 31
     (λ a b _ _ p q. ap toEl (folded-add a b) ∙ toEl-xor (folded a) (folded b) ∙ ap₂ (R16 ._⊞_) p q ∙ sym (ev-add R16 32 a b α))

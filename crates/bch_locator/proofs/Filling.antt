@@ -10,7 +10,7 @@ use Rattle.gf16.specs.Alpha.{R16, α}
 use Rattle.bch_locator.specs.Element.{toEl, poly}
 use Rattle.bch_locator.specs.Lanes.{Lanes, Products}
 use Rattle.laws.specs.Lists.{zeros-at}
-use Rattle.laws.specs.Put.{set-each, grown}
+use Rattle.laws.specs.Stores.{set-each, grown}
 
 pub record Filling (P : ℕ → ℕ → Type 0) (r : List ℕ) (i : ℕ) : Type 0 where
   pub lanes : Lanes r

@@ -25,7 +25,7 @@ use Rattle.bch_locator.proofs.Product.{digit-top, digit-next}
 use Rattle.bch_locator.proofs.Raised.{lanes-raised, ev-join}
 use Rattle.bch_locator.proofs.Filling.{Filling}
 use Rattle.laws.specs.Lists.{zeros-at}
-use Rattle.laws.specs.Put.{set-at}
+use Rattle.laws.specs.Stores.{set-at}
 
 -- ---- `add_bit`
 abbrev pub Plus : List ℕ → ℕ → ℕ → ℕ → Type 0

@@ -26,7 +26,7 @@ use Rattle.bch_locator.specs.Lanes.{Lanes, Products, PowersOf}
 use Rattle.bch_locator.specs.Places.{valueAt, Places-of, Reversed}
 use Rattle.bch_locator.proofs.Raised.{raised, lanes-raised, lanes-past}
 use Rattle.laws.specs.Lists.{zeros-at}
-use Rattle.laws.specs.Put.{set-at, grown}
+use Rattle.laws.specs.Stores.{set-at, grown}
 use Rattle.bch_locator.proofs.Filling.{zero-lanes, lanes-set}
 
 -- ---- the terms

@@ -12,8 +12,8 @@ use lib.ListN.{getD, length, set, List·getD-eq-default}
 use lib.Seq.{getD-set-same, getD-set-other}
 use Rattle.laws.specs.Xor.{_⊕_}
 use Rattle.algebra.specs.Ring.{⊠-zero}
-use Rattle.algebra.specs.Series.{sum, sum-none, sum-last, conv}
-use Rattle.algebra.specs.Massey.{Gen, Inv, fixed, fixed-at, fixed-below, ups-supp, unit, inv-start, inv-move, discrepancy, step-zero, step-keep, step-grow, no-shorter}
+use Rattle.algebra.specs.Series.{sum, sum-none, sum-last, conv, unit}
+use Rattle.algebra.specs.Massey.{Gen, Inv, fixed, fixed-at, fixed-below, ups-supp, inv-start, inv-move, discrepancy, step-zero, step-keep, step-grow, no-shorter}
 use Rattle.gf16.specs.Field16.{gf16}
 use Rattle.gf16.specs.Alpha.{R16}
 use Rattle.bch_locator.specs.Element.{toEl, toEl-inj, toEl-xor, toEl-zero, toEl-one, poly}
@@ -172,15 +172,15 @@ module _ (s c b : List ℕ) (l m e k : ℕ) (S : State s c b l m e k) where
       k-is = omega (arith, S .k-le)
 
 -- the array at the start
-pub one-first : (c : List ℕ) → getD c 0 0 ≡ 1 → ((i : ℕ) → getD c (suc i) 0 ≡ 0) → poly c ≡ unit gf16
+pub one-first : (c : List ℕ) → getD c 0 0 ≡ 1 → ((i : ℕ) → getD c (suc i) 0 ≡ 0) → poly c ≡ unit R16
 unfolding poly unit
 one-first c e f = fun-ext at
   where
-    at : (i : ℕ) → toEl (getD c i 0) ≡ unit gf16 i
+    at : (i : ℕ) → toEl (getD c i 0) ≡ unit R16 i
     at zero = ap toEl e ∙ toEl-one
     at (suc i) = ap toEl (f i) ∙ toEl-zero
 
-pub state-start : (s c b : List ℕ) → length c ≡ 13 → poly c ≡ unit gf16 → poly b ≡ unit gf16 → State s c b 0 1 1 0
+pub state-start : (s c b : List ℕ) → length c ≡ 13 → poly c ≡ unit R16 → poly b ≡ unit R16 → State s c b 0 1 1 0
 state-start s c b n e f =
     record {
       k-le = omega arith;

@@ -19,7 +19,7 @@ toEl x = (x % 65536, mod-lt x (lit< tt))
 unfoldable pub poly : List ℕ → ℕ → El 15
 poly xs i = toEl (getD xs i 0)
 
-pub toEl-val : (x : ℕ) → x < 65536 → (toEl x) .0 ≡ x
+toEl-val : (x : ℕ) → x < 65536 → (toEl x) .0 ≡ x
 unfolding toEl
 toEl-val x h = mod-eq-of-lt h
 

@@ -15,10 +15,13 @@ use Rattle.bch_table.specs.Step.{stepOf}
 use Rattle.bch_remainder.specs.Word.{number, number-from, parityOf, remainderOf, Codeword, bitsOf, parityBits, encoded}
 
 -- ---- numbers of words
-pub number-from-is : (a : ℕ) (w : List ℕ) → number-from a w ≡ a * 2 ^ length w + number w
+number-from-is : (a : ℕ) (w : List ℕ) → number-from a w ≡ a * 2 ^ length w + number w
 unfolding number number-from
 number-from-is a [] = omega arith
-number-from-is a (b ∷ w) = number-from-is (a * 2 + b % 2) w ∙ spread a (b % 2) (2 ^ length w) (number-from 0 w) (2 ^ suc (length w)) (pow-suc 2 (length w)) ∙ ap (λ (n : ℕ). a * 2 ^ suc (length w) + n) (sym (number-from-is (0 * 2 + b % 2) w))
+number-from-is a (b ∷ w) =
+    number-from-is (a * 2 + b % 2) w
+    ∙ spread a (b % 2) (2 ^ length w) (number-from 0 w) (2 ^ suc (length w)) (pow-suc 2 (length w))
+    ∙ ap (λ (n : ℕ). a * 2 ^ suc (length w) + n) (sym (number-from-is (0 * 2 + b % 2) w))
   where
     spread : (a b p n q : ℕ) → q ≡ p * 2 → (a * 2 + b) * p + n ≡ a * q + ((0 * 2 + b) * p + n)
     spread a b p n q e =
@@ -45,7 +48,7 @@ pub number-append : (m d : List ℕ) → number (m ++ d) ≡ number m * 2 ^ leng
 unfolding number
 number-append m d = number-from-append 0 m d ∙ number-from-is (number-from 0 m) d
 
-pub number-append-⊕ : (m d : List ℕ) → number (m ++ d) ≡ (number m * 2 ^ length d) ⊕ number d
+number-append-⊕ : (m d : List ℕ) → number (m ++ d) ≡ (number m * 2 ^ length d) ⊕ number d
 number-append-⊕ m d = number-append m d ∙ sym (⊕-join (number m) (length d) (number d) (number-lt d))
 
 -- the coefficient of each power: bit i from the front is that of x^(length - 1 - i)
@@ -57,7 +60,7 @@ high-part a n j k =
     around : (a b c : ℕ) → a * (b * (c * 2)) ≡ a * c * 2 * b
     around a b c = omega arith
 
-pub number-digit : (w : List ℕ) (i : ℕ) → i < length w → number w / 2 ^ (length w - suc i) % 2 ≡ getD w i 0 % 2
+number-digit : (w : List ℕ) (i : ℕ) → i < length w → number w / 2 ^ (length w - suc i) % 2 ≡ getD w i 0 % 2
 number-digit [] i h = absurd (not-suc-le-zero h)
 number-digit (b ∷ w) zero h =
     ap (λ (x : ℕ). x / 2 ^ (suc (length w) - 1) % 2) (number-one-more b w) ∙ ap (λ (k : ℕ). (b % 2 * 2 ^ length w + number w) / 2 ^ k % 2) less
@@ -82,7 +85,7 @@ unfolding bitsOf
 length-bits zero r = refl
 length-bits (suc k) r = ap suc (length-bits k r)
 
-pub number-bits-mod : (k r : ℕ) → number (bitsOf k r) ≡ r % 2 ^ k
+number-bits-mod : (k r : ℕ) → number (bitsOf k r) ≡ r % 2 ^ k
 unfolding bitsOf number number-from
 number-bits-mod zero r = sym (mod-one r)
 number-bits-mod (suc k) r =
@@ -90,11 +93,11 @@ number-bits-mod (suc k) r =
     ∙ ap₂ (λ (n b : ℕ). b * 2 ^ n + number (bitsOf k r)) (length-bits k r) (mod-mod (r / 2 ^ k) 2)
     ∙ ap (λ (n : ℕ). r / 2 ^ k % 2 * 2 ^ k + n) (number-bits-mod k r) ∙ sym (mod-pow-add r 1 k) ∙ ap (λ (n : ℕ). r % 2 ^ n) (add-comm 1 k ∙ add-one k)
 
-pub number-bits : (k r : ℕ) → r < 2 ^ k → number (bitsOf k r) ≡ r
+number-bits : (k r : ℕ) → r < 2 ^ k → number (bitsOf k r) ≡ r
 number-bits k r h = number-bits-mod k r ∙ mod-eq-of-lt h
 
 -- ---- remainders
-pub parity-lt : (m : List ℕ) → parityOf m < 2 ^ 192
+parity-lt : (m : List ℕ) → parityOf m < 2 ^ 192
 unfolding parityOf
 parity-lt m = rem-lt 192 generator (length m + 192) (number m * 2 ^ 192) generator-top
 
@@ -153,7 +156,7 @@ unfolding remainderOf
 codeword-remainder w = divides-rem 192 generator (length w) (number w) generator-top (number-lt w)
 
 -- encoding gives a codeword
-pub encoded-remainder : (m : List ℕ) → remainderOf (encoded m) ≡ 0
+encoded-remainder : (m : List ℕ) → remainderOf (encoded m) ≡ 0
 encoded-remainder m =
     remainder-split m (parityBits (parityOf m)) (length-bits 192 (parityOf m))
     ∙ ap (λ (n : ℕ). parityOf m ⊕ n) (number-bits 192 (parityOf m) (parity-lt m)) ∙ ⊕-self (parityOf m)

@@ -14,13 +14,13 @@ use Rattle.bch_table.specs.Step.{joined, stepOf}
 use Rattle.bch_table.specs.Words.{below, xored, words, word-lt}
 
 -- ---- one word: its lower 56 bits moved up, with the next word's top byte
-pub word-up : (x y : ℕ) → y < 2 ^ 64 → bitXor (x * 256 % 2 ^ 64) (y / 2 ^ 56) ≡ x % 2 ^ 56 * 256 + y / 2 ^ 56
+word-up : (x y : ℕ) → y < 2 ^ 64 → bitXor (x * 256 % 2 ^ 64) (y / 2 ^ 56) ≡ x % 2 ^ 56 * 256 + y / 2 ^ 56
 word-up x y h =
     let e : x * 256 % 2 ^ 64 ≡ x % 2 ^ 56 * 256 = omega arith in
     let k : y / 2 ^ 56 < 256 = omega arith in
     ap (λ (n : ℕ). bitXor n (y / 2 ^ 56)) e ∙ xor-shifted (x % 2 ^ 56) 8 (y / 2 ^ 56) k
 
-pub last-up : (x : ℕ) → x * 256 % 2 ^ 64 ≡ x % 2 ^ 56 * 256
+last-up : (x : ℕ) → x * 256 % 2 ^ 64 ≡ x % 2 ^ 56 * 256
 last-up x = omega arith
 
 up-lt′ : (a b : ℕ) → a < 2 ^ 56 → b < 256 → a * 256 + b < 2 ^ 64
@@ -56,7 +56,7 @@ shifted h m l hh hm hl =
     add-mul-mod q r n = ap (λ (k : ℕ). k % n) (add-comm r (q * n)) ∙ mul-add-mod-self-right q n r
 
 -- the top byte
-pub top-byte : (h m l : ℕ) → m < 2 ^ 64 → l < 2 ^ 64 → joined h m l / 2 ^ 184 ≡ h / 2 ^ 56
+top-byte : (h m l : ℕ) → m < 2 ^ 64 → l < 2 ^ 64 → joined h m l / 2 ^ 184 ≡ h / 2 ^ 56
 unfolding joined
 top-byte h m l hm hl =
     sym (div-div-eq-div-mul (joined h m l) (2 ^ 128) (2 ^ 56))

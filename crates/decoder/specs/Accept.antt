@@ -117,7 +117,8 @@ module _ (plan : Plan) (lens addrs : List ℕ) (soft : List ℤ) (layers : Bool)
         )
 
   pub finished-so : (order′ : List ℕ) (iterate′ : Word → Word) (B₀ : Book) (stopped : Bool) (rounds next : ℕ) (B : Book) → order′ ≡ input-order (plan .words)
-      → iterate′ ≡ iterate plan lens addrs soft layers step offset bound → Finishes (codeOf (plan .n) lens addrs) iterate′ plan soft order′ bound B₀ stopped rounds next B → Finished B₀ stopped rounds next B
+      → iterate′ ≡ iterate plan lens addrs soft layers step offset bound → Finishes (codeOf (plan .n) lens addrs) iterate′ plan soft order′ bound B₀ stopped rounds next B
+      → Finished B₀ stopped rounds next B
   finished-so order′ iterate′ B₀ stopped rounds next B e f c = subst₂ (λ (o : List ℕ) (g : Word → Word). Finishes (codeOf (plan .n) lens addrs) g plan soft o bound B₀ stopped rounds next B) e f c
 
   -- what the run over the words gives

@@ -79,12 +79,16 @@ module _ (n : ℕ) (lens addrs : List ℕ) where
   abbrev pub aloneBy : Settings → List ℤ → Outcome
   aloneBy set own = alone (codeOf n lens addrs) n (pOf n lens) (iterateBy set) (set .limit) (set .first) (set .length) own
 
-  accepts : (A : Accepted-run) → Accepts (planOf n lens (A .soft) (A .set)) lens addrs (A .soft) (isLayered (A .set .schedule)) (stepOf (A .set .schedule)) (A .set .offset) (A .set .rounds) (A .out) (A .out′) (A .work) (A .work′) (A .index) (A .index′) (A .ran)
+  accepts : (A : Accepted-run)
+      → Accepts (planOf n lens (A .soft) (A .set)) lens addrs (A .soft) (isLayered (A .set .schedule)) (stepOf (A .set .schedule)) (A .set .offset) (A .set .rounds) (A .out) (A .out′) (A .work) (A .work′) (A .index) (A .index′) (A .ran)
   accepts A = A .runs .accepted (A .accepted)
 
   -- a finished word has its outcome alone
   pub finished-alone : (A : Accepted-run) (w : ℕ) → isFinished (says A w .state) ≡ true → outcomeIn (says A w) ≡ aloneBy (A .set) (ownPart n w (A .soft))
-  finished-alone A w f = at (status (theRun (planOf n lens (A .soft) (A .set)) lens addrs (A .soft) (isLayered (A .set .schedule)) (stepOf (A .set .schedule)) (A .set .offset) (A .set .rounds) .last) w) (accepts A .told w) (accepts A .demanded w)
+  finished-alone A w f =
+      at
+      (status (theRun (planOf n lens (A .soft) (A .set)) lens addrs (A .soft) (isLayered (A .set .schedule)) (stepOf (A .set .schedule)) (A .set .offset) (A .set .rounds) .last) w)
+      (accepts A .told w) (accepts A .demanded w)
     where
       at : (st : Status Word)
           → Tells (codeOf n lens addrs) n (pOf n lens) (A .set .first) (A .set .length) (ownPart n w (A .out)) st (says A w)
@@ -111,7 +115,8 @@ module _ (n : ℕ) (lens addrs : List ℕ) where
   abbrev pub bitsAlone : Settings → List ℤ → List ℕ
   bitsAlone set own = bitsOf n (after (begin n own) (iterateBy set) (atEnd set own))
 
-  outcome-alone : (set : Settings) (own : List ℤ) → (aloneBy set own .bch ≡ bchOf (set .first) (set .length) (bitsAlone set own)) × (aloneBy set own .bits ≡ corrected (set .first) (set .length) (bitsAlone set own))
+  outcome-alone : (set : Settings) (own : List ℤ)
+      → (aloneBy set own .bch ≡ bchOf (set .first) (set .length) (bitsAlone set own)) × (aloneBy set own .bits ≡ corrected (set .first) (set .length) (bitsAlone set own))
   unfolding alone outcomeOf
   outcome-alone set own = (refl, refl)
 

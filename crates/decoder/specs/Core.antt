@@ -41,7 +41,7 @@ module _ (n : ℕ) (lens addrs : List ℕ) (soft : List ℤ) (set : Settings) (r
     fine : Accepted n lens addrs (askedBy set layers step) (lentOf soft room out work index)
     fine = accepted n lens addrs (askedBy set layers step) (lentOf soft room out work index) none
 
-    pub code-fine : shape.Accepted n lens addrs
+    code-fine : shape.Accepted n lens addrs
     code-fine = shape.accepted n lens addrs (fine .code)
 
     pub n-some : 0 < n
@@ -72,7 +72,8 @@ module _ (n : ℕ) (lens addrs : List ℕ) (soft : List ℤ) (set : Settings) (r
           index-fits = omega (arith, c .index-fits, a, b);
         }
 
-    pub accepted-so : (p : ℕ) (offset : ℤ) (out′ : List ℕ) (work′ : List ℤ) (index′ : List ℕ) (r : Ran) → p ≡ pOf n lens → layers ≡ isLayered (set .schedule) → step ≡ stepOf (set .schedule) → offset ≡ set .offset
+    pub accepted-so : (p : ℕ) (offset : ℤ) (out′ : List ℕ) (work′ : List ℤ) (index′ : List ℕ) (r : Ran) → p ≡ pOf n lens → layers ≡ isLayered (set .schedule)
+        → step ≡ stepOf (set .schedule) → offset ≡ set .offset
         → Accepts (planBy n soft set p) lens addrs soft layers step offset (set .rounds) out out′ work work′ index index′ r → Runs n lens addrs soft set room out out′ work work′ index index′ r
     accepted-so p offset out′ work′ index′ r a l s o c =
         record {

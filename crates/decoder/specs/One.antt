@@ -42,7 +42,8 @@ unnamed r =
     }
 
 -- what a status says of a record is all of it but the named check, and the word's bits
-told-same : (code : Code) (n p first size : ℕ) (bits : List ℕ) (st : Status Word) (v v′ : View) → Tells code n p first size bits st v → Tells code n p first size bits st v′ → outcomeIn v ≡ outcomeIn v′
+told-same : (code : Code) (n p first size : ℕ) (bits : List ℕ) (st : Status Word) (v v′ : View) → Tells code n p first size bits st v → Tells code n p first size bits st v′
+    → outcomeIn v ≡ outcomeIn v′
 told-same code n p first size bits waiting v v′ t t′ = ap outcomeIn (t ∙ sym t′)
 told-same code n p first size bits (holding x i) v v′ t t′ =
     λ j. record {
@@ -95,7 +96,7 @@ module _ (plan : Plan) (lens addrs : List ℕ) (soft : List ℤ) (set : Settings
   unfolding view
   bits-same h = parts-same (plan .n) out₁ out₂ h (A₁ .out-long ∙ sym (A₂ .out-long)) (λ w. ap (λ (o : Outcome). o .bits) (word-same w))
 
-  pub figures-same : unnamed r₁ ≡ unnamed r₂
+  figures-same : unnamed r₁ ≡ unnamed r₂
   figures-same =
       λ i. record {
         refusal = (A₁ .number ∙ sym (A₂ .number)) i;
@@ -122,7 +123,8 @@ pub record Alike-runs (r₁ r₂ : Ran) (out₁ out₂ : List ℕ) (work₁ work
 
 pub one-run : {n : ℕ} {lens addrs : List ℕ} {soft : List ℤ} {set : Settings} {room : ℕ} {out out₁ out₂ : List ℕ} {work work₁ work₂ : List ℤ} {index index₁ index₂ : List ℕ} {r₁ r₂ : Ran}
     → Runs n lens addrs soft set room out out₁ work work₁ index index₁ r₁ → Runs n lens addrs soft set room out out₂ work work₂ index index₂ r₂ → Alike-runs r₁ r₂ out₁ out₂ work₁ work₂ index₁ index₂
-one-run {n} {lens} {addrs} {soft} {set} {room} {out} {out₁} {out₂} {work} {work₁} {work₂} {index} {index₁} {index₂} {r₁} {r₂} R₁ R₂ = at (ℕ-discrete (runRefusal n lens addrs soft set room out work index) 0)
+one-run {n} {lens} {addrs} {soft} {set} {room} {out} {out₁} {out₂} {work} {work₁} {work₂} {index} {index₁} {index₂} {r₁} {r₂} R₁ R₂ =
+    at (ℕ-discrete (runRefusal n lens addrs soft set room out work index) 0)
   where
     some : runRefusal n lens addrs soft set room out work index ≡ 0 → 0 < n
     some e = unfold runRefusal in n-some n lens addrs soft set room out work index (isLayered (set .schedule)) (stepOf (set .schedule)) e

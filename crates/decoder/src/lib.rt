@@ -165,7 +165,10 @@ fn accepted(
     index: &mut [u32],
 ) -> Ran
     requires { ⌜ Planned plan e (now lens) (now addrs) (now soft) (now out) (now work) (now index) × Stepped layered step ⌝ }
-    ensures { λ r. ⌜ Accepts plan (now (lens .entry)) (now (addrs .entry)) (now (soft .entry)) layered step offset bound (now (out .entry)) (now (out .exit)) (now (work .entry)) (now (work .exit)) (now (index .entry)) (now (index .exit)) r ⌝ }
+    ensures { λ r. ⌜
+        Accepts plan (now (lens .entry)) (now (addrs .entry)) (now (soft .entry)) layered step offset bound (now (out .entry)) (now (out .exit))
+        (now (work .entry)) (now (work .exit)) (now (index .entry)) (now (index .exit)) r
+        ⌝ }
 {
     let n = plan.n as usize;
     let need = decoder_refuse::work_need(n, e, plan.lanes);
@@ -202,7 +205,10 @@ pub fn core(
     work: &mut [i8],
     index: &mut [u32],
 ) -> Ran
-    ensures { λ r. ⌜ Runs n (now (lens .entry)) (now (addrs .entry)) (now (soft .entry)) set room (now (out .entry)) (now (out .exit)) (now (work .entry)) (now (work .exit)) (now (index .entry)) (now (index .exit)) r ⌝ }
+    ensures { λ r. ⌜
+        Runs n (now (lens .entry)) (now (addrs .entry)) (now (soft .entry)) set room (now (out .entry)) (now (out .exit)) (now (work .entry))
+        (now (work .exit)) (now (index .entry)) (now (index .exit)) r
+        ⌝ }
 {
     let schedule = set.schedule;
     let layered = is_layered(schedule);

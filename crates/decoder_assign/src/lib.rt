@@ -35,7 +35,12 @@ pub fn assign(
     requires { ⌜ Given plan (now lens) (now addrs) (now index) (now soft) × Ordered plan (now order) ⌝ }
     requires { ⌜ Room (plan .n) (plan .words) (book (now state) (now iterations) (now unsatisfied) (now check) (now bch) (now out)) ⌝ }
     requires { ⌜ (at .next ≤ length (now order)) × Sized (at .held) (at .iters) ⌝ }
-    ensures { λ r. ⌜ Assigns (codeOf (plan .n) (now (lens .entry)) (now (addrs .entry))) plan (now (soft .entry)) (now (order .entry)) (at .held) (at .iters) (at .next) (book (now (state .entry)) (now (iterations .entry)) (now (unsatisfied .entry)) (now (check .entry)) (now (bch .entry)) (now (out .entry))) (r .held) (r .iters) (r .next) (r .busy) (book (now (state .exit)) (now (iterations .exit)) (now (unsatisfied .exit)) (now (check .exit)) (now (bch .exit)) (now (out .exit))) ⌝ }
+    ensures { λ r. ⌜
+        Assigns (codeOf (plan .n) (now (lens .entry)) (now (addrs .entry))) plan (now (soft .entry)) (now (order .entry)) (at .held) (at .iters) (at .next)
+        (book (now (state .entry)) (now (iterations .entry)) (now (unsatisfied .entry)) (now (check .entry)) (now (bch .entry)) (now (out .entry)))
+        (r .held) (r .iters) (r .next) (r .busy)
+        (book (now (state .exit)) (now (iterations .exit)) (now (unsatisfied .exit)) (now (check .exit)) (now (bch .exit)) (now (out .exit)))
+        ⌝ }
 {
     let mut held = at.held;
     let mut iters = at.iters;

@@ -61,8 +61,17 @@ pub fn leave(
     requires { ⌜ Working plan (now index) (now work) × (w < plan .words) × (l < plan .lanes) ⌝ }
     requires { ⌜ Room (plan .n) (plan .words) (book (now state) (now iterations) (now unsatisfied) (now check) (now bch) (now out)) ⌝ }
     requires { ⌜ Counted (laneCode plan (now index)) (plan .p) (laneWord plan (now index) (now work) l) count named ⌝ }
-    ensures only { λ _. ⌜ Only (plan .n) w (book (now (state .entry)) (now (iterations .entry)) (now (unsatisfied .entry)) (now (check .entry)) (now (bch .entry)) (now (out .entry))) (book (now (state .exit)) (now (iterations .exit)) (now (unsatisfied .exit)) (now (check .exit)) (now (bch .exit)) (now (out .exit))) ⌝ }
-    ensures ends { λ _. ⌜ Ends (laneCode plan (now (index .entry))) (plan .n) (plan .p) (plan .first) (plan .size) (laneWord plan (now (index .entry)) (now (work .entry)) l) i (view (plan .n) (book (now (state .exit)) (now (iterations .exit)) (now (unsatisfied .exit)) (now (check .exit)) (now (bch .exit)) (now (out .exit))) w) ⌝ }
+    ensures only { λ _. ⌜
+        Only (plan .n) w
+        (book (now (state .entry)) (now (iterations .entry)) (now (unsatisfied .entry)) (now (check .entry)) (now (bch .entry)) (now (out .entry)))
+        (book (now (state .exit)) (now (iterations .exit)) (now (unsatisfied .exit)) (now (check .exit)) (now (bch .exit)) (now (out .exit)))
+        ⌝ }
+    ensures ends { λ _. ⌜
+        Ends (laneCode plan (now (index .entry))) (plan .n) (plan .p) (plan .first) (plan .size) (laneWord plan (now (index .entry)) (now (work .entry)) l)
+        i
+        (view (plan .n)
+        (book (now (state .exit)) (now (iterations .exit)) (now (unsatisfied .exit)) (now (check .exit)) (now (bch .exit)) (now (out .exit))) w)
+        ⌝ }
 {
     let n = plan.n as usize;
     let a = w * n;
@@ -98,8 +107,17 @@ pub fn hold(
     requires { ⌜ Working plan (now index) (now work) × (w < plan .words) × (l < plan .lanes) ⌝ }
     requires { ⌜ Room (plan .n) (plan .words) (book (now state) (now iterations) (now unsatisfied) (now check) (now bch) (now out)) ⌝ }
     requires { ⌜ Counted (laneCode plan (now index)) (plan .p) (laneWord plan (now index) (now work) l) count named ⌝ }
-    ensures only { λ _. ⌜ Only (plan .n) w (book (now (state .entry)) (now (iterations .entry)) (now (unsatisfied .entry)) (now (check .entry)) (now (bch .entry)) (now (out .entry))) (book (now (state .exit)) (now (iterations .exit)) (now (unsatisfied .exit)) (now (check .exit)) (now (bch .exit)) (now (out .exit))) ⌝ }
-    ensures holds { λ _. ⌜ Holds (laneCode plan (now (index .entry))) (plan .n) (plan .p) (plan .first) (plan .size) (laneWord plan (now (index .entry)) (now (work .entry)) l) i (view (plan .n) (book (now (state .exit)) (now (iterations .exit)) (now (unsatisfied .exit)) (now (check .exit)) (now (bch .exit)) (now (out .exit))) w) ⌝ }
+    ensures only { λ _. ⌜
+        Only (plan .n) w
+        (book (now (state .entry)) (now (iterations .entry)) (now (unsatisfied .entry)) (now (check .entry)) (now (bch .entry)) (now (out .entry)))
+        (book (now (state .exit)) (now (iterations .exit)) (now (unsatisfied .exit)) (now (check .exit)) (now (bch .exit)) (now (out .exit)))
+        ⌝ }
+    ensures holds { λ _. ⌜
+        Holds (laneCode plan (now (index .entry))) (plan .n) (plan .p) (plan .first) (plan .size)
+        (laneWord plan (now (index .entry)) (now (work .entry)) l) i
+        (view (plan .n)
+        (book (now (state .exit)) (now (iterations .exit)) (now (unsatisfied .exit)) (now (check .exit)) (now (bch .exit)) (now (out .exit))) w)
+        ⌝ }
 {
     let n = plan.n as usize;
     let a = w * n;

@@ -66,7 +66,12 @@ fn turns(
     requires { ⌜ Sized (at .held) (at .iters) × Readied plan (at .held) (at .iters) ⌝ }
     requires { ⌜ Judged (laneCode plan (now index)) plan (at .held) (laneWord plan (now index) (now work)) (λ l. getD verdict l false) ⌝ }
     requires { ⌜ Tallied (laneCode plan (now index)) plan (at .held) (at .iters) (λ l. getD verdict l false) (laneWord plan (now index) (now work)) counts checks ⌝ }
-    ensures { λ r. ⌜ Retires (laneCode plan (now (index .entry))) plan (laneWord plan (now (index .entry)) (now (work .entry))) (at .held) (at .iters) (book (now (state .entry)) (now (iterations .entry)) (now (unsatisfied .entry)) (now (check .entry)) (now (bch .entry)) (now (out .entry))) (r .held) (r .iters) (book (now (state .exit)) (now (iterations .exit)) (now (unsatisfied .exit)) (now (check .exit)) (now (bch .exit)) (now (out .exit))) ⌝ }
+    ensures { λ r. ⌜
+        Retires (laneCode plan (now (index .entry))) plan (laneWord plan (now (index .entry)) (now (work .entry))) (at .held) (at .iters)
+        (book (now (state .entry)) (now (iterations .entry)) (now (unsatisfied .entry)) (now (check .entry)) (now (bch .entry)) (now (out .entry)))
+        (r .held) (r .iters)
+        (book (now (state .exit)) (now (iterations .exit)) (now (unsatisfied .exit)) (now (check .exit)) (now (bch .exit)) (now (out .exit)))
+        ⌝ }
     ensures { λ r. ⌜ (r .next ≡ at .next) × (r .busy ≡ at .busy) ⌝ }
 {
     let mut held = at.held;
@@ -145,7 +150,12 @@ pub fn retire(
     requires { ⌜ Room (plan .n) (plan .words) (book (now state) (now iterations) (now unsatisfied) (now check) (now bch) (now out)) ⌝ }
     requires { ⌜ Sized (at .held) (at .iters) × Readied plan (at .held) (at .iters) ⌝ }
     requires { ⌜ Judged (laneCode plan (now index)) plan (at .held) (laneWord plan (now index) (now work)) (λ l. getD verdict l false) ⌝ }
-    ensures { λ r. ⌜ Retires (laneCode plan (now (index .entry))) plan (laneWord plan (now (index .entry)) (now (work .entry))) (at .held) (at .iters) (book (now (state .entry)) (now (iterations .entry)) (now (unsatisfied .entry)) (now (check .entry)) (now (bch .entry)) (now (out .entry))) (r .held) (r .iters) (book (now (state .exit)) (now (iterations .exit)) (now (unsatisfied .exit)) (now (check .exit)) (now (bch .exit)) (now (out .exit))) ⌝ }
+    ensures { λ r. ⌜
+        Retires (laneCode plan (now (index .entry))) plan (laneWord plan (now (index .entry)) (now (work .entry))) (at .held) (at .iters)
+        (book (now (state .entry)) (now (iterations .entry)) (now (unsatisfied .entry)) (now (check .entry)) (now (bch .entry)) (now (out .entry)))
+        (r .held) (r .iters)
+        (book (now (state .exit)) (now (iterations .exit)) (now (unsatisfied .exit)) (now (check .exit)) (now (bch .exit)) (now (out .exit)))
+        ⌝ }
     ensures { λ r. ⌜ (r .next ≡ at .next) × (r .busy ≡ at .busy) ⌝ }
 {
     let held = at.held;
@@ -191,7 +201,11 @@ fn write_held(
     requires { ⌜ Room (plan .n) (plan .words) (book (now state) (now iterations) (now unsatisfied) (now check) (now bch) (now out)) ⌝ }
     requires { ⌜ Sized held iters × Readied plan held iters ⌝ }
     requires { ⌜ CountedHeld (laneCode plan (now index)) plan held (laneWord plan (now index) (now work)) counts checks ⌝ }
-    ensures { λ _. ⌜ Closes (laneCode plan (now (index .entry))) plan held iters (laneWord plan (now (index .entry)) (now (work .entry))) (book (now (state .entry)) (now (iterations .entry)) (now (unsatisfied .entry)) (now (check .entry)) (now (bch .entry)) (now (out .entry))) (plan .lanes) (book (now (state .exit)) (now (iterations .exit)) (now (unsatisfied .exit)) (now (check .exit)) (now (bch .exit)) (now (out .exit))) ⌝ }
+    ensures { λ _. ⌜
+        Closes (laneCode plan (now (index .entry))) plan held iters (laneWord plan (now (index .entry)) (now (work .entry)))
+        (book (now (state .entry)) (now (iterations .entry)) (now (unsatisfied .entry)) (now (check .entry)) (now (bch .entry)) (now (out .entry)))
+        (plan .lanes) (book (now (state .exit)) (now (iterations .exit)) (now (unsatisfied .exit)) (now (check .exit)) (now (bch .exit)) (now (out .exit)))
+        ⌝ }
 {
     let lanes = plan.lanes;
     let mut l: usize = 0;
@@ -251,7 +265,11 @@ pub fn close(
     requires { ⌜ Working plan (now index) (now work) ⌝ }
     requires { ⌜ Room (plan .n) (plan .words) (book (now state) (now iterations) (now unsatisfied) (now check) (now bch) (now out)) ⌝ }
     requires { ⌜ Sized held iters × Readied plan held iters ⌝ }
-    ensures { λ _. ⌜ Closes (laneCode plan (now (index .entry))) plan held iters (laneWord plan (now (index .entry)) (now (work .entry))) (book (now (state .entry)) (now (iterations .entry)) (now (unsatisfied .entry)) (now (check .entry)) (now (bch .entry)) (now (out .entry))) (plan .lanes) (book (now (state .exit)) (now (iterations .exit)) (now (unsatisfied .exit)) (now (check .exit)) (now (bch .exit)) (now (out .exit))) ⌝ }
+    ensures { λ _. ⌜
+        Closes (laneCode plan (now (index .entry))) plan held iters (laneWord plan (now (index .entry)) (now (work .entry)))
+        (book (now (state .entry)) (now (iterations .entry)) (now (unsatisfied .entry)) (now (check .entry)) (now (bch .entry)) (now (out .entry)))
+        (plan .lanes) (book (now (state .exit)) (now (iterations .exit)) (now (unsatisfied .exit)) (now (check .exit)) (now (bch .exit)) (now (out .exit)))
+        ⌝ }
 {
     let asked = some_held(held, plan.lanes);
     let u = decoder_lanes::counts(plan, asked, index, work);

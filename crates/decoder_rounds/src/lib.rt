@@ -50,7 +50,13 @@ fn advance(
     requires { ⌜ Working plan (now index) (now work) × Coded plan (now lens) (now addrs) (now index) × Stepped layered step ⌝ }
     requires { ⌜ Room (plan .n) (plan .words) (book (now state) (now iterations) (now unsatisfied) (now check) (now bch) (now out)) ⌝ }
     requires { ⌜ Sized (at .held) (at .iters) × Readied plan (at .held) (at .iters) ⌝ }
-    ensures { λ r. ⌜ Advances (iterationOf layered step offset (laneCode plan (now (index .entry))) (plan .p)) plan (now (index .entry)) (now (work .entry)) (now (work .exit)) (at .held) (at .iters) (book (now (state .entry)) (now (iterations .entry)) (now (unsatisfied .entry)) (now (check .entry)) (now (bch .entry)) (now (out .entry))) (r .held) (r .iters) (book (now (state .exit)) (now (iterations .exit)) (now (unsatisfied .exit)) (now (check .exit)) (now (bch .exit)) (now (out .exit))) ⌝ }
+    ensures { λ r. ⌜
+        Advances (iterationOf layered step offset (laneCode plan (now (index .entry))) (plan .p)) plan (now (index .entry)) (now (work .entry))
+        (now (work .exit)) (at .held) (at .iters)
+        (book (now (state .entry)) (now (iterations .entry)) (now (unsatisfied .entry)) (now (check .entry)) (now (bch .entry)) (now (out .entry)))
+        (r .held) (r .iters)
+        (book (now (state .exit)) (now (iterations .exit)) (now (unsatisfied .exit)) (now (check .exit)) (now (bch .exit)) (now (out .exit)))
+        ⌝ }
     ensures { λ r. ⌜ r .next ≡ at .next ⌝ }
 {
     let n = plan.n as usize;
@@ -106,7 +112,14 @@ pub fn rounds(
     requires { ⌜ (e ≡ edgesIn (plan .p) (now index)) × ((plan .n + 3 * edgesIn (plan .p) (now index)) * plan .lanes ≤ length (now work)) ⌝ }
     requires { ⌜ Room (plan .n) (plan .words) (book (now state) (now iterations) (now unsatisfied) (now check) (now bch) (now out)) ⌝ }
     requires { ⌜ Blank plan (book (now state) (now iterations) (now unsatisfied) (now check) (now bch) (now out)) ⌝ }
-    ensures { λ r. ⌜ Comes (codeOf (plan .n) (now (lens .entry)) (now (addrs .entry))) (iterationOf layered step offset (codeOf (plan .n) (now (lens .entry)) (now (addrs .entry))) (plan .p)) plan (now (soft .entry)) (now (order .entry)) bound (book (now (state .entry)) (now (iterations .entry)) (now (unsatisfied .entry)) (now (check .entry)) (now (bch .entry)) (now (out .entry))) (r .stopped) (r .rounds) (r .held) (r .iters) (laneWord plan (now (index .entry)) (now (work .exit))) (r .next) (book (now (state .exit)) (now (iterations .exit)) (now (unsatisfied .exit)) (now (check .exit)) (now (bch .exit)) (now (out .exit))) ⌝ }
+    ensures { λ r. ⌜
+        Comes (codeOf (plan .n) (now (lens .entry)) (now (addrs .entry)))
+        (iterationOf layered step offset (codeOf (plan .n) (now (lens .entry)) (now (addrs .entry))) (plan .p)) plan (now (soft .entry))
+        (now (order .entry)) bound
+        (book (now (state .entry)) (now (iterations .entry)) (now (unsatisfied .entry)) (now (check .entry)) (now (bch .entry)) (now (out .entry)))
+        (r .stopped) (r .rounds) (r .held) (r .iters) (laneWord plan (now (index .entry)) (now (work .exit))) (r .next)
+        (book (now (state .exit)) (now (iterations .exit)) (now (unsatisfied .exit)) (now (check .exit)) (now (bch .exit)) (now (out .exit)))
+        ⌝ }
 {
     let mut at = Lanes {
         held: [0; 64],
@@ -205,7 +218,14 @@ pub fn complete(
     requires { ⌜ Room (plan .n) (plan .words) (book (now state) (now iterations) (now unsatisfied) (now check) (now bch) (now out)) ⌝ }
     requires { ⌜ Blank plan (book (now state) (now iterations) (now unsatisfied) (now check) (now bch) (now out)) ⌝ }
     requires { ⌜ ((w : ℕ) → count w (now order) ≤ 1) ⌝ }
-    ensures { λ r. ⌜ Finishes (codeOf (plan .n) (now (lens .entry)) (now (addrs .entry))) (iterationOf layered step offset (codeOf (plan .n) (now (lens .entry)) (now (addrs .entry))) (plan .p)) plan (now (soft .entry)) (now (order .entry)) bound (book (now (state .entry)) (now (iterations .entry)) (now (unsatisfied .entry)) (now (check .entry)) (now (bch .entry)) (now (out .entry))) (r .stopped) (r .rounds) (r .next) (book (now (state .exit)) (now (iterations .exit)) (now (unsatisfied .exit)) (now (check .exit)) (now (bch .exit)) (now (out .exit))) ⌝ }
+    ensures { λ r. ⌜
+        Finishes (codeOf (plan .n) (now (lens .entry)) (now (addrs .entry)))
+        (iterationOf layered step offset (codeOf (plan .n) (now (lens .entry)) (now (addrs .entry))) (plan .p)) plan (now (soft .entry))
+        (now (order .entry)) bound
+        (book (now (state .entry)) (now (iterations .entry)) (now (unsatisfied .entry)) (now (check .entry)) (now (bch .entry)) (now (out .entry)))
+        (r .stopped) (r .rounds) (r .next)
+        (book (now (state .exit)) (now (iterations .exit)) (now (unsatisfied .exit)) (now (check .exit)) (now (bch .exit)) (now (out .exit)))
+        ⌝ }
 {
     let ended = rounds(
         plan,

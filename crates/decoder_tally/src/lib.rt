@@ -48,7 +48,11 @@ pub struct Sums {
 pub fn tally(words: usize, state: &[u32], iterations: &[u32], bch: &[u32]) -> Sums
     requires { ⌜ (words ≤ 4096) × (length (now state) ≡ 4096) × (length (now iterations) ≡ 4096) × (length (now bch) ≡ 4096) ⌝ }
     requires { ⌜ ((w : ℕ) → getD (now iterations) w 0 ≤ 65535) ⌝ }
-    ensures { λ r. ⌜ (r .given ≡ givenIn (now (iterations .entry)) words) × (r .kept ≡ keptIn (now (state .entry)) (now (bch .entry)) words) × (r .lost ≡ lostIn (now (state .entry)) (now (bch .entry)) words) ⌝ }
+    ensures { λ r. ⌜
+        (r .given ≡ givenIn (now (iterations .entry)) words)
+        × (r .kept ≡ keptIn (now (state .entry)) (now (bch .entry)) words)
+        × (r .lost ≡ lostIn (now (state .entry)) (now (bch .entry)) words)
+        ⌝ }
 {
     let mut given: u32 = 0;
     let mut kept: u32 = 0;

@@ -41,7 +41,13 @@ pub fn note(
     bch: &mut [u32],
 )
     requires { ⌜ (w < length (now state)) × (w < length (now iterations)) × (w < length (now unsatisfied)) × (w < length (now check)) × (w < length (now bch)) ⌝ }
-    ensures { λ _. ⌜ (now (state .exit) ≡ set (now (state .entry)) w (r .state)) × (now (iterations .exit) ≡ set (now (iterations .entry)) w (r .iterations)) × (now (unsatisfied .exit) ≡ set (now (unsatisfied .entry)) w (r .unsatisfied)) × (now (check .exit) ≡ set (now (check .entry)) w (r .check)) × (now (bch .exit) ≡ set (now (bch .entry)) w (r .bch)) ⌝ }
+    ensures { λ _. ⌜
+        (now (state .exit) ≡ set (now (state .entry)) w (r .state))
+        × (now (iterations .exit) ≡ set (now (iterations .entry)) w (r .iterations))
+        × (now (unsatisfied .exit) ≡ set (now (unsatisfied .entry)) w (r .unsatisfied))
+        × (now (check .exit) ≡ set (now (check .entry)) w (r .check))
+        × (now (bch .exit) ≡ set (now (bch .entry)) w (r .bch))
+        ⌝ }
 {
     state[w] = r.state;
     iterations[w] = r.iterations;
@@ -70,7 +76,11 @@ pub fn at_once(
     soft: &[i8],
 ) -> bool
     requires { ⌜ Given plan (now lens) (now addrs) (now index) (now soft) × (w < plan .words) ⌝ }
-    ensures { λ r. ⌜ r ≡ (metOf (codeOf (plan .n) (now (lens .entry)) (now (addrs .entry))) (plan .p) (begin (plan .n) (ownPart (plan .n) w (now (soft .entry)))) || eqb 0 (plan .limit)) ⌝ }
+    ensures { λ r. ⌜
+        r
+        ≡ (metOf (codeOf (plan .n) (now (lens .entry)) (now (addrs .entry))) (plan .p) (begin (plan .n) (ownPart (plan .n) w (now (soft .entry)))) || eqb 0
+        (plan .limit))
+        ⌝ }
 {
     let n = plan.n as usize;
     let a = w * n;
@@ -98,8 +108,17 @@ pub fn finish_soft(
 )
     requires { ⌜ Given plan (now lens) (now addrs) (now index) (now soft) × (w < plan .words) ⌝ }
     requires { ⌜ Room (plan .n) (plan .words) (book (now state) (now iterations) (now unsatisfied) (now check) (now bch) (now out)) ⌝ }
-    ensures only { λ _. ⌜ Only (plan .n) w (book (now (state .entry)) (now (iterations .entry)) (now (unsatisfied .entry)) (now (check .entry)) (now (bch .entry)) (now (out .entry))) (book (now (state .exit)) (now (iterations .exit)) (now (unsatisfied .exit)) (now (check .exit)) (now (bch .exit)) (now (out .exit))) ⌝ }
-    ensures ends { λ _. ⌜ Ends (codeOf (plan .n) (now (lens .entry)) (now (addrs .entry))) (plan .n) (plan .p) (plan .first) (plan .size) (begin (plan .n) (ownPart (plan .n) w (now (soft .entry)))) 0 (view (plan .n) (book (now (state .exit)) (now (iterations .exit)) (now (unsatisfied .exit)) (now (check .exit)) (now (bch .exit)) (now (out .exit))) w) ⌝ }
+    ensures only { λ _. ⌜
+        Only (plan .n) w
+        (book (now (state .entry)) (now (iterations .entry)) (now (unsatisfied .entry)) (now (check .entry)) (now (bch .entry)) (now (out .entry)))
+        (book (now (state .exit)) (now (iterations .exit)) (now (unsatisfied .exit)) (now (check .exit)) (now (bch .exit)) (now (out .exit)))
+        ⌝ }
+    ensures ends { λ _. ⌜
+        Ends (codeOf (plan .n) (now (lens .entry)) (now (addrs .entry))) (plan .n) (plan .p) (plan .first) (plan .size)
+        (begin (plan .n) (ownPart (plan .n) w (now (soft .entry)))) 0
+        (view (plan .n)
+        (book (now (state .exit)) (now (iterations .exit)) (now (unsatisfied .exit)) (now (check .exit)) (now (bch .exit)) (now (out .exit))) w)
+        ⌝ }
 {
     let n = plan.n as usize;
     let a = w * n;

@@ -32,7 +32,8 @@ pub turn-start : (n p lanes : ℕ) (o : ℤ) (index : List ℕ) (first q : ℕ) 
 unfolding inTurn
 turn-start n p lanes o index first q a = record { words = λ i h. refl; rest = λ i h u k. refl }
 
-pub turn-again : {n p lanes : ℕ} {o : ℤ} {index : List ℕ} {first q : ℕ} {a a′ a″ : List ℤ} {x s d : ℕ} → stepped first q x < p → s ≡ getD index (stepped first q x) 0 → s + d ≡ getD index (stepped first q x + 1) 0
+pub turn-again : {n p lanes : ℕ} {o : ℤ} {index : List ℕ} {first q : ℕ} {a a′ a″ : List ℤ} {x s d : ℕ} → stepped first q x < p → s ≡ getD index (stepped first q x) 0
+    → s + d ≡ getD index (stepped first q x + 1) 0
     → InTurn n p lanes o index first q a x a′ → CheckNode (rowsIn p index) s d n lanes o a′ a″ → InTurn n p lanes o index first q a (x + 1) a″
 unfolding inTurn
 turn-again {n} {p} {lanes} {o} {index} {first} {q} {a} {a′} {a″} {x} {s} {d} h e f v k =

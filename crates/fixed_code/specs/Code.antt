@@ -28,7 +28,7 @@ module _ (n : ℕ) (lens addrs index : List ℕ) (is : index ≡ edgeLists n len
       ap (take (pOf n lens + 1)) is
       ∙ take-at (rowStart n lens addrs) (rows n lens addrs) (pOf n lens + 1) (start-length n lens addrs ∙ sym (add-one (pOf n lens)))
 
-  pub rows-are : rowsIn (pOf n lens) index ≡ rows n lens addrs
+  rows-are : rowsIn (pOf n lens) index ≡ rows n lens addrs
   unfolding edgeLists
   rows-are =
       ap (drop (pOf n lens + 1)) is
@@ -67,7 +67,7 @@ module _ (n : ℕ) (lens addrs : List ℕ) (A : Accepted n lens addrs) where
 
   -- the lists of an accepted code are lists
   module _ (index : List ℕ) (is : index ≡ edgeLists n lens addrs) where
-    laid-in : Laid n lens addrs index
+    pub laid-in : Laid n lens addrs index
     laid-in = laid n lens addrs A index [] (is ∙ sym (append-nil (edgeLists n lens addrs)))
 
     pub edges-are : edgesIn (pOf n lens) index ≡ eOf n lens addrs

@@ -4,9 +4,10 @@ use mathlib.Core.List.{List}
 use Prim.Native.Nat.{ℕ, suc, _+_, _*_, _-_, _≤_, _<_}
 use native.Mathlib.Omega.{arith}
 use native.Mathlib.Numerals.{add-one}
-use lib.ListN.{getD, length, take, drop, length-drop}
-use lib.Seq.{getD-take, take-all}
+use lib.ListN.{getD, length, take, drop}
+use lib.Seq.{getD-take}
 use lib.IntN.{ℤ}
+use Rattle.laws.specs.Lists.{lent-from}
 use Rattle.lane_math.specs.Iteration.{Code, degree}
 use Rattle.lane_memory.specs.Room.{var, Room}
 
@@ -54,7 +55,7 @@ module _ {n p lanes : ℕ} {index : List ℕ} {a : List ℤ} where
 
 -- the part that the program lends
 pub rows-part : (p : ℕ) (index : List ℕ) → take (length index - (p + 1)) (drop (p + 1) index) ≡ rowsIn p index
-rows-part p index = take-all (length index - (p + 1)) (drop (p + 1) index) (omega (arith, length-drop (p + 1) index))
+rows-part p index = lent-from (p + 1) index
 
 -- what the code says of check c
 pub start-in : (p : ℕ) (index : List ℕ) (c : ℕ) → c ≤ p → codeIn p index .row-start c ≡ getD index c 0

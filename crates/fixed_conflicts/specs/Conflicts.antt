@@ -1,7 +1,7 @@
 -- What is worked out of an accepted code's addresses, and what it says of the code's lists.
 use mathlib.Core.Path.{_≡_, refl, sym, ap, _∙_, subst}
 use mathlib.Core.Bool.{Bool, true, false, true≢false}
-use mathlib.Core.List.{List, [], _∷_, _++_, append-nil}
+use mathlib.Core.List.{List, [], _∷_, _++_}
 use Prim.Native.Nat.{ℕ, zero, suc, _+_, _*_, _-_, _/_, _%_, _≤_, _<_}
 use native.Mathlib.Omega.{arith}
 use native.Mathlib.Nat.{mod-eq-of-lt, mul-le-mul-right, add-mul-mod-self-right}
@@ -16,9 +16,8 @@ use Rattle.ldpc_shape.specs.Shape.{kOf, pOf, qOf, rowsOf, total, countMod}
 use Rattle.ldpc_shape.specs.Accepted.{Accepted, p-is, p-pos, q-pos, n-is}
 use Rattle.ldpc_edges.specs.Code.{only, meets, ofRows, stairs, check, edgeLists}
 use Rattle.ldpc_edges.specs.Degree.{met-by}
-use Rattle.ldpc_edges.specs.Layout.{Laid, laid}
 use Rattle.fixed_code.specs.Lists.{Lists, edgesIn, codeIn, start-in, degree-in}
-use Rattle.fixed_code.specs.Code.{lists-in}
+use Rattle.fixed_code.specs.Code.{lists-in, laid-in}
 use Rattle.fixed_conflicts.specs.Table.{Once, Split, Shares, Flagged, spanAt}
 use Rattle.fixed_conflicts.specs.Edges.{rowOf, parity-without, parity-once, stairs-below, stairs-from, check-length}
 use Rattle.fixed_conflicts.specs.Count.{occurs, occurs-one, occurs-two, sumUp, sum-one, sum-two, layer-occurs, rows-own}
@@ -61,21 +60,18 @@ beside q l x y h e = go (decLt x y)
     go (no k) = let z : y * q ≤ x * q = mul-le-mul-right q (omega arith) in omega arith
 
 module _ (n : ℕ) (lens addrs : List ℕ) (A : Accepted n lens addrs) (index : List ℕ) (is : index ≡ edgeLists n lens addrs) where
-  laid-in : Laid n lens addrs index
-  laid-in = laid n lens addrs A index [] (is ∙ sym (append-nil (edgeLists n lens addrs)))
-
   -- the code's edges are the checks' lists
   degree-is : (c : ℕ) → c < pOf n lens → degree (codeIn (pOf n lens) index) c ≡ length (check n lens addrs c)
-  degree-is c h = degree-in (pOf n lens) index c (getD index c 0) (length (check n lens addrs c)) h refl (sym (laid-in .next c h))
+  degree-is c h = degree-in (pOf n lens) index c (getD index c 0) (length (check n lens addrs c)) h refl (sym (laid-in n lens addrs A index is .next c h))
 
   edge-is : (c k : ℕ) → c < pOf n lens → k < length (check n lens addrs c) → codeIn (pOf n lens) index .rows (codeIn (pOf n lens) index .row-start c + k) ≡ getD (check n lens addrs c) k 0
   edge-is c k h q =
-      let d : getD index (c + 1) 0 - getD index c 0 ≡ length (check n lens addrs c) = omega (arith, laid-in .next c h) in
+      let d : getD index (c + 1) 0 - getD index c 0 ≡ length (check n lens addrs c) = omega (arith, laid-in n lens addrs A index is .next c h) in
       ap (λ (z : ℕ). getD (drop (pOf n lens + 1) index) (z + k) 0) (start-in (pOf n lens) index c (omega arith))
       ∙ ap (λ (z : ℕ). getD (drop z index) (getD index c 0 + k) 0) (add-one (pOf n lens))
       ∙ sym (getD-drop (getD index c 0) (drop (suc (pOf n lens)) index) k 0)
       ∙ sym (getD-take (getD index (c + 1) 0 - getD index c 0) (drop (getD index c 0) (drop (suc (pOf n lens)) index)) k 0 (omega arith))
-      ∙ ap (λ (l : List ℕ). getD l k 0) (laid-in .part c h)
+      ∙ ap (λ (l : List ℕ). getD l k 0) (laid-in n lens addrs A index is .part c h)
 
   hit-of : (u c k : ℕ) → c < pOf n lens → k < degree (codeIn (pOf n lens) index) c → codeIn (pOf n lens) index .rows (codeIn (pOf n lens) index .row-start c + k) ≡ u
       → (k < length (check n lens addrs c)) × (getD (check n lens addrs c) k 0 ≡ u)
@@ -104,7 +100,8 @@ module _ (n : ℕ) (lens addrs : List ℕ) (A : Accepted n lens addrs) (index : 
           )
 
       -- of a check's list it stands among the information bits
-      only-hit : (v c k : ℕ) → v < kOf lens → k < length (check n lens addrs c) → getD (check n lens addrs c) k 0 ≡ v → (k < length (only c (meets n lens addrs))) × (getD (only c (meets n lens addrs)) k 0 ≡ v)
+      only-hit : (v c k : ℕ) → v < kOf lens → k < length (check n lens addrs c) → getD (check n lens addrs c) k 0 ≡ v
+          → (k < length (only c (meets n lens addrs))) × (getD (only c (meets n lens addrs)) k 0 ≡ v)
       unfolding check
       only-hit v c k b q e = go (decLt k (length (only c (meets n lens addrs))))
         where
@@ -207,7 +204,8 @@ module _ (n : ℕ) (lens addrs : List ℕ) (A : Accepted n lens addrs) (index : 
           two = layers-of v b i e
 
           done : (x k z j : ℕ) → x < 374 → z < 374 → (k < length (check n lens addrs (l + x * qOf n lens))) × (getD (check n lens addrs (l + x * qOf n lens)) k 0 ≡ kOf lens + y)
-              → (j < length (check n lens addrs (l + z * qOf n lens))) × (getD (check n lens addrs (l + z * qOf n lens)) j 0 ≡ kOf lens + y) → l + x * qOf n lens ≡ l + z * qOf n lens → (x ≡ z) × (k ≡ j)
+              → (j < length (check n lens addrs (l + z * qOf n lens))) × (getD (check n lens addrs (l + z * qOf n lens)) j 0 ≡ kOf lens + y)
+              → l + x * qOf n lens ≡ l + z * qOf n lens → (x ≡ z) × (k ≡ j)
           done x k z j x′ z′ s t e =
               let r = apart (qOf n lens) l x z (q-pos n lens addrs A) e in (
                 r,
@@ -215,7 +213,8 @@ module _ (n : ℕ) (lens addrs : List ℕ) (A : Accepted n lens addrs) (index : 
               )
 
           both : (x k z j : ℕ) → x < 374 → z < 374 → (k < length (check n lens addrs (l + x * qOf n lens))) × (getD (check n lens addrs (l + x * qOf n lens)) k 0 ≡ kOf lens + y)
-              → (j < length (check n lens addrs (l + z * qOf n lens))) × (getD (check n lens addrs (l + z * qOf n lens)) j 0 ≡ kOf lens + y) → Dec (y ≡ l + x * qOf n lens) → Dec (y ≡ l + z * qOf n lens)
+              → (j < length (check n lens addrs (l + z * qOf n lens))) × (getD (check n lens addrs (l + z * qOf n lens)) j 0 ≡ kOf lens + y) → Dec (y ≡ l + x * qOf n lens)
+              → Dec (y ≡ l + z * qOf n lens)
               → (x ≡ z) × (k ≡ j)
           both x k z j x′ z′ s t (yes c) (yes d) = done x k z j x′ z′ s t (sym c ∙ d)
           both x k z j x′ z′ s t (yes c) (no d) = absurd (beside (qOf n lens) l x z two (ap (λ (u : ℕ). u + 1) (sym c) ∙ parity-at y (l + z * qOf n lens) j (check-in z z′) t d))
@@ -301,7 +300,8 @@ module _ (n : ℕ) (lens addrs : List ℕ) (A : Accepted n lens addrs) (index : 
                 )
             go (no i) (no d) = absurd (true≢false (sym e ∙ fl .others g (omega arith) d))
 
-        split-of : (g v : ℕ) → getD flags g false ≡ true → k < length (check n lens addrs c) → getD (check n lens addrs c) k 0 ≡ v → v < n → Split (spanAt table l g) (spanAt table l (g + 1)) (374 * g) k v
+        split-of : (g v : ℕ) → getD flags g false ≡ true → k < length (check n lens addrs c) → getD (check n lens addrs c) k 0 ≡ v → v < n
+            → Split (spanAt table l g) (spanAt table l (g + 1)) (374 * g) k v
         unfolding kOf
         split-of g v e q f b = go (decLt g (length lens)) (ℕ-discrete g (length lens))
           where

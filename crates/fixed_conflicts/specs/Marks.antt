@@ -8,7 +8,7 @@ use native.Mathlib.Numerals.{add-one}
 use native.Mathlib.Decide.{ℕ-discrete}
 use lib.ListN.{getD, set, length, take, drop, length-set}
 use lib.Seq.{getD-set-other}
-use Rattle.laws.specs.Put.{grown-at}
+use Rattle.laws.specs.Stores.{grown-at}
 use Rattle.ldpc_shape.specs.Shape.{qOf, total, countMod}
 use Rattle.ldpc_shape.specs.Counts.{Counted}
 use Rattle.ldpc_shape.specs.Accepted.{Accepted, few}
@@ -26,7 +26,8 @@ pub record Advanced (table counts : List ℕ) (g k : ℕ) (table′ : List ℕ) 
 pub advanced-start : (table counts : List ℕ) (g : ℕ) → Advanced table counts g 0 table
 advanced-start table counts g = record { long = refl; done = λ l h. absurd (omega (arith, h)); still = λ i h. refl }
 
-pub advanced-again : {table counts : List ℕ} {g k : ℕ} {table′ : List ℕ} {y : ℕ} → Advanced table counts g k table′ → k < 120 → (g + 1) * 120 + k < length table → y ≡ spanAt table′ k g + getD counts k 0
+pub advanced-again : {table counts : List ℕ} {g k : ℕ} {table′ : List ℕ} {y : ℕ} → Advanced table counts g k table′ → k < 120 → (g + 1) * 120 + k < length table
+    → y ≡ spanAt table′ k g + getD counts k 0
     → Advanced table counts g (k + 1) (set table′ ((g + 1) * 120 + k) y)
 advanced-again {table} {counts} {g} {k} {table′} {y} v few room e =
     record {
@@ -62,7 +63,8 @@ working-start n lens addrs table a few zeros =
 kept : {table counts : List ℕ} {g q : ℕ} {table′ : List ℕ} → Advanced table counts g q table′ → (h l : ℕ) → h ≤ g → l < 120 → spanAt table′ l h ≡ spanAt table l h
 kept {table} {counts} {g} v h l a b = let z : h * 120 ≤ g * 120 = mul-le-mul-right 120 a in v .still (h * 120 + l) (omega arith)
 
-pub working-again : {n : ℕ} {lens addrs : List ℕ} {g at : ℕ} {table table′ : List ℕ} (to : ℕ) (counts : List ℕ) → Working n lens addrs g at table → qOf n lens ≤ 120 → g < length lens → to ≡ at + getD lens g 0
+pub working-again : {n : ℕ} {lens addrs : List ℕ} {g at : ℕ} {table table′ : List ℕ} (to : ℕ) (counts : List ℕ) → Working n lens addrs g at table → qOf n lens ≤ 120
+    → g < length lens → to ≡ at + getD lens g 0
     → Counted counts (qOf n lens) (take (to - at) (drop at addrs)) → Advanced table counts g (qOf n lens) table′ → Working n lens addrs (g + 1) to table′
 working-again {n} {lens} {addrs} {g} {at} {table} {table′} to counts w few h e count v =
     record {
@@ -88,7 +90,8 @@ module _ {n : ℕ} {lens addrs : List ℕ} (A : Accepted n lens addrs) {g at : �
   pub working-few : (l : ℕ) → l < qOf n lens → spanAt table l g ≤ 126
   working-few l q = omega (arith, w .rows g l (omega arith) q, span-within (qOf n lens) l lens addrs g, few n lens addrs A l q)
 
-  pub working-small : (to : ℕ) (counts : List ℕ) → g < length lens → to ≡ at + getD lens g 0 → Counted counts (qOf n lens) (take (to - at) (drop at addrs)) → (l : ℕ) → l < qOf n lens → spanAt table l g + getD counts l 0 ≤ 255
+  pub working-small : (to : ℕ) (counts : List ℕ) → g < length lens → to ≡ at + getD lens g 0 → Counted counts (qOf n lens) (take (to - at) (drop at addrs)) → (l : ℕ)
+      → l < qOf n lens → spanAt table l g + getD counts l 0 ≤ 255
   working-small to counts h e count l q =
       let z : to - at ≡ getD lens g 0 = omega arith in
       let here : take (to - at) (drop at addrs) ≡ rowOf lens addrs g = ap₂ (λ (x y : ℕ). take x (drop y addrs)) z (w .at-is) in
@@ -102,7 +105,8 @@ module _ {n : ℕ} {lens addrs : List ℕ} (A : Accepted n lens addrs) {g at : �
         few n lens addrs A l q,
       )
 
-pub working-end : {n : ℕ} {lens addrs : List ℕ} {g at : ℕ} {table table′ two : List ℕ} → g ≡ length lens → qOf n lens ≤ 120 → Working n lens addrs g at table → ((l : ℕ) → l < qOf n lens → getD two l 0 ≡ 2)
+pub working-end : {n : ℕ} {lens addrs : List ℕ} {g at : ℕ} {table table′ two : List ℕ} → g ≡ length lens → qOf n lens ≤ 120 → Working n lens addrs g at table
+    → ((l : ℕ) → l < qOf n lens → getD two l 0 ≡ 2)
     → Advanced table two g (qOf n lens) table′ → Spanned n lens addrs table′
 working-end {n} {lens} {addrs} {g} {at} {table} {table′} e few w is v =
     record {

@@ -69,7 +69,8 @@ module _ (q c : ℕ) (pos : 0 < q) (h : c < 374 * q) where
       subst (λ (l : List ℕ). getD l k 0 < m + 374 * suc g) (sym (parts m n lens addrs))
       (go (decLt k (length (first m (take n addrs)))) (λ (i : ℕ) (x : i < spanOf q (c % q) lens (drop n addrs) g) (y : i < length (list (m + 374) lens (drop n addrs))). groups-below (m + 374) lens (drop n addrs) g i x y))
     where
-      go : Dec (k < length (first m (take n addrs))) → ((i : ℕ) → i < spanOf q (c % q) lens (drop n addrs) g → i < length (list (m + 374) lens (drop n addrs)) → getD (list (m + 374) lens (drop n addrs)) i 0 < m + 374 + 374 * g)
+      go : Dec (k < length (first m (take n addrs)))
+          → ((i : ℕ) → i < spanOf q (c % q) lens (drop n addrs) g → i < length (list (m + 374) lens (drop n addrs)) → getD (list (m + 374) lens (drop n addrs)) i 0 < m + 374 + 374 * g)
           → getD (first m (take n addrs) ++ list (m + 374) lens (drop n addrs)) k 0 < m + 374 * suc g
       go (yes r) ih = omega (arith, List·getD-append (first m (take n addrs)) (list (m + 374) lens (drop n addrs)) 0 k r, first-below m (take n addrs) k r)
       go (no r) ih =

@@ -7,7 +7,7 @@ use native.Mathlib.Omega.{arith}
 use lib.Dec.{T, eqb, ltb}
 use lib.ListN.{getD, set, length, replicate, length-set}
 use lib.Seq.{getD-set-same, getD-set-other}
-use Rattle.laws.specs.Put.{set-each, grown}
+use Rattle.laws.specs.Stores.{set-each, grown}
 use Rattle.lane_math.specs.Iteration.{Code, degree}
 use Rattle.lane_memory.specs.Room.{sharedIn}
 

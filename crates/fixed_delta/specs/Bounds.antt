@@ -35,7 +35,7 @@ pub abs-byte : (z : ℤ) → SFits w8 z → natAbs z ≤ 128
 abs-byte (pos n) f = omega (arith, f .sfits)
 abs-byte (negsuc n) f = omega (arith, f .sfits)
 
-pub fits32 : (z : ℤ) → natAbs z < 2147483648 → SFits w32 z
+fits32 : (z : ℤ) → natAbs z < 2147483648 → SFits w32 z
 fits32 (pos n) h = record { sfits = omega (arith, h) }
 fits32 (negsuc n) h = record { sfits = omega (arith, h) }
 

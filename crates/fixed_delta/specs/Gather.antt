@@ -8,7 +8,8 @@ use native.Mathlib.Decide.{ℕ-discrete}
 use lib.ListN.{set, length, length-set}
 use lib.Seq.{getD-set-other}
 use lib.IntN.{ℤ, pos, natAbs, _+ℤ_, _-ℤ_}
-use Rattle.laws.specs.Put.{put, grown-at}
+use Rattle.laws.specs.Put.{put}
+use Rattle.laws.specs.Stores.{grown-at}
 use Rattle.lane_math.specs.Value.{satZ}
 use Rattle.lane16.specs.Lanes.{z}
 use Rattle.lane_memory.specs.Column.{column}
@@ -43,7 +44,8 @@ edge-again {lanes} {at} {tu} {ru} {ou} {seen} {a} {sums} {sums′} {k} y g h e =
       still = λ j f. getD-set-other sums′ (at + k) j y (pos 0) (λ x. f k (omega arith) x) ∙ g .still j (λ i q x. f i (omega arith) x);
     }
 
-pub edge-end : {lanes at tu ru ou : ℕ} {seen : Bool} {a sums sums′ : List ℤ} {k : ℕ} → k ≡ lanes → EdgeGathered lanes at tu ru ou seen a sums k sums′ → EdgeGathered lanes at tu ru ou seen a sums lanes sums′
+pub edge-end : {lanes at tu ru ou : ℕ} {seen : Bool} {a sums sums′ : List ℤ} {k : ℕ} → k ≡ lanes → EdgeGathered lanes at tu ru ou seen a sums k sums′
+    → EdgeGathered lanes at tu ru ou seen a sums lanes sums′
 edge-end {lanes} {at} {tu} {ru} {ou} {seen} {a} {sums} {sums′} {k} e g = subst (λ (j : ℕ). EdgeGathered lanes at tu ru ou seen a sums j sums′) e g
 
 plus-small : (seen : Bool) (f : ℕ → ℤ) (tu ru ou m : ℕ) (s : ℤ) → natAbs (f tu) ≤ 128 → natAbs (f ru) ≤ 128 → natAbs (f ou) ≤ 128 → (seen ≡ true → natAbs s ≤ 256 * (m + 1))
@@ -80,7 +82,8 @@ pub record Settled (lanes u at : ℕ) (sums a : List ℤ) (k : ℕ) (a′ : List
 pub settled-start : (lanes u at : ℕ) (sums a : List ℤ) → Settled lanes u at sums a 0 a
 settled-start lanes u at sums a = record { done = λ i q h. absurd (omega (arith, q)); still = λ i q h. refl }
 
-pub settled-again : {lanes u at : ℕ} {sums a a′ a″ : List ℤ} {k : ℕ} {x : ℤ} → Settled lanes u at sums a k a′ → k < lanes → x ≡ satZ (z sums (at + k)) → Placed lanes k u x a′ a″ → Settled lanes u at sums a (k + 1) a″
+pub settled-again : {lanes u at : ℕ} {sums a a′ a″ : List ℤ} {k : ℕ} {x : ℤ} → Settled lanes u at sums a k a′ → k < lanes → x ≡ satZ (z sums (at + k)) → Placed lanes k u x a′ a″
+    → Settled lanes u at sums a (k + 1) a″
 settled-again {lanes} {u} {at} {sums} {a} {a′} {a″} {k} {x} v h e p =
     record {
       done = λ i q l. go i q l (ℕ-discrete i k);

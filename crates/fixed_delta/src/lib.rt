@@ -34,7 +34,9 @@ pub fn gather(
 )
     requires { ⌜ (tu * lanes + lanes ≤ length (now work)) × ((ru * lanes + lanes ≤ length (now work)) × (ou * lanes + lanes ≤ length (now work))) ⌝ }
     requires { ⌜ (at + lanes ≤ length (now sums)) × ((many ≤ 7000000) × (seen ≡ true → Small lanes at many (now sums))) ⌝ }
-    ensures { λ _. ⌜ EdgeGathered lanes at tu ru ou seen (now (work .entry)) (now (sums .entry)) lanes (now (sums .exit)) × Small lanes at (many + 1) (now (sums .exit)) ⌝ }
+    ensures { λ _. ⌜
+        EdgeGathered lanes at tu ru ou seen (now (work .entry)) (now (sums .entry)) lanes (now (sums .exit)) × Small lanes at (many + 1) (now (sums .exit))
+        ⌝ }
 {
     let mut i: usize = 0;
     while i < lanes {

@@ -7,7 +7,7 @@ use native.Mathlib.Decide.{decLt}
 use lib.ListN.{getD, set, length, drop, length-append, length-drop, List·getD-append}
 use lib.Seq.{getD-append-add, getD-drop, ext-getD}
 use lib.IntN.{ℤ}
-use Rattle.laws.specs.Put.{grown, kept}
+use Rattle.laws.specs.Stores.{grown, kept}
 use Rattle.lane_math.specs.Iteration.{hard}
 
 -- those of d variables from u on: 1 where L < 0
@@ -37,7 +37,8 @@ pub record Deciding (L : ℕ → ℤ) (old : List ℕ) (k : ℕ) (new : List ℕ
 pub deciding-start : (L : ℕ → ℤ) (old : List ℕ) → Deciding L old 0 old
 deciding-start L old = record { long = refl; bits = λ u q. absurd (omega (arith, q)); rest = λ u q. refl }
 
-pub deciding-again : {L : ℕ → ℤ} {old new new′ : List ℕ} {k y : ℕ} → Deciding L old k new → k < length old → y ≡ hard (L k) → length new′ ≡ length new → new′ ≡ set new k y → Deciding L old (k + 1) new′
+pub deciding-again : {L : ℕ → ℤ} {old new new′ : List ℕ} {k y : ℕ} → Deciding L old k new → k < length old → y ≡ hard (L k) → length new′ ≡ length new → new′ ≡ set new k y
+    → Deciding L old (k + 1) new′
 deciding-again {L} {old} {new} {new′} {k} {y} d h e len is =
     record {
       long = len ∙ d .long;

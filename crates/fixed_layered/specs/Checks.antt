@@ -99,7 +99,8 @@ module _ (o : ℤ) (code : Code) (c : ℕ → ℕ) (m E n : ℕ) (ord : Order co
     read : (k : ℕ) → k < degree code (c x) → g .word .L (code .rows (start x + k)) ≡ w .L (code .rows (start x + k))
     read k q = v .L-is (code .rows (start x + k)) ∙ go (sh (code .rows (start x + k))) refl
       where
-        go : (b : Bool) → sh (code .rows (start x + k)) ≡ b → cond b (w .L (code .rows (start x + k))) (settle (gatherRun W code c (code .rows (start x + k)) x) (w .L (code .rows (start x + k)))) ≡ w .L (code .rows (start x + k))
+        go : (b : Bool) → sh (code .rows (start x + k)) ≡ b
+            → cond b (w .L (code .rows (start x + k))) (settle (gatherRun W code c (code .rows (start x + k)) x) (w .L (code .rows (start x + k)))) ≡ w .L (code .rows (start x + k))
         go true s = refl
         go false s = ap (λ (a : Sum). settle a (w .L (code .rows (start x + k)))) (none-before k q s)
 
@@ -171,7 +172,7 @@ module _ (o : ℤ) (code : Code) (c : ℕ → ℕ) (m E n : ℕ) (ord : Order co
   going zero h = record { L-is = λ u. start-is (sh u) (w .L u); r-is = refl; t-is = refl; old-is = refl }
   going (suc x) h = going-again x (omega arith) (checksFull sh o code c x f) (going x (omega arith))
 
-  pub checks-run : checksFull sh o code c m f ≡ partFull o code c sh m f
+  checks-run : checksFull sh o code c m f ≡ partFull o code c sh m f
   checks-run =
       let v = going m (omega arith) in
       λ i. record { word = record { L = λ u. v .L-is u i; r = v .r-is i }; t = v .t-is i; old = v .old-is i }
@@ -221,7 +222,8 @@ module _ {sh : ℕ → Bool} {n p lanes : ℕ} {o : ℤ} {index : List ℕ} {fir
       D = sym (degree-in p index (stepped first q x) s d h e f)
 
   -- the run but for the values of shared variables
-  pub checks-end : {x m : ℕ} {a′ : List ℤ} {o′ : ℤ} → o ≡ o′ → x ≡ m → InRun n p lanes first q m index a → ((v : ℕ) → sh v ≡ false → Once (codeIn p index) (stepped first q) m v) → ChecksMade sh n p lanes o index first q a x a′
+  pub checks-end : {x m : ℕ} {a′ : List ℤ} {o′ : ℤ} → o ≡ o′ → x ≡ m → InRun n p lanes first q m index a → ((v : ℕ) → sh v ≡ false → Once (codeIn p index) (stepped first q) m v)
+      → ChecksMade sh n p lanes o index first q a x a′
       → PartMade sh n p lanes o′ index first q m a a′
   checks-end {x} {m} {a′} {o′} e f r once v =
       subst (λ (z : ℤ). PartMade sh n p lanes z index first q m a a′) e
@@ -306,7 +308,8 @@ behind-zero : (n E : ℕ) (f : ℕ → ℤ) (u : ℕ) → n ≤ u → wordOf n E
 unfolding wordOf within
 behind-zero n E f u h = ap (λ (b : Bool). cond b (f u) (pos 0)) (le-ltb u n h)
 
-pub run-law : {n p lanes : ℕ} {o : ℤ} {index : List ℕ} {first q m : ℕ} {flags : List Bool} {a b a′ : List ℤ} → InRun n p lanes first q m index a → ((g : ℕ) → getD flags g false ≡ true → 374 * g + 374 ≤ n)
+pub run-law : {n p lanes : ℕ} {o : ℤ} {index : List ℕ} {first q m : ℕ} {flags : List Bool} {a b a′ : List ℤ} → InRun n p lanes first q m index a
+    → ((g : ℕ) → getD flags g false ≡ true → 374 * g + 374 ≤ n)
     → PartMade (sharedIn flags) n p lanes o index first q m a b → Written n (edgesIn p index) (codeIn p index) (stepped first q) m lanes flags b 120 a′ → RunMade n p lanes o index first q m a a′
 run-law {n} {p} {lanes} {o} {index} {first} {q} {m} {flags} {a} {b} {a′} r low s k =
     record {

@@ -60,7 +60,7 @@ run-same n E code c u f g zero h = refl
 run-same n E code c u f g (suc m) h = at-same n E (code .rows) u (code .row-start (c m)) (placeOf code c m) f g (degree code (c m)) _ _ h (run-same n E code c u f g m h)
 
 -- ---- a check that has no edge of u gathers nothing
-pub at-none : (n E : ℕ) (v : ℕ → ℕ) (u s pl : ℕ) (f : ℕ → ℤ) (d : ℕ) (a : Sum) → ((k : ℕ) → k < d → v (s + k) ≡ u → ⊥) → gatherAt n E v u s pl f d a ≡ a
+at-none : (n E : ℕ) (v : ℕ → ℕ) (u s pl : ℕ) (f : ℕ → ℤ) (d : ℕ) (a : Sum) → ((k : ℕ) → k < d → v (s + k) ≡ u → ⊥) → gatherAt n E v u s pl f d a ≡ a
 unfolding gatherAt
 at-none n E v u s pl f zero a h = refl
 at-none n E v u s pl f (suc d) a h =
@@ -68,7 +68,8 @@ at-none n E v u s pl f (suc d) a h =
     ∙ at-none n E v u s pl f d a (λ k q. h k (omega arith))
 
 -- a variable of no edge gathers nothing
-pub run-none : (n E : ℕ) (code : Code) (c : ℕ → ℕ) (f : ℕ → ℤ) (u x : ℕ) → ((y k : ℕ) → y < x → k < degree code (c y) → code .rows (code .row-start (c y) + k) ≡ u → ⊥) → gatherRunAt n E code c u f x ≡ nothing
+pub run-none : (n E : ℕ) (code : Code) (c : ℕ → ℕ) (f : ℕ → ℤ) (u x : ℕ) → ((y k : ℕ) → y < x → k < degree code (c y) → code .rows (code .row-start (c y) + k) ≡ u → ⊥)
+    → gatherRunAt n E code c u f x ≡ nothing
 unfolding gatherRunAt
 run-none n E code c f u zero h = refl
 run-none n E code c f u (suc x) h =
@@ -77,7 +78,7 @@ run-none n E code c f u (suc x) h =
 
 -- ---- a part of the edges, the others being none of u
 module _ (n E : ℕ) (v : ℕ → ℕ) (u s pl : ℕ) (f : ℕ → ℤ) (a : Sum) where
-  pub at-rest : (d e : ℕ) → ((k : ℕ) → d ≤ k → k < d + e → v (s + k) ≡ u → ⊥) → gatherAt n E v u s pl f (d + e) a ≡ gatherAt n E v u s pl f d a
+  at-rest : (d e : ℕ) → ((k : ℕ) → d ≤ k → k < d + e → v (s + k) ≡ u → ⊥) → gatherAt n E v u s pl f (d + e) a ≡ gatherAt n E v u s pl f d a
   unfolding gatherAt
   at-rest d zero h = let z : d + 0 ≡ d = omega arith in ap (λ (k : ℕ). gatherAt n E v u s pl f k a) z
   at-rest d (suc e) h =
@@ -86,7 +87,7 @@ module _ (n E : ℕ) (v : ℕ → ℕ) (u s pl : ℕ) (f : ℕ → ℤ) (a : Sum
       ∙ ap (λ (b : Bool). cond b (gather (f (n + E + (pl + (d + e)))) (f (n + (s + (d + e)))) (f (n + 2 * E + (pl + (d + e)))) (gatherAt n E v u s pl f (d + e) a)) (gatherAt n E v u s pl f (d + e) a)) (ne-eqb (v (s + (d + e))) u (h (d + e) (omega arith) (omega arith)))
       ∙ at-rest d e (λ k q r. h k q (omega arith))
 
-  pub at-split : (d e : ℕ) → gatherAt n E v u s pl f (d + e) a ≡ gatherAt n E v u (s + d) (pl + d) f e (gatherAt n E v u s pl f d a)
+  at-split : (d e : ℕ) → gatherAt n E v u s pl f (d + e) a ≡ gatherAt n E v u (s + d) (pl + d) f e (gatherAt n E v u s pl f d a)
   unfolding gatherAt
   at-split d zero = let z : d + 0 ≡ d = omega arith in ap (λ (k : ℕ). gatherAt n E v u s pl f k a) z
   at-split d (suc e) =

@@ -32,7 +32,7 @@ module _ {n p : ℕ} {index : List ℕ} (l : Lists n p index) where
       let e : c + d + 1 ≡ c + suc d = omega arith in
       omega (arith, rises c d (omega arith), l .ascend (c + d) (omega arith), ap (λ (z : ℕ). getD index z 0) e)
 
-  pub rise : (c d : ℕ) → c ≤ d → d ≤ p → getD index c 0 ≤ getD index d 0
+  rise : (c d : ℕ) → c ≤ d → d ≤ p → getD index c 0 ≤ getD index d 0
   rise c d h k =
       let e : c + (d - c) ≡ d = omega arith in
       omega (arith, rises c (d - c) (omega arith), ap (λ (z : ℕ). getD index z 0) e)
@@ -53,7 +53,7 @@ module _ {n p : ℕ} {index : List ℕ} (l : Lists n p index) where
 
 module _ {code : Code} {c : ℕ → ℕ} {m E n : ℕ} (o : Order code c m E n) where
   -- a check's place is not behind its first edge
-  pub place-start : (x : ℕ) → x < m → placeOf code c x ≤ code .row-start (c x)
+  place-start : (x : ℕ) → x < m → placeOf code c x ≤ code .row-start (c x)
   unfolding placeOf
   place-start zero h = omega arith
   place-start (suc x) h = omega (arith, place-start x (omega arith), o .next x (suc x) (omega arith) h)
@@ -99,7 +99,7 @@ module _ {code : Code} {c : ℕ → ℕ} {m E n : ℕ} (o : Order code c m E n) 
           ∙ ih g
 
   -- the messages of the run's first i checks leave the others
-  pub sent-other : (ofs : ℤ) (L r : ℕ → ℤ) (i e : ℕ) → i ≤ m → ((j : ℕ) → j < i → code .row-start (c j) + degree code (c j) ≤ e) → runR ofs code c L r i e ≡ r e
+  sent-other : (ofs : ℤ) (L r : ℕ → ℤ) (i e : ℕ) → i ≤ m → ((j : ℕ) → j < i → code .row-start (c j) + degree code (c j) ≤ e) → runR ofs code c L r i e ≡ r e
   unfolding runR newR
   sent-other ofs L r zero e h b = refl
   sent-other ofs L r (suc i) e h b =

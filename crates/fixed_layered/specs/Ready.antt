@@ -16,7 +16,7 @@ use Rattle.fixed_layered.specs.Full.{Full, placeOf, tSent, oldSent, part
 use Rattle.fixed_layered.specs.Order.{Order, laid-at, before, place-ends}
 
 -- ---- rows written one after the other, of E
-pub wrote-base : (u : ℕ → ℕ) (x f g : ℕ → ℤ) (d e : ℕ) → f e ≡ g e → wrote u x f d e ≡ wrote u x g d e
+wrote-base : (u : ℕ → ℕ) (x f g : ℕ → ℤ) (d e : ℕ) → f e ≡ g e → wrote u x f d e ≡ wrote u x g d e
 unfolding wrote put
 wrote-base u x f g zero e h = h
 wrote-base u x f g (suc d) e h = ap (λ (z : ℤ). cond (eqb e (u d)) (x d) z) (wrote-base u x f g d e h)
@@ -36,7 +36,8 @@ pub record Ready (n E : ℕ) (code : Code) (c : ℕ → ℕ) (m : ℕ) (w : Run)
   pub old-is : (x k : ℕ) → x < m → k < degree code (c x) → f (n + 2 * E + (placeOf code c x + k)) ≡ w .old (code .row-start (c x) + k)
   pub new-is : (x k : ℕ) → x < m → k < degree code (c x) → f (n + (code .row-start (c x) + k)) ≡ w .new (code .row-start (c x) + k)
 
-pub ready : {n E : ℕ} {code : Code} {c : ℕ → ℕ} {m : ℕ} (sh : ℕ → Bool) (o : ℤ) (f : ℕ → ℤ) (w : Full) → Order code c m E n → fullOf n E f ≡ partFull o code c sh m w → Ready n E code c m (runOf o code c m (w .word)) f
+pub ready : {n E : ℕ} {code : Code} {c : ℕ → ℕ} {m : ℕ} (sh : ℕ → Bool) (o : ℤ) (f : ℕ → ℤ) (w : Full) → Order code c m E n → fullOf n E f ≡ partFull o code c sh m w
+    → Ready n E code c m (runOf o code c m (w .word)) f
 unfolding tOf wordOf
 ready {n} {E} {code} {c} {m} sh o f w ord is =
     record {

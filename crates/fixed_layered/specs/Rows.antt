@@ -96,7 +96,11 @@ module _ (n E lanes : ℕ) (v : ℕ → ℕ) (base s pl : ℕ) (a : List ℤ) (B
           (subst (λ (b : Bool). Alike (sumAt lanes (set seen j true) sums′ i j) (new i j b)) (sym (eq-eqb (v (s + d)) (base + j) is))
           (record {
             seen = set-here;
-            total = λ f. e .sums-is .done i q ∙ plus-alike (column lanes a i) (n + E + (pl + d)) (n + (s + d)) (n + 2 * E + (pl + d)) (getD seen j false) (z sums (j * lanes + i)) (after d i j) (g .is i j q small);
+            total =
+                λ f.
+                e .sums-is .done i q
+                ∙ plus-alike (column lanes a i) (n + E + (pl + d)) (n + (s + d)) (n + 2 * E + (pl + d)) (getD seen j false) (z sums (j * lanes + i)) (after d i j)
+                (g .is i j q small);
           }))
       held i k q r (no t) =
           subst (λ (b : Bool). Alike (sumAt lanes (set seen j true) sums′ i k) (new i k b)) (sym (ne-eqb (v (s + d)) (base + k) (λ f. t (omega (arith, is, f)))))
@@ -146,7 +150,8 @@ row-start n E code c base lanes a seen sums zeros =
       small = λ j r e. absurd (true≢false (sym e ∙ zeros j));
     }
 
-pub row-again : (n E : ℕ) {code : Code} {c : ℕ → ℕ} {m base from upto lanes : ℕ} (a : List ℤ) {x end s pl : ℕ} {seen seen′ : List Bool} {sums sums′ : List ℤ} → Grouped code c m base from upto → x < m → end ≤ upto → end ≤ degree code (c x)
+pub row-again : (n E : ℕ) {code : Code} {c : ℕ → ℕ} {m base from upto lanes : ℕ} (a : List ℤ) {x end s pl : ℕ} {seen seen′ : List Bool} {sums sums′ : List ℤ}
+    → Grouped code c m base from upto → x < m → end ≤ upto → end ≤ degree code (c x)
     → from ≤ end → (end < upto → end ≡ degree code (c x)) → s ≡ code .row-start (c x) → pl ≡ placeOf code c x → Gathers lanes (placeOf code c x) (runSum n E code c base lanes a x) seen sums
     → Gathers lanes (pl + from + (end - from)) (λ i j. gatherAt n E (code .rows) (base + j) (s + from) (pl + from) (column lanes a i) (end - from) (sumAt lanes seen sums i j)) seen′ sums′
     → Gathers lanes (placeOf code c (x + 1)) (runSum n E code c base lanes a (x + 1)) seen′ sums′
@@ -171,7 +176,8 @@ pub settled-check-start : (v : ℕ → ℕ) (base s lanes : ℕ) (sums a : List 
 unfolding wrote
 settled-check-start v base s lanes sums a = record { is = λ i q. refl }
 
-pub settled-check-again : {v : ℕ → ℕ} {base s lanes : ℕ} {sums a : List ℤ} {d : ℕ} {a′ a″ : List ℤ} {u : ℕ} → u ≡ v (s + d) → CheckSettled v base s lanes sums a d a′ → Settled lanes u ((u - base) * lanes) sums a′ lanes a″
+pub settled-check-again : {v : ℕ → ℕ} {base s lanes : ℕ} {sums a : List ℤ} {d : ℕ} {a′ a″ : List ℤ} {u : ℕ} → u ≡ v (s + d) → CheckSettled v base s lanes sums a d a′
+    → Settled lanes u ((u - base) * lanes) sums a′ lanes a″
     → CheckSettled v base s lanes sums a (d + 1) a″
 unfolding wrote
 settled-check-again {v} {base} {s} {lanes} {sums} {a} {d} {a′} {a″} {u} e c k =
@@ -199,14 +205,16 @@ wrote-seen n E v u s pl F val f g (suc d) a h = go (eqb (v (s + d)) u) refl (wro
 
 -- after the first x checks
 pub record RowSettled (n E : ℕ) (code : Code) (c : ℕ → ℕ) (base lanes : ℕ) (sums a : List ℤ) (x : ℕ) (a′ : List ℤ) : Type 0 where
-  pub in-row : (i u : ℕ) → i < lanes → base ≤ u → u < base + 374 → column lanes a′ i u ≡ cond (gatherRunAt n E code c u (column lanes a i) x .seen) (satZ (z sums ((u - base) * lanes + i))) (column lanes a i u)
+  pub in-row : (i u : ℕ) → i < lanes → base ≤ u → u < base + 374
+      → column lanes a′ i u ≡ cond (gatherRunAt n E code c u (column lanes a i) x .seen) (satZ (z sums ((u - base) * lanes + i))) (column lanes a i u)
   pub others : (i u : ℕ) → i < lanes → (base ≤ u → u < base + 374 → ⊥) → column lanes a′ i u ≡ column lanes a i u
 
 pub settled-row-start : (n E : ℕ) (code : Code) (c : ℕ → ℕ) (base lanes : ℕ) (sums a : List ℤ) → RowSettled n E code c base lanes sums a 0 a
 unfolding gatherRunAt
 settled-row-start n E code c base lanes sums a = record { in-row = λ i u q l h. refl; others = λ i u q h. refl }
 
-pub settled-row-again : {n E : ℕ} {code : Code} {c : ℕ → ℕ} {m base from upto lanes : ℕ} {sums a a′ a″ : List ℤ} {x end s : ℕ} → Grouped code c m base from upto → x < m → end ≤ upto → end ≤ degree code (c x) → from ≤ end
+pub settled-row-again : {n E : ℕ} {code : Code} {c : ℕ → ℕ} {m base from upto lanes : ℕ} {sums a a′ a″ : List ℤ} {x end s : ℕ} → Grouped code c m base from upto → x < m
+    → end ≤ upto → end ≤ degree code (c x) → from ≤ end
     → (end < upto → end ≡ degree code (c x)) → s ≡ code .row-start (c x) → RowSettled n E code c base lanes sums a x a′ → CheckSettled (code .rows) base (s + from) lanes sums a′ (end - from) a″
     → RowSettled n E code c base lanes sums a (x + 1) a″
 unfolding gatherRunAt
@@ -230,7 +238,8 @@ settled-row-again {n} {E} {code} {c} {m} {base} {from} {upto} {lanes} {sums} {a}
     here : (i : ℕ) → i < lanes → column lanes a″ i ≡ wrote (λ k. code .rows (S + k)) (λ k. satZ (z sums ((code .rows (S + k) - base) * lanes + i))) (column lanes a′ i) (end - from)
     here i q = k .is i q ∙ (λ y. wrote (λ k. code .rows (e y + from + k)) (λ k. satZ (z sums ((code .rows (e y + from + k) - base) * lanes + i))) (column lanes a′ i) (end - from))
 
-pub settled-row-end : {n E : ℕ} {code : Code} {c : ℕ → ℕ} {base lanes : ℕ} {sums a : List ℤ} {x m : ℕ} {a′ : List ℤ} → x ≡ m → RowSettled n E code c base lanes sums a x a′ → RowSettled n E code c base lanes sums a m a′
+pub settled-row-end : {n E : ℕ} {code : Code} {c : ℕ → ℕ} {base lanes : ℕ} {sums a : List ℤ} {x m : ℕ} {a′ : List ℤ} → x ≡ m → RowSettled n E code c base lanes sums a x a′
+    → RowSettled n E code c base lanes sums a m a′
 settled-row-end {n} {E} {code} {c} {base} {lanes} {sums} {a} {x} {m} {a′} e r = subst (λ (j : ℕ). RowSettled n E code c base lanes sums a j a′) e r
 
 -- ---- the value of variable u at the end of the run
@@ -241,7 +250,8 @@ pub record RowWritten (n E : ℕ) (code : Code) (c : ℕ → ℕ) (m base lanes 
   pub in-row : (i u : ℕ) → i < lanes → base ≤ u → u < base + 374 → column lanes a′ i u ≡ writtenAt n E code c m (column lanes a i) u
   pub others : (i u : ℕ) → i < lanes → (base ≤ u → u < base + 374 → ⊥) → column lanes a′ i u ≡ column lanes a i u
 
-pub row-written : {n E : ℕ} {code : Code} {c : ℕ → ℕ} {m base lanes many : ℕ} {seen : List Bool} {sums a a′ : List ℤ} → Gathers lanes many (runSum n E code c base lanes a m) seen sums → RowSettled n E code c base lanes sums a m a′
+pub row-written : {n E : ℕ} {code : Code} {c : ℕ → ℕ} {m base lanes many : ℕ} {seen : List Bool} {sums a a′ : List ℤ}
+    → Gathers lanes many (runSum n E code c base lanes a m) seen sums → RowSettled n E code c base lanes sums a m a′
     → RowWritten n E code c m base lanes a a′
 row-written {n} {E} {code} {c} {m} {base} {lanes} {many} {seen} {sums} {a} {a′} g r =
     record {
@@ -271,7 +281,8 @@ pub record FlagWritten (n E : ℕ) (code : Code) (c : ℕ → ℕ) (m lanes : �
   pub flagged : getD flags g false ≡ true → RowWritten n E code c m (374 * g) lanes a a′
   pub plain : getD flags g false ≡ false → a′ ≡ a
 
-pub written-again : {n E : ℕ} {code : Code} {c : ℕ → ℕ} {m lanes : ℕ} {flags : List Bool} {a : List ℤ} {g : ℕ} {a′ a″ : List ℤ} → (getD flags g false ≡ true → 374 * g + 374 ≤ n) → Written n E code c m lanes flags a g a′
+pub written-again : {n E : ℕ} {code : Code} {c : ℕ → ℕ} {m lanes : ℕ} {flags : List Bool} {a : List ℤ} {g : ℕ} {a′ a″ : List ℤ} → (getD flags g false ≡ true → 374 * g + 374 ≤ n)
+    → Written n E code c m lanes flags a g a′
     → FlagWritten n E code c m lanes flags g a′ a″ → Written n E code c m lanes flags a (g + 1) a″
 written-again {n} {E} {code} {c} {m} {lanes} {flags} {a} {g} {a′} {a″} low w k = go (getD flags g false) refl
   where
@@ -282,7 +293,10 @@ written-again {n} {E} {code} {c} {m} {lanes} {flags} {a} {g} {a′} {a″} low w
     go : (b : Bool) → getD flags g false ≡ b → Written n E code c m lanes flags a (g + 1) a″
     go false e =
         record {
-          done = λ i u q h f. ap (λ (x : List ℤ). column lanes x i u) (k .plain e) ∙ w .done i u q (below u h (λ r. true≢false (sym f ∙ ap (λ (j : ℕ). getD flags j false) r ∙ e)) (decLt u (374 * g))) f;
+          done =
+              λ i u q h f.
+              ap (λ (x : List ℤ). column lanes x i u) (k .plain e)
+              ∙ w .done i u q (below u h (λ r. true≢false (sym f ∙ ap (λ (j : ℕ). getD flags j false) r ∙ e)) (decLt u (374 * g))) f;
           still = λ i u q h. ap (λ (x : List ℤ). column lanes x i u) (k .plain e) ∙ w .still i u q (λ r. h (omega arith));
         }
       where
@@ -308,5 +322,6 @@ written-again {n} {E} {code} {c} {m} {lanes} {flags} {a} {g} {a′} {a″} low w
             v .in-row i u q (omega arith) (omega arith)
             ∙ (λ j. cond (run-same n E code c u (column lanes a′ i) (column lanes a i) m (kept i q) j .seen) (satZ (run-same n E code c u (column lanes a′ i) (column lanes a i) m (kept i q) j .total)) (w .still i u q (λ x. absurd (r x)) j))
 
-pub written-end : {n E : ℕ} {code : Code} {c : ℕ → ℕ} {m lanes : ℕ} {flags : List Bool} {a : List ℤ} {g g′ : ℕ} {a′ : List ℤ} → g ≡ g′ → Written n E code c m lanes flags a g a′ → Written n E code c m lanes flags a g′ a′
+pub written-end : {n E : ℕ} {code : Code} {c : ℕ → ℕ} {m lanes : ℕ} {flags : List Bool} {a : List ℤ} {g g′ : ℕ} {a′ : List ℤ} → g ≡ g′ → Written n E code c m lanes flags a g a′
+    → Written n E code c m lanes flags a g′ a′
 written-end {n} {E} {code} {c} {m} {lanes} {flags} {a} {g} {g′} {a′} e w = subst (λ (j : ℕ). Written n E code c m lanes flags a j a′) e w

@@ -132,7 +132,8 @@ shares-part {n} {q} {code} {l} {table} {flags} at m h v =
     there x = omega arith
 
 -- the edges of a flagged row
-pub grouped : {n q : ℕ} {code : Code} {first m l : ℕ} {table : List ℕ} {flags : List Bool} {from upto : ℕ} (g : ℕ) → getD flags g false ≡ true → 0 < m → Shares n q code first m l table flags → from ≡ spanAt table l g
+pub grouped : {n q : ℕ} {code : Code} {first m l : ℕ} {table : List ℕ} {flags : List Bool} {from upto : ℕ} (g : ℕ) → getD flags g false ≡ true → 0 < m
+    → Shares n q code first m l table flags → from ≡ spanAt table l g
     → upto ≡ spanAt table l (g + 1) → Grouped code (stepped first q) m (374 * g) from upto
 grouped {n} {q} {code} {first} {m} {l} {table} {flags} {from} {upto} g e some v f h =
     subst (λ (x : ℕ). Grouped code (stepped first q) m (374 * g) x upto) (sym f)
@@ -150,7 +151,8 @@ pub record RowPart (n p lanes first q base from upto x s d end : ℕ) (index row
   pub part-room : Room rows (s + from) (end - from) n lanes a
   pub in-row : InRow (var rows) base (s + from) (end - from)
 
-pub row-part : {n p lanes first q m base from upto x s d end : ℕ} {index rows : List ℕ} {a : List ℤ} → InRun n p lanes first q m index a → rows ≡ rowsIn p index → Grouped (codeIn p index) (stepped first q) m base from upto → x < m
+pub row-part : {n p lanes first q m base from upto x s d end : ℕ} {index rows : List ℕ} {a : List ℤ} → InRun n p lanes first q m index a → rows ≡ rowsIn p index
+    → Grouped (codeIn p index) (stepped first q) m base from upto → x < m
     → s ≡ getD index (stepped first q x) 0 → s + d ≡ getD index (stepped first q x + 1) 0 → end ≡ min upto d → RowPart n p lanes first q base from upto x s d end index rows a
 row-part {n} {p} {lanes} {first} {q} {m} {base} {from} {upto} {x} {s} {d} {end} {index} {rows} {a} r same g h e f ends =
     record {

@@ -44,7 +44,10 @@ fn gather_edge(
     requires { ⌜ Room (now rows) e 1 n lanes (now work) × ((at < length (now rows)) × (length (now rows) ≤ 6000000)) ⌝ }
     requires { ⌜ (374 * lanes ≤ length (now sums)) × ((length (now seen) ≡ 374) × ((base ≤ var (now rows) e) × (var (now rows) e < base + 374))) ⌝ }
     requires { ⌜ Smalls lanes at (now seen) (now sums) ⌝ }
-    ensures { λ _. ⌜ EdgeDone n (length (now (rows .entry))) lanes at e (var (now (rows .entry)) e - base) (now (work .entry)) (now (seen .entry)) (now (sums .entry)) (now (seen .exit)) (now (sums .exit)) ⌝ }
+    ensures { λ _. ⌜
+        EdgeDone n (length (now (rows .entry))) lanes at e (var (now (rows .entry)) e - base) (now (work .entry)) (now (seen .entry)) (now (sums .entry))
+        (now (seen .exit)) (now (sums .exit))
+        ⌝ }
 {
     let edges = rows.len();
     let j = lane_memory::variable(rows, e) - base;
@@ -72,7 +75,12 @@ fn gather_check(
     requires { ⌜ Room (now rows) s d n lanes (now work) × ((place + d ≤ length (now rows)) × (length (now rows) ≤ 6000000)) ⌝ }
     requires { ⌜ (374 * lanes ≤ length (now sums)) × ((length (now seen) ≡ 374) × InRow (var (now rows)) base s d) ⌝ }
     requires { ⌜ Smalls lanes place (now seen) (now sums) ⌝ }
-    ensures { λ _. ⌜ Gathers lanes (place + d) (λ i j. gatherAt n (length (now (rows .entry))) (var (now (rows .entry))) (base + j) s place (column lanes (now (work .entry)) i) d (sumAt lanes (now (seen .entry)) (now (sums .entry)) i j)) (now (seen .exit)) (now (sums .exit)) ⌝ }
+    ensures { λ _. ⌜
+        Gathers lanes (place + d)
+        (λ i j. gatherAt n (length (now (rows .entry))) (var (now (rows .entry))) (base + j) s place (column lanes (now (work .entry)) i) d
+        (sumAt lanes (now (seen .entry)) (now (sums .entry)) i j))
+        (now (seen .exit)) (now (sums .exit))
+        ⌝ }
 {
     let mut k: usize = 0;
     while k < d {
@@ -101,7 +109,11 @@ fn gather_row(
     requires { ⌜ InRun n p lanes first q m (now index) (now work) × (now rows ≡ rowsIn p (now index)) ⌝ }
     requires { ⌜ Grouped (codeIn p (now index)) (stepped first q) m base from upto ⌝ }
     requires { ⌜ (374 * lanes ≤ length (now sums)) × ((length (now seen) ≡ 374) × ((j : ℕ) → getD (now seen) j false ≡ false)) ⌝ }
-    ensures { λ _. ⌜ Gathers lanes (placeOf (codeIn p (now (index .entry))) (stepped first q) m) (runSum n (edgesIn p (now (index .entry))) (codeIn p (now (index .entry))) (stepped first q) base lanes (now (work .entry)) m) (now (seen .exit)) (now (sums .exit)) ⌝ }
+    ensures { λ _. ⌜
+        Gathers lanes (placeOf (codeIn p (now (index .entry))) (stepped first q) m)
+        (runSum n (edgesIn p (now (index .entry))) (codeIn p (now (index .entry))) (stepped first q) base lanes (now (work .entry)) m) (now (seen .exit))
+        (now (sums .exit))
+        ⌝ }
 {
     let mut place: usize = 0;
     let mut x: usize = 0;
@@ -168,7 +180,10 @@ fn settle_row(
 )
     requires { ⌜ InRun n p lanes first q m (now index) (now work) × (now rows ≡ rowsIn p (now index)) ⌝ }
     requires { ⌜ Grouped (codeIn p (now index)) (stepped first q) m base from upto × (374 * lanes ≤ length (now sums)) ⌝ }
-    ensures { λ _. ⌜ RowSettled n (edgesIn p (now (index .entry))) (codeIn p (now (index .entry))) (stepped first q) base lanes (now (sums .entry)) (now (work .entry)) m (now (work .exit)) ⌝ }
+    ensures { λ _. ⌜
+        RowSettled n (edgesIn p (now (index .entry))) (codeIn p (now (index .entry))) (stepped first q) base lanes (now (sums .entry)) (now (work .entry))
+        m (now (work .exit))
+        ⌝ }
 {
     let mut x: usize = 0;
     while x < m {
@@ -201,7 +216,10 @@ fn write_row(
     requires { ⌜ InRun n p lanes first q m (now index) (now work) × (now rows ≡ rowsIn p (now index)) ⌝ }
     requires { ⌜ Shares n q (codeIn p (now index)) first m l (now table) (now flags) × ((length (now table) ≡ 14520) × ((l < 120) × ((g < 120) × (0 < m)))) ⌝ }
     requires { ⌜ 23936 ≤ length (now sums) ⌝ }
-    ensures { λ _. ⌜ FlagWritten n (edgesIn p (now (index .entry))) (codeIn p (now (index .entry))) (stepped first q) m lanes (now (flags .entry)) g (now (work .entry)) (now (work .exit)) ⌝ }
+    ensures { λ _. ⌜
+        FlagWritten n (edgesIn p (now (index .entry))) (codeIn p (now (index .entry))) (stepped first q) m lanes (now (flags .entry)) g (now (work .entry))
+        (now (work .exit))
+        ⌝ }
 {
     if !flags[g] {
         return;
@@ -262,7 +280,10 @@ fn write_rows(
     requires { ⌜ InRun n p lanes first q m (now index) (now work) × (now rows ≡ rowsIn p (now index)) ⌝ }
     requires { ⌜ Shares n q (codeIn p (now index)) first m l (now table) (now flags) × ((length (now table) ≡ 14520) × ((l < 120) × (0 < m))) ⌝ }
     requires { ⌜ 23936 ≤ length (now sums) ⌝ }
-    ensures { λ _. ⌜ Written n (edgesIn p (now (index .entry))) (codeIn p (now (index .entry))) (stepped first q) m lanes (now (flags .entry)) (now (work .entry)) 120 (now (work .exit)) ⌝ }
+    ensures { λ _. ⌜
+        Written n (edgesIn p (now (index .entry))) (codeIn p (now (index .entry))) (stepped first q) m lanes (now (flags .entry)) (now (work .entry)) 120
+        (now (work .exit))
+        ⌝ }
 {
     let mut g: usize = 0;
     while g < 120 {

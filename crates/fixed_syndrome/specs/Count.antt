@@ -62,16 +62,19 @@ module _ {n p lanes : ℕ} {index : List ℕ} {a : List ℤ} where
       )
 
   -- ---- 64 lanes
-  pub counts-in : {counts checks : List ℕ} {at : ℕ} → Counting n p lanes index a at p counts checks → (k : ℕ) → k < 16 → CountIn n p lanes index a (at + k) (cond (ltb (at + k) lanes) (getD counts k 0) 0)
+  pub counts-in : {counts checks : List ℕ} {at : ℕ} → Counting n p lanes index a at p counts checks → (k : ℕ) → k < 16
+      → CountIn n p lanes index a (at + k) (cond (ltb (at + k) lanes) (getD counts k 0) 0)
   counts-in {counts} {checks} {at} u k q = ap (λ (x : ℕ). cond (ltb (at + k) lanes) x 0) (u .is k q .all)
 
-  pub checks-in : {counts checks : List ℕ} {at : ℕ} → Counting n p lanes index a at p counts checks → (k : ℕ) → k < 16 → CheckIn n p lanes index a (at + k) (cond (ltb (at + k) lanes) (getD checks k 0) 0)
+  pub checks-in : {counts checks : List ℕ} {at : ℕ} → Counting n p lanes index a at p counts checks → (k : ℕ) → k < 16
+      → CheckIn n p lanes index a (at + k) (cond (ltb (at + k) lanes) (getD checks k 0) 0)
   checks-in {counts} {checks} {at} u k q = (
     λ h. subst (Names (codeIn p index) p (word n (edgesIn p index) lanes a (at + k))) (sym (ap (λ (b : Bool). cond b (getD checks k 0) 0) (lt-ltb (at + k) lanes h))) (u .is k q .named),
     λ h. ap (λ (b : Bool). cond b (getD checks k 0) 0) (le-ltb (at + k) lanes h),
   )
 
-  pub counted-lanes : {m : ℕ} {counts checks : List ℕ} → lanes ≤ m → Filled 0 (CountIn n p lanes index a) m counts → Filled 0 (CheckIn n p lanes index a) m checks → CountedLanes n p lanes index a counts checks
+  pub counted-lanes : {m : ℕ} {counts checks : List ℕ} → lanes ≤ m → Filled 0 (CountIn n p lanes index a) m counts → Filled 0 (CheckIn n p lanes index a) m checks
+      → CountedLanes n p lanes index a counts checks
   counted-lanes {m} {counts} {checks} h f g =
       record {
         lane =

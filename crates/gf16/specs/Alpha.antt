@@ -61,7 +61,7 @@ coprime i a b c d =
     let g : i ≡ 65535 * (128 * (i / 257) - 127 * (8 * (i / 17) - 7 * (2 * (i / 5) - i / 3))) = omega arith in
     omega arith
 
-pub order16 : (i : ℕ) → 0 < i → i < 65535 → pow R16 α i ≢ R16 .𝟙
+order16 : (i : ℕ) → 0 < i → i < 65535 → pow R16 α i ≢ R16 .𝟙
 order16 i h h′ e =
     let q = coprime i (part 2 21845 (lit< tt) refl miss3 i e) (part 4 13107 (lit< tt) refl miss5 i e) (part 16 3855 (lit< tt) refl miss17 i e) (part 256 255 (lit< tt) refl miss257 i e) in
     omega arith

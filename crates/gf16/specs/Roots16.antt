@@ -60,7 +60,7 @@ twelve : (i : ℕ) → i < 12 → i < length masks
 unfolding masks
 twelve i h = h
 
-pub generator-odd : (i : ℕ) → i < 12 → ev R16 193 generator (pow R16 α (2 * i + 1)) ≡ R16 .𝟘
+generator-odd : (i : ℕ) → i < 12 → ev R16 193 generator (pow R16 α (2 * i + 1)) ≡ R16 .𝟘
 unfolding generator masks
 generator-odd i h =
     sym (ev-more R16 193 205 generator _ generator-lt (omega arith)) ∙ product-vanish masks i _ (twelve i h) (entry-vanishes i h)
@@ -108,7 +108,7 @@ unfolding root ex
 at-all k w z p = conjugates k w (2 * (p % 12) + 1) (z (p % 12) (mod-lt p (lit< tt))) (p / 12)
 
 -- what vanishes at the twelve odd powers is a multiple of the generator
-pub zero-syndromes : (k w : ℕ) → w < 2 ^ k → ((i : ℕ) → i < 12 → ev R16 k w (pow R16 α (2 * i + 1)) ≡ R16 .𝟘) → rem 192 generator k w ≡ 0
+zero-syndromes : (k w : ℕ) → w < 2 ^ k → ((i : ℕ) → i < 12 → ev R16 k w (pow R16 α (2 * i + 1)) ≡ R16 .𝟘) → rem 192 generator k w ≡ 0
 zero-syndromes k w h z = multiple gf16 192 generator root generator-lt generator-top root-distinct (λ p _. at-all 193 generator generator-odd p) k w h (λ p _. at-all k w z p)
 
 -- each of alpha^1 .. alpha^24 is a root: an odd power, or a conjugate of one
@@ -123,7 +123,7 @@ parts : T (below 24 (λ i. eqb ((2 * getD odds i 0 + 1) * 2 ^ getD twos i 0) (i 
 unfolding below odds twos
 parts = tt
 
-pub first-24 : (k w : ℕ) → ((i : ℕ) → i < 12 → ev R16 k w (pow R16 α (2 * i + 1)) ≡ R16 .𝟘) → (i : ℕ) → i < 24 → ev R16 k w (pow R16 α (i + 1)) ≡ R16 .𝟘
+first-24 : (k w : ℕ) → ((i : ℕ) → i < 12 → ev R16 k w (pow R16 α (2 * i + 1)) ≡ R16 .𝟘) → (i : ℕ) → i < 24 → ev R16 k w (pow R16 α (i + 1)) ≡ R16 .𝟘
 first-24 k w z i h =
     let t = below-at 24 _ parts i h in
     let e = eqb→eq ((2 * getD odds i 0 + 1) * 2 ^ getD twos i 0) (i + 1) (and-l (eqb ((2 * getD odds i 0 + 1) * 2 ^ getD twos i 0) (i + 1)) (ltb (getD odds i 0) 12) t) in

@@ -32,7 +32,7 @@ pub record Reduced (o : ℤ) (m : List ℕ) (r : List ℤ) : Type 0 where
 pub record NoneNegative (r : List ℤ) : Type 0 where
   pub is : (k : ℕ) → k < 16 → ltZ (z r k) (pos 0) ≡ false
 
-pub reduced-to : {o o′ : ℤ} {m : List ℕ} {r : List ℤ} → o ≡ o′ → Reduced o m r → Reduced o′ m r
+reduced-to : {o o′ : ℤ} {m : List ℕ} {r : List ℤ} → o ≡ o′ → Reduced o m r → Reduced o′ m r
 reduced-to {o} {o′} {m} e h = record { is = λ k q. h .is k q ∙ ap (λ (x : ℤ). reduced x (min (n m k) 127)) e }
 
 pub reduced-none-negative : {o : ℤ} {m : List ℕ} {r : List ℤ} → Reduced o m r → NoneNegative r

@@ -112,7 +112,8 @@ unfolding others parity
 same-sign t e zero h = absurd (omega arith)
 same-sign t e (suc n) h = go (ltb e n) refl (same-sign t e n)
   where
-    go : (b : Bool) → ltb e n ≡ b → (e < n → times (parity t n) (negative (t e)) ≡ others t e n) → times (times (parity t n) (negative (t n))) (negative (t e)) ≡ cond (eqb n e) (others t e n) (times (others t e n) (negative (t n)))
+    go : (b : Bool) → ltb e n ≡ b → (e < n → times (parity t n) (negative (t e)) ≡ others t e n)
+        → times (times (parity t n) (negative (t n))) (negative (t e)) ≡ cond (eqb n e) (others t e n) (times (others t e n) (negative (t n)))
     go true s ih =
         let q : e < n = ltb-true e n s in
         times-swap (parity t n) (negative (t n)) (negative (t e))

@@ -11,7 +11,8 @@ use lib.Arith.{digits-div, digits-mod}
 use lib.ListN.{getD, set, length}
 use lib.Seq.{getD-set-other}
 use lib.IntN.{ℤ, pos}
-use Rattle.laws.specs.Put.{put, grown-at}
+use Rattle.laws.specs.Put.{put}
+use Rattle.laws.specs.Stores.{grown-at}
 use Rattle.lane16.specs.Lanes.{z}
 
 unfoldable pub column : ℕ → List ℤ → ℕ → ℕ → ℤ
@@ -92,7 +93,8 @@ pub record Storing (base : ℕ) (x old new : List ℤ) (i : ℕ) : Type 0 where
 pub storing-start : (base : ℕ) (x a : List ℤ) → Storing base x a a 0
 storing-start base x a = record { long = refl; put-in = λ k q. absurd (omega (arith, q)); kept = λ p no. refl }
 
-pub storing-again : {base : ℕ} {x old a : List ℤ} {i : ℕ} {y : ℤ} (b : List ℤ) → Storing base x old a i → base + i < length old → length b ≡ length a → b ≡ set a (base + i) y → y ≡ z x i → Storing base x old b (i + 1)
+pub storing-again : {base : ℕ} {x old a : List ℤ} {i : ℕ} {y : ℤ} (b : List ℤ) → Storing base x old a i → base + i < length old → length b ≡ length a → b ≡ set a (base + i) y
+    → y ≡ z x i → Storing base x old b (i + 1)
 storing-again {base} {x} {old} {a} {i} {y} b v room same is e =
     record {
       long = same ∙ v .long;

@@ -125,7 +125,7 @@ spelled-decimal =
     whole : (n : ℕ) → n / 10 * 10 + (48 + n % 10 - 48) ≡ n
     whole n = omega (arith, div-add-mod' n 10)
 
-pub decimal-injective : (m n : ℕ) → decimal m ≡ decimal n → m ≡ n
+decimal-injective : (m n : ℕ) → decimal m ≡ decimal n → m ≡ n
 decimal-injective m n e = sym (spelled-decimal m) ∙ ap (spelled 0) e ∙ spelled-decimal n
 
 -- a number whose digits go on from those of w is w or more

@@ -1,4 +1,4 @@
--- Laws that the kit lacks, one home for each: xor on numbers, computed tests, polynomials over two elements, signed numbers, lists, remainders, choices, decimal numbers, functions changed at one place and lists written one element at a time, runs of stores.
+-- Laws that the kit lacks, one home for each: xor on numbers, computed tests, polynomials over two elements, signed numbers, lists, remainders, choices, decimal numbers, functions changed at one place, stores into lists.
 pub mod Xor
 pub mod Tests
 pub mod Poly

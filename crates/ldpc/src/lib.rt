@@ -24,7 +24,10 @@ pub enum Written {
 
 // k, P, q and E; `lists` gets row_start (P + 1 numbers) and then rows (E bits).
 pub fn new(n: u32, lens: &[u32], addrs: &[u16], lists: &mut [u32]) -> Made
-    ensures answer { λ r. ⌜ (r ≡ newAnswer n (now (lens .entry)) (now (addrs .entry)) (length (now (lists .entry)))) × (now (lists .exit) ≡ newInto n (now (lens .entry)) (now (addrs .entry)) (now (lists .entry))) ⌝ }
+    ensures answer { λ r. ⌜
+        (r ≡ newAnswer n (now (lens .entry)) (now (addrs .entry)) (length (now (lists .entry))))
+        × (now (lists .exit) ≡ newInto n (now (lens .entry)) (now (addrs .entry)) (now (lists .entry)))
+        ⌝ }
     ensures number { λ r. ⌜ madeNumber r ≡ newRefusal n (now (lens .entry)) (now (addrs .entry)) (length (now (lists .entry))) ⌝ }
 {
     let r = ldpc_shape::refusal(n, lens, addrs);
@@ -49,7 +52,10 @@ pub fn new(n: u32, lens: &[u32], addrs: &[u16], lists: &mut [u32]) -> Made
 
 // The bits of check c in order, in front of `out`, and how many they are.
 pub fn check(n: u32, lens: &[u32], addrs: &[u16], c: u32, out: &mut [u32]) -> Counted
-    ensures answer { λ r. ⌜ (r ≡ checkAnswer n (now (lens .entry)) (now (addrs .entry)) c (length (now (out .entry)))) × (now (out .exit) ≡ checkInto n (now (lens .entry)) (now (addrs .entry)) c (now (out .entry))) ⌝ }
+    ensures answer { λ r. ⌜
+        (r ≡ checkAnswer n (now (lens .entry)) (now (addrs .entry)) c (length (now (out .entry))))
+        × (now (out .exit) ≡ checkInto n (now (lens .entry)) (now (addrs .entry)) c (now (out .entry)))
+        ⌝ }
     ensures number { λ r. ⌜ countedNumber r ≡ checkRefusal n (now (lens .entry)) (now (addrs .entry)) c (length (now (out .entry))) ⌝ }
 {
     let r = ldpc_shape::refusal(n, lens, addrs);
@@ -69,7 +75,10 @@ pub fn check(n: u32, lens: &[u32], addrs: &[u16], c: u32, out: &mut [u32]) -> Co
 
 // The P parity bits of the information, in front of `out`.
 pub fn parity(n: u32, lens: &[u32], addrs: &[u16], info: &[u8], out: &mut [u8]) -> Written
-    ensures answer { λ r. ⌜ (r ≡ parityAnswer n (now (lens .entry)) (now (addrs .entry)) (length (now (info .entry))) (length (now (out .entry)))) × (now (out .exit) ≡ parityInto n (now (lens .entry)) (now (addrs .entry)) (now (info .entry)) (now (out .entry))) ⌝ }
+    ensures answer { λ r. ⌜
+        (r ≡ parityAnswer n (now (lens .entry)) (now (addrs .entry)) (length (now (info .entry))) (length (now (out .entry))))
+        × (now (out .exit) ≡ parityInto n (now (lens .entry)) (now (addrs .entry)) (now (info .entry)) (now (out .entry)))
+        ⌝ }
     ensures number { λ r. ⌜ writtenNumber r ≡ parityRefusal n (now (lens .entry)) (now (addrs .entry)) (length (now (info .entry))) (length (now (out .entry))) ⌝ }
 {
     let r = ldpc_shape::refusal(n, lens, addrs);
@@ -90,7 +99,10 @@ pub fn parity(n: u32, lens: &[u32], addrs: &[u16], info: &[u8], out: &mut [u8]) 
 
 // The information bytes and its parity bits, in front of `out`.
 pub fn encode(n: u32, lens: &[u32], addrs: &[u16], info: &[u8], out: &mut [u8]) -> Written
-    ensures answer { λ r. ⌜ (r ≡ encodeAnswer n (now (lens .entry)) (now (addrs .entry)) (length (now (info .entry))) (length (now (out .entry)))) × (now (out .exit) ≡ encodeInto n (now (lens .entry)) (now (addrs .entry)) (now (info .entry)) (now (out .entry))) ⌝ }
+    ensures answer { λ r. ⌜
+        (r ≡ encodeAnswer n (now (lens .entry)) (now (addrs .entry)) (length (now (info .entry))) (length (now (out .entry))))
+        × (now (out .exit) ≡ encodeInto n (now (lens .entry)) (now (addrs .entry)) (now (info .entry)) (now (out .entry)))
+        ⌝ }
     ensures number { λ r. ⌜ writtenNumber r ≡ encodeRefusal n (now (lens .entry)) (now (addrs .entry)) (length (now (info .entry))) (length (now (out .entry))) ⌝ }
 {
     let r = ldpc_shape::refusal(n, lens, addrs);

@@ -10,11 +10,11 @@ use borrow.Author.Tests.{eq-eqb, ne-eqb, lt-ltb, le-ltb}
 use lib.Dec.{eqb, ltb}
 use lib.ListN.{length, take, drop, getD, set, length-append, length-take, length-drop, length-set, drop-of-length-le, take-append-drop}
 use lib.Seq.{drop-cons, drop-drop, drop-length, drop-set-lt, take-suc, take-suc-set, take-at, drop-at, set-split, length-take-le}
+use Rattle.laws.specs.Lists.{lent-from, back-from}
 use Rattle.ldpc_shape.specs.Shape.{kOf, pOf, rowsOf, total, countMod, refusalOf}
 use Rattle.ldpc_shape.specs.Accepted.{Accepted, accepted, q-pos, q-le, rows-le, addrs-le}
 use Rattle.ldpc_shape.specs.Worked.{k-worked, q-beside, p-beside}
 use Rattle.ldpc_shape.specs.Counts.{Counted}
-use Rattle.ldpc_shape.specs.Lent.{lent-from, back-from}
 use Rattle.ldpc_edges.specs.Code.{ofBits, ofRows, meets, only, stairs, check}
 use Rattle.ldpc_edges.specs.Inside.{only-append}
 use Rattle.ldpc_edges.specs.Insert.{insert, insert-length, place, row-cons}
@@ -76,7 +76,7 @@ unfoldable pub found : ℕ → ℕ → ℕ → List ℕ → ℕ → List ℕ
 found q c first row i = only c (ofBits (374 * q) q 374 first 0 (drop i row))
 
 module _ (q c first : ℕ) (row : List ℕ) (pos : 0 < q) (inside : c < 374 * q) where
-  pub found-le : (i : ℕ) → length (found q c first row i) ≤ length (only c (ofBits (374 * q) q 374 first 0 row))
+  found-le : (i : ℕ) → length (found q c first row i) ≤ length (only c (ofBits (374 * q) q 374 first 0 row))
   unfolding found
   found-le i = omega (arith, bits-count q c pos inside first (drop i row), bits-count q c pos inside first row, count-split q (c % q) i row)
 
@@ -181,13 +181,13 @@ module _ (out list ys : List ℕ) (n d : ℕ) (ed : d ≡ length list) (ey : ys 
   front-length : length (take n out ++ list) ≡ n + d
   front-length = length-append (take n out) list ∙ omega (arith, length-take-le n out (omega arith))
 
-  pub lent-length : length (take n out ++ (ys ++ drop (length out - n) (drop n out))) ≡ length out
+  lent-length : length (take n out ++ (ys ++ drop (length out - n) (drop n out))) ≡ length out
   lent-length = ap length back ∙ length-append (take n out ++ list) (drop (n + d) out) ∙ omega (arith, front-length, length-drop (n + d) out)
 
-  pub lent-front : take (n + d) (take n out ++ (ys ++ drop (length out - n) (drop n out))) ≡ take n out ++ list
+  lent-front : take (n + d) (take n out ++ (ys ++ drop (length out - n) (drop n out))) ≡ take n out ++ list
   lent-front = ap (take (n + d)) back ∙ take-at (take n out ++ list) (drop (n + d) out) (n + d) front-length
 
-  pub lent-rest : drop (n + d) (take n out ++ (ys ++ drop (length out - n) (drop n out))) ≡ drop (n + d) out
+  lent-rest : drop (n + d) (take n out ++ (ys ++ drop (length out - n) (drop n out))) ≡ drop (n + d) out
   lent-rest = ap (drop (n + d)) back ∙ drop-at (take n out ++ list) (drop (n + d) out) (n + d) front-length
 
 module _ (out out₀ : List ℕ) (n : ℕ) (all list rest : List ℕ) (size : length out ≡ length out₀) (below : n ≤ length out)

@@ -36,7 +36,10 @@ fn bit_of(a: u16, q: u32, c: u32) -> u32
 // The bits of a row at check c, ascending, in front; how many. The row's first bit is `first`.
 fn check_row(out: &mut [u32], row: &[u16], q: u32, c: u32, first: u32) -> usize
     requires { ⌜ (0 < q) × (c < 374 * q) × (q ≤ 120) × (first ≤ 44880) × (length (only c (ofBits (374 * q) q 374 first 0 (now row))) ≤ length (now out)) ⌝ }
-    ensures { λ r. ⌜ (r ≡ length (only c (ofBits (374 * q) q 374 first 0 (now (row .entry))))) × (now (out .exit) ≡ only c (ofBits (374 * q) q 374 first 0 (now (row .entry))) ++ drop r (now (out .entry))) ⌝ }
+    ensures { λ r. ⌜
+        (r ≡ length (only c (ofBits (374 * q) q 374 first 0 (now (row .entry)))))
+        × (now (out .exit) ≡ only c (ofBits (374 * q) q 374 first 0 (now (row .entry))) ++ drop r (now (out .entry)))
+        ⌝ }
 {
     let l = ldpc_shape::wide(c % q);
     let mut n: usize = 0;
@@ -54,8 +57,18 @@ fn check_row(out: &mut [u32], row: &[u16], q: u32, c: u32, first: u32) -> usize
 
 // Those of all rows.
 fn check_rows(out: &mut [u32], lens: &[u32], addrs: &[u16], q: u32, c: u32) -> usize
-    requires { ⌜ (c < 374 * q) × (0 < q) × (q ≤ 120) × (length (now lens) ≤ 119) × (total (now lens) ≡ length (now addrs)) × (length (only c (ofRows (374 * q) q 0 (rowsOf (now lens) (now addrs)))) ≤ length (now out)) ⌝ }
-    ensures { λ r. ⌜ (r ≡ length (only c (ofRows (374 * q) q 0 (rowsOf (now (lens .entry)) (now (addrs .entry)))))) × (now (out .exit) ≡ only c (ofRows (374 * q) q 0 (rowsOf (now (lens .entry)) (now (addrs .entry)))) ++ drop r (now (out .entry))) ⌝ }
+    requires { ⌜
+        (c < 374 * q)
+        × (0 < q)
+        × (q ≤ 120)
+        × (length (now lens) ≤ 119)
+        × (total (now lens) ≡ length (now addrs))
+        × (length (only c (ofRows (374 * q) q 0 (rowsOf (now lens) (now addrs)))) ≤ length (now out))
+        ⌝ }
+    ensures { λ r. ⌜
+        (r ≡ length (only c (ofRows (374 * q) q 0 (rowsOf (now (lens .entry)) (now (addrs .entry))))))
+        × (now (out .exit) ≡ only c (ofRows (374 * q) q 0 (rowsOf (now (lens .entry)) (now (addrs .entry)))) ++ drop r (now (out .entry)))
+        ⌝ }
 {
     let mut n: usize = 0;
     let mut g: usize = 0;
@@ -105,7 +118,10 @@ pub fn degree_of(n: u32, lens: &[u32], addrs: &[u16], c: u32) -> usize
 // The list of check c in front; its length.
 pub fn check_of(n: u32, lens: &[u32], addrs: &[u16], c: u32, out: &mut [u32]) -> usize
     requires { ⌜ (refusalOf n (now lens) (now addrs) ≡ 0) × (c < pOf n (now lens)) × (length (check n (now lens) (now addrs) c) ≤ length (now out)) ⌝ }
-    ensures { λ r. ⌜ (r ≡ length (check n (now (lens .entry)) (now (addrs .entry)) c)) × (now (out .exit) ≡ check n (now (lens .entry)) (now (addrs .entry)) c ++ drop r (now (out .entry))) ⌝ }
+    ensures { λ r. ⌜
+        (r ≡ length (check n (now (lens .entry)) (now (addrs .entry)) c))
+        × (now (out .exit) ≡ check n (now (lens .entry)) (now (addrs .entry)) c ++ drop r (now (out .entry)))
+        ⌝ }
 {
     let k = (lens.len() as u32) * 374;
     let q = n / 374 - (lens.len() as u32);

@@ -79,7 +79,7 @@ inside-more : (P k l : ℕ) (es : List Edge) → k ≤ l → Inside P k es → I
 inside-more P k l [] h I = tt
 inside-more P k l (edge p m ∷ es) h I = (I .0, omega (arith, I .1), inside-more P k l es h (I .2))
 
-pub stair-inside : (P k c : ℕ) → c < P → Inside P (k + P) (toBits c (stairs k c))
+stair-inside : (P k c : ℕ) → c < P → Inside P (k + P) (toBits c (stairs k c))
 unfolding toBits stairs
 stair-inside P k zero h = (h, omega arith, tt)
 stair-inside P k (suc c) h = (h, omega arith, (h, omega arith, tt))
@@ -125,7 +125,7 @@ unfolding start only
 start-none zero = refl
 start-none (suc c) = let a = start-none c in omega arith
 
-pub start-all : (P k : ℕ) (es : List Edge) → Inside P k es → start es P ≡ length es
+start-all : (P k : ℕ) (es : List Edge) → Inside P k es → start es P ≡ length es
 start-all P k [] I = start-none P
 start-all P k (edge p m ∷ es) I = start-one p m es P (I .0) ∙ ap suc (start-all P k es (I .2))
 
@@ -158,7 +158,7 @@ unfolding toStairs toBits stairs
 stairs-all k zero = refl
 stairs-all k (suc d) = let ih = stairs-count k 0 d in omega arith
 
-pub all-length : (n : ℕ) (lens addrs : List ℕ) → Accepted n lens addrs → length (allEdges n lens addrs) ≡ eOf n lens addrs
+all-length : (n : ℕ) (lens addrs : List ℕ) → Accepted n lens addrs → length (allEdges n lens addrs) ≡ eOf n lens addrs
 unfolding allEdges eOf meets
 all-length n lens addrs A =
     let a = rows-length (pOf n lens) (qOf n lens) 0 lens addrs (A .adds) in

@@ -41,7 +41,7 @@ count-split q l (suc k) (a ∷ addrs) = go (eqb (a % q) l) (count-split q l k ad
     go true ih = omega arith
     go false ih = ih
 
-pub rows-met : (q c : ℕ) → 0 < q → c < 374 * q → (m : ℕ) (lens addrs : List ℕ) → total lens ≡ length addrs
+rows-met : (q c : ℕ) → 0 < q → c < 374 * q → (m : ℕ) (lens addrs : List ℕ) → total lens ≡ length addrs
     → length (only c (ofRows (374 * q) q m (rowsOf lens addrs))) ≡ countMod q (c % q) addrs
 unfolding ofRows rowsOf total countMod only
 rows-met q c pos h m [] [] e = refl
@@ -64,7 +64,7 @@ pub check-rising : (n : ℕ) (lens addrs : List ℕ) (c : ℕ) → Rising 0 (onl
 unfolding meets
 check-rising n lens addrs c = rows-rising (pOf n lens) (qOf n lens) c 0 (rowsOf lens addrs)
 
-pub stairs-length : (k c : ℕ) → length (stairs k c) ≡ cond (eqb c 0) 1 2
+stairs-length : (k c : ℕ) → length (stairs k c) ≡ cond (eqb c 0) 1 2
 unfolding stairs
 stairs-length k zero = refl
 stairs-length k (suc c) = ap (λ b. cond b 1 2) (sym (ne-eqb (suc c) 0 (λ e. omega arith)))

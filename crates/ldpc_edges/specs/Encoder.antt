@@ -155,7 +155,7 @@ module _ (n : ℕ) (lens addrs v : List ℕ) (some : 0 < pOf n lens) where
   pub parity-length : length (parity n lens addrs v) ≡ pOf n lens
   parity-length = ap length parity-is ∙ sums-length 0 flipped ∙ flipped-length
 
-  pub parity-bits : Bits (parity n lens addrs v)
+  parity-bits : Bits (parity n lens addrs v)
   parity-bits = subst Bits (sym parity-is) (sums-bits 0 flipped (omega arith) flipped-bits)
 
   parity-first : getD (parity n lens addrs v) 0 0 % 2 ≡ getD flipped 0 0 % 2
@@ -191,7 +191,7 @@ module _ (n : ℕ) (lens addrs v : List ℕ) (some : 0 < pOf n lens) where
     met-by-parity p (suc c) h = omega (arith, unmet-next c h, p (suc c) h, p c (omega arith), parity-next c h)
 
     -- and with every check met, what stands behind the information is the parity
-    pub parity-by-met : ((c : ℕ) → c < pOf n lens → unmet n lens addrs w c ≡ 0) → (c : ℕ) → c < pOf n lens → getD w (kOf lens + c) 0 % 2 ≡ getD (parity n lens addrs v) c 0
+    parity-by-met : ((c : ℕ) → c < pOf n lens → unmet n lens addrs w c ≡ 0) → (c : ℕ) → c < pOf n lens → getD w (kOf lens + c) 0 % 2 ≡ getD (parity n lens addrs v) c 0
     parity-by-met m zero h =
         let e : kOf lens + 0 ≡ kOf lens = omega arith in
         omega (arith, unmet-first, m 0 h, ap (λ (z : ℕ). getD w z 0) e, parity-first, parity-bits 0)

@@ -43,7 +43,7 @@ abbrev pub Rising : ℕ → List ℕ → Type 0
 Rising v [] = Unit {0}
 Rising v (b ∷ bs) = (v ≤ b) × Rising b bs
 
-pub rising-from : (u v : ℕ) (bs : List ℕ) → u ≤ v → Rising v bs → Rising u bs
+rising-from : (u v : ℕ) (bs : List ℕ) → u ≤ v → Rising v bs → Rising u bs
 rising-from u v [] h R = tt
 rising-from u v (b ∷ bs) h R = (omega (arith, R .0), R .1)
 

@@ -36,7 +36,7 @@ rows-inside P q k m [] pos h = tt
 rows-inside P q k m (row ∷ rows) pos h =
     inside-append P k (ofBits P q 374 m 0 row) _ (bits-inside P q k 374 m 0 row pos (omega arith)) (rows-inside P q k (m + 374) rows pos (omega arith))
 
-pub rows-count : (lens addrs : List ℕ) → length (rowsOf lens addrs) ≡ length lens
+rows-count : (lens addrs : List ℕ) → length (rowsOf lens addrs) ≡ length lens
 unfolding rowsOf
 rows-count [] addrs = refl
 rows-count (l ∷ lens) addrs = ap suc (rows-count lens (drop l addrs))

@@ -12,7 +12,7 @@ use lib.Dec.{eqb}
 use lib.ListN.{length, take, drop, getD, length-take, length-drop, length-append, List·getD-append, drop-of-length-le}
 use lib.Seq.{drop-cons, getD-take, getD-drop, getD-append-add, length-take-le}
 use Rattle.laws.specs.Modulo.{xor-parity}
-use Rattle.ldpc_shape.specs.Lent.{lent-from, back-from}
+use Rattle.laws.specs.Lists.{lent-from, back-from}
 use Rattle.ldpc_encode.specs.Sums.{xors, turnedBit, rowBit, Added, stairBit}
 use Rattle.ldpc_encode.proofs.Bytes.{xors-length, xors-at}
 
@@ -38,7 +38,7 @@ module _ (x w : List ℕ) (s : ℕ) (lx : length x ≡ 374) (lw : length w ≡ 3
   pub high : List ℕ
   high = take s x ++ xors (drop s x) (take (374 - s) w)
 
-  pub high-length : length high ≡ 374
+  high-length : length high ≡ 374
   unfolding high
   high-length =
       length-append (take s x) _ ∙ omega (arith, xors-length (drop s x) (take (374 - s) w), length-take s x, length-drop s x)

@@ -7,7 +7,7 @@ use native.Mathlib.Numerals.{add-one}
 use lib.Bits.{bitXor}
 use lib.ListN.{length, take, drop, getD, set, length-take, length-drop, length-append, take-append-drop}
 use lib.Seq.{take-suc, take-suc-set, take-length, take-all, take-at, drop-cons, drop-drop, drop-length, drop-set-lt}
-use Rattle.ldpc_shape.specs.Lent.{back-from}
+use Rattle.laws.specs.Lists.{back-from}
 use Rattle.ldpc_edges.specs.Code.{sums}
 use Rattle.ldpc_encode.specs.Sums.{xors}
 

@@ -8,11 +8,11 @@ use native.Mathlib.Decide.{ℕ-discrete}
 use lib.ListN.{length, take, drop, getD, set, replicate, length-set, length-drop, getD-replicate}
 use lib.Seq.{getD-set-other, getD-drop}
 use Rattle.laws.specs.Modulo.{sumTo, sum-none, sum-more, sum-same, sum-grid}
-use Rattle.laws.specs.Put.{set-at}
+use Rattle.laws.specs.Stores.{set-at}
+use Rattle.laws.specs.Lists.{lent-from}
 use Rattle.ldpc_shape.specs.Shape.{kOf, pOf, qOf, rowsOf, total, refusalOf}
 use Rattle.ldpc_shape.specs.Accepted.{Accepted, accepted, p-is, p-pos, n-is, q-pos, q-le, rows-le}
 use Rattle.ldpc_shape.specs.Worked.{q-beside}
-use Rattle.ldpc_shape.specs.Lent.{lent-from}
 use Rattle.ldpc_edges.specs.Code.{ofRows, meets, only, ones, stairs, check, sums, parity, unmet, unmets, weight}
 use Rattle.ldpc_edges.specs.Encoder.{parity-from}
 use Rattle.ldpc_encode.specs.Sums.{Added, infoBit, Scattered, stairBit, unmetAt}

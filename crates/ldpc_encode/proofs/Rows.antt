@@ -28,7 +28,7 @@ module _ (q l j : ℕ) (hl : l < q) where
   pub at-mod : (l + j * q) % q ≡ l
   at-mod = add-mul-mod-self-right l j q ∙ mod-eq-of-lt hl
 
-  pub at-div : (l + j * q) / q ≡ j
+  at-div : (l + j * q) / q ≡ j
   at-div = add-mul-div-right l j (omega arith) ∙ ap (λ (z : ℕ). z + j) (div-eq-of-lt hl) ∙ zero-first
     where
       zero-first : 0 + j ≡ j

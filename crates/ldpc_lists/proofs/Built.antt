@@ -83,11 +83,11 @@ module _ (n : ℕ) (lens addrs : List ℕ) (A : Accepted n lens addrs) where
           room = λ c h. omega (arith, at-end c h);
         }
 
-    pub room-stairs : Room (pOf n lens) (toStairs (kOf lens) 0 (pOf n lens)) (parts (pOf n lens + 1) xs)
+    room-stairs : Room (pOf n lens) (toStairs (kOf lens) 0 (pOf n lens)) (parts (pOf n lens + 1) xs)
     unfolding allEdges
     room-stairs = room-later (pOf n lens) (meets n lens addrs) _ (parts (pOf n lens + 1) xs) room-all
 
-    pub room-meets : Room (pOf n lens) (meets n lens addrs) (putAll (toStairs (kOf lens) 0 (pOf n lens)) (parts (pOf n lens + 1) xs))
+    room-meets : Room (pOf n lens) (meets n lens addrs) (putAll (toStairs (kOf lens) 0 (pOf n lens)) (parts (pOf n lens + 1) xs))
     unfolding allEdges
     room-meets =
         room-then (pOf n lens) (kOf lens + pOf n lens) (meets n lens addrs) _ (parts (pOf n lens + 1) xs)

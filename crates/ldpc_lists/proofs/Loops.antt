@@ -30,7 +30,7 @@ same-parts base xs ys es e =
     )
 
 -- ---- one bit
-pub met-append : (P q m j : ℕ) (xs ys : List ℕ) → met P q m j (xs ++ ys) ≡ met P q m j xs ++ met P q m j ys
+met-append : (P q m j : ℕ) (xs ys : List ℕ) → met P q m j (xs ++ ys) ≡ met P q m j xs ++ met P q m j ys
 unfolding met
 met-append P q m j [] ys = refl
 met-append P q m j (a ∷ xs) ys = ap (λ (z : List Edge). edge ((a + j * q) % P) m ∷ z) (met-append P q m j xs ys)
@@ -150,7 +150,7 @@ unfolding total
 total-append [] ys = omega arith
 total-append (x ∷ xs) ys = let ih = total-append xs ys in omega arith
 
-pub before-next : (lens : List ℕ) (g : ℕ) → 0 < g → g ≤ length lens → before lens (g - 1) + getD lens (g - 1) 0 ≡ before lens g
+before-next : (lens : List ℕ) (g : ℕ) → 0 < g → g ≤ length lens → before lens (g - 1) + getD lens (g - 1) 0 ≡ before lens g
 unfolding before total
 before-next lens g h i =
     let e : suc (g - 1) ≡ g = omega arith in
@@ -188,7 +188,7 @@ module _ (P q : ℕ) (lens addrs : List ℕ) (g m end from : ℕ) (L st : Lists)
   from-is : from ≡ before lens (g - 1)
   from-is = let b = before-next lens g h i in omega arith
 
-  pub rows-room : 0 < P → Room P (ofRows P q 0 (rowsOf lens addrs)) st → Room P (ofBits P q 374 (m - 374) 0 (take (getD lens (g - 1) 0) (drop from addrs))) L
+  rows-room : 0 < P → Room P (ofRows P q 0 (rowsOf lens addrs)) st → Room P (ofBits P q 374 (m - 374) 0 (take (getD lens (g - 1) 0) (drop from addrs))) L
   rows-room pos r =
       subst (Room P (ofBits P q 374 (m - 374) 0 (take (getD lens (g - 1) 0) (drop from addrs)))) (sym l′)
       (room-then P _ (ofBits P q 374 (m - 374) 0 (take (getD lens (g - 1) 0) (drop from addrs))) rest st

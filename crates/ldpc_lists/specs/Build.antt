@@ -9,7 +9,7 @@ use native.Mathlib.Decide.{ℕ-discrete, decLt}
 use borrow.Author.Tests.{eq-eqb, ne-eqb}
 use lib.ListN.{length, take, drop, getD, set, length-set}
 use lib.Seq.{getD-set-other, ext-getD, slice, length-slice, getD-take, getD-drop}
-use Rattle.laws.specs.Put.{set-at}
+use Rattle.laws.specs.Stores.{set-at}
 use Rattle.ldpc_edges.specs.Code.{Edge, edge, only}
 use Rattle.ldpc_edges.specs.Inside.{Inside, only-length}
 use Rattle.ldpc_edges.specs.Count.{start, start-le}
@@ -59,7 +59,7 @@ only-miss : (p m c : ℕ) (es : List Edge) → (p ≡ c → ⊥) → only c (edg
 unfolding only
 only-miss p m c es e = ap (λ b. cond b (m ∷ only c es) (only c es)) (ne-eqb p c e)
 
-pub only-tail : (p m c : ℕ) (es : List Edge) → length (only c es) ≤ length (only c (edge p m ∷ es))
+only-tail : (p m c : ℕ) (es : List Edge) → length (only c es) ≤ length (only c (edge p m ∷ es))
 only-tail p m c es = go (ℕ-discrete p c)
   where
     go : Dec (p ≡ c) → length (only c es) ≤ length (only c (edge p m ∷ es))
@@ -93,7 +93,7 @@ put-at P k (edge p m ∷ es) st I l r c h =
         let a = getD-set-other (putAll es st .at) p c new 0 (λ f. e (sym f)) in
         omega (arith, ap length (only-miss p m c es e))
 
-pub room-at : (P k : ℕ) (es : List Edge) (st : Lists) → Inside P k es → Room P es st → (c : ℕ) → c < P
+room-at : (P k : ℕ) (es : List Edge) (st : Lists) → Inside P k es → Room P es st → (c : ℕ) → c < P
     → getD (putAll es st .at) c 0 + length (only c es) ≡ getD (st .at) c 0
 room-at P k es st I r = put-at P k es st I (r .long) (r .room)
 

@@ -9,7 +9,7 @@ use native.Mathlib.Numerals.{add-one}
 use lib.Dec.{eqb}
 use lib.ListN.{getD, set, length}
 use lib.Seq.{getD-set-other}
-use Rattle.laws.specs.Put.{grown}
+use Rattle.laws.specs.Stores.{grown}
 use Rattle.ldpc_edges.specs.Degree.{stairs-le}
 
 -- where the list of check c ends, and that of check c + 1 begins

@@ -46,7 +46,13 @@ fn meets(a: u16, s: u32, checks: u32) -> usize
 
 // The edges of a row, whose first bit is `first`.
 fn put_row(lists: &mut [u32], base: usize, row: &[u16], checks: u32, q: u32, first: u32)
-    requires { ⌜ (base ≤ length (now lists)) × (0 < checks) × (q ≤ 120) × (first ≤ 44880) × Room checks (ofBits checks q 374 first 0 (now row)) (parts base (now lists)) ⌝ }
+    requires { ⌜
+        (base ≤ length (now lists))
+        × (0 < checks)
+        × (q ≤ 120)
+        × (first ≤ 44880)
+        × Room checks (ofBits checks q 374 first 0 (now row)) (parts base (now lists))
+        ⌝ }
     ensures { λ _. ⌜ parts base (now (lists .exit)) ≡ putAll (ofBits checks q 374 first 0 (now (row .entry))) (parts base (now (lists .entry))) ⌝ }
 {
     let mut j: u32 = 374;
@@ -68,7 +74,15 @@ fn put_rows(
     q: u32,
     k: u32,
 )
-    requires { ⌜ (base ≤ length (now lists)) × (0 < checks) × (q ≤ 120) × (k ≡ 374 * length (now lens)) × (k ≤ 44880) × (total (now lens) ≡ length (now addrs)) × Room checks (ofRows checks q 0 (rowsOf (now lens) (now addrs))) (parts base (now lists)) ⌝ }
+    requires { ⌜
+        (base ≤ length (now lists))
+        × (0 < checks)
+        × (q ≤ 120)
+        × (k ≡ 374 * length (now lens))
+        × (k ≤ 44880)
+        × (total (now lens) ≡ length (now addrs))
+        × Room checks (ofRows checks q 0 (rowsOf (now lens) (now addrs))) (parts base (now lists))
+        ⌝ }
     ensures { λ _. ⌜ parts base (now (lists .exit)) ≡ putAll (ofRows checks q 0 (rowsOf (now (lens .entry)) (now (addrs .entry)))) (parts base (now (lists .entry))) ⌝ }
 {
     let mut g = lens.len();

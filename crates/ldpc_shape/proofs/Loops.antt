@@ -11,7 +11,7 @@ use lib.Dec.{eqb, ltb, leb}
 use lib.ListN.{length, take, drop, getD, set, replicate, length-take}
 use lib.Seq.{drop-cons, drop-length, getD-set-other, take-suc, take-length}
 use Rattle.laws.specs.Lists.{or-left, or-right, zeros-at}
-use Rattle.laws.specs.Put.{set-at}
+use Rattle.laws.specs.Stores.{set-at}
 use Rattle.ldpc_shape.specs.Shape.{qOf, total, anyOver, countMod, countsMod, badLength, refusalOf}
 use Rattle.ldpc_shape.specs.Accepted.{total-le}
 use Rattle.ldpc_shape.specs.Worked.{q-beside}
@@ -31,7 +31,7 @@ count-append q l (x ∷ xs) a = go (eqb (x % q) l) (eqb (a % q) l) (count-append
     go false true ih = ih
     go false false ih = ih
 
-pub count-le : (q l : ℕ) (xs : List ℕ) → countMod q l xs ≤ length xs
+count-le : (q l : ℕ) (xs : List ℕ) → countMod q l xs ≤ length xs
 unfolding countMod
 count-le q l [] = omega arith
 count-le q l (x ∷ xs) = go (eqb (x % q) l) (count-le q l xs)

@@ -57,7 +57,7 @@ module _ (r : Ran) where
       ap (λ (zs : List WordRecord). set zs w (recordOf r w)) e ∙ ap (λ (v : ℕ). set (recordsFrom r 0 w rs) w (recordOf r v)) z ∙ records-next 0 w rs ∙ ap (λ (n : ℕ). recordsFrom r 0 n rs) s
 
   -- a record of the run, and one past its words
-  pub record-from : (w n i : ℕ) (rs : List WordRecord) (d : WordRecord) → i < n → i < length rs → getD (recordsFrom r w n rs) i d ≡ recordOf r (w + i)
+  record-from : (w n i : ℕ) (rs : List WordRecord) (d : WordRecord) → i < n → i < length rs → getD (recordsFrom r w n rs) i d ≡ recordOf r (w + i)
   record-from w zero i rs d l m = absurd (not-suc-le-zero {n = i} l)
   record-from w (suc n) i [] d l m = absurd (not-suc-le-zero {n = i} m)
   record-from w (suc n) zero (x ∷ rs) d l m = let e : w ≡ w + 0 = omega arith in ap (recordOf r) e
@@ -73,7 +73,7 @@ module _ (r : Ran) where
   record-at i rs d l m = let e : 0 + i ≡ i = omega arith in record-from 0 (r .words) i rs d l m ∙ ap (recordOf r) e
 
   -- a run without words leaves the records as they were
-  pub records-kept : (rs : List WordRecord) → r .words ≡ 0 → recordsOf r rs ≡ rs
+  records-kept : (rs : List WordRecord) → r .words ≡ 0 → recordsOf r rs ≡ rs
   records-kept rs e = ap (λ (n : ℕ). recordsFrom r 0 n rs) e
 
 pub length-unwritten : length unwritten ≡ 4096

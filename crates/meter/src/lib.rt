@@ -121,7 +121,10 @@ pub fn run(
     work: &mut [i8],
     index: &mut [u32],
 ) -> Answer
-    ensures { λ r. ⌜ Metered n (now (lens .entry)) (now (addrs .entry)) (now (soft .entry)) set (now (out .entry)) (now (out .exit)) (now (records .entry)) (now (records .exit)) (now (tally .entry)) (now (tally .exit)) (now (work .entry)) (now (work .exit)) (now (index .entry)) (now (index .exit)) r ⌝ }
+    ensures { λ r. ⌜
+        Metered n (now (lens .entry)) (now (addrs .entry)) (now (soft .entry)) set (now (out .entry)) (now (out .exit)) (now (records .entry))
+        (now (records .exit)) (now (tally .entry)) (now (tally .exit)) (now (work .entry)) (now (work .exit)) (now (index .entry)) (now (index .exit)) r
+        ⌝ }
 {
     let was = *tally;
     let room = records.len();

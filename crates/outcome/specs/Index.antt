@@ -37,7 +37,7 @@ pub record Edges (rows : List ℕ) (s d n : ℕ) : Type 0 where
   pub inside : s + d ≤ length rows
   pub below : (e : ℕ) → e < length rows → var rows e < n
 
-pub hard-le : (z : ℤ) → hard z ≤ 1
+hard-le : (z : ℤ) → hard z ≤ 1
 hard-le z = by-cond (λ n. n ≤ 1) (negative z) 1 0 (λ _. omega arith) (λ _. omega arith)
 
 -- its values are the soft ones; there are none behind them

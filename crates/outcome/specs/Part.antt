@@ -41,7 +41,7 @@ module _ (first size : ℕ) (b : List ℕ) (P : Part first size b) where
   left = sym (changed (wordRefusal (length part)) (leftOf part) part fair)
 
   -- it is corrected exactly when a codeword of its length lies within 12 bits, and to that codeword
-  pub part-exact : Exact part (wordOut part) (decodedOf part)
+  part-exact : Exact part (wordOut part) (decodedOf part)
   part-exact =
       subst (λ (x : List ℕ). Exact part x (decodedOf part)) (sym left)
       (subst (λ (d : Decoded). Exact part (leftOf part) d) (sym answered) (exact part (omega (arith, part-length, P .most))))

@@ -172,7 +172,11 @@ pub extern "C" fn raxdov_bch_parity(message: &[u8], out: &mut [u8]) -> u32
 // The codeword of a message, in front of `out`.
 #[no_mangle]
 pub extern "C" fn raxdov_bch_encode(message: &[u8], out: &mut [u8]) -> u32
-    ensures answer { λ r. ⌜ r ≡ bch.encodedNumber (bch.encodedOf (bch.messageRefusal (length (now (message .entry))) (length (now (message .entry)) + 192) (length (now (out .entry))))) ⌝ }
+    ensures answer { λ r. ⌜
+        r
+        ≡ bch.encodedNumber
+        (bch.encodedOf (bch.messageRefusal (length (now (message .entry))) (length (now (message .entry)) + 192) (length (now (out .entry)))))
+        ⌝ }
     ensures output { λ r. ⌜ now (out .exit) ≡ bch.encodeOut (now (message .entry)) (now (out .entry)) ⌝ }
 {
     let answer = bch::encode(message, out);
@@ -274,7 +278,11 @@ fn write_records(
     bch: &[u32; 4096],
 )
     requires { ⌜ (words ≤ 4096) × (5 * words ≤ length (now records)) ⌝ }
-    ensures { λ _. ⌜ now (records .exit) ≡ recordsIn (now (state .entry)) (now (iterations .entry)) (now (unsatisfied .entry)) (now (check .entry)) (now (bch .entry)) words ++ drop (5 * words) (now (records .entry)) ⌝ }
+    ensures { λ _. ⌜
+        now (records .exit)
+        ≡ recordsIn (now (state .entry)) (now (iterations .entry)) (now (unsatisfied .entry)) (now (check .entry)) (now (bch .entry)) words ++ drop
+        (5 * words) (now (records .entry))
+        ⌝ }
 {
     let mut w: usize = 0;
     while w < words {
@@ -312,7 +320,11 @@ pub extern "C" fn raxdov_run(
     work: &mut [i8],
     index: &mut [u32],
 ) -> u32
-    ensures { λ r. ⌜ Told n (now (lens .entry)) (now (addrs .entry)) (now (soft .entry)) (settingsOfNumbers lanes limit layered step offset rounds first length) (now (out .entry)) (now (out .exit)) (now (records .entry)) (now (records .exit)) (now (tally .entry)) (now (tally .exit)) (now (ending .entry)) (now (ending .exit)) (now (work .entry)) (now (work .exit)) (now (index .entry)) (now (index .exit)) r ⌝ }
+    ensures { λ r. ⌜
+        Told n (now (lens .entry)) (now (addrs .entry)) (now (soft .entry)) (settingsOfNumbers lanes limit layered step offset rounds first length)
+        (now (out .entry)) (now (out .exit)) (now (records .entry)) (now (records .exit)) (now (tally .entry)) (now (tally .exit)) (now (ending .entry))
+        (now (ending .exit)) (now (work .entry)) (now (work .exit)) (now (index .entry)) (now (index .exit)) r
+        ⌝ }
 {
     let schedule = schedule_of(layered, step);
     let set = Settings {

@@ -77,7 +77,7 @@ stop [] rest = refl
 stop (p ∷ ps) rest = refl
 
 module _ {n base : ℕ} {rest : List ℕ} {goal : List ℤ} where
-  pub next-pair : {now : List ℕ} {count : ℕ} {l : List ℤ} → PairsLeft n base rest goal now count l → getD now 0 0 ≡ 9 → NextPair n base rest goal now count l
+  next-pair : {now : List ℕ} {count : ℕ} {l : List ℤ} → PairsLeft n base rest goal now count l → getD now 0 0 ≡ 9 → NextPair n base rest goal now count l
   next-pair {now} {count} {l} p h = go (p .left) (p .rising) (p .few) (p .here) (p .stores)
     where
       go : (left : List Pair) → Ascending n (p .least) left → count + length left ≤ 64 → now ≡ each pairText left ++ 10 ∷ rest → stored base left l ≡ goal → NextPair n base rest goal now count l
@@ -105,7 +105,8 @@ module _ {n base : ℕ} {rest : List ℕ} {goal : List ℤ} where
       go (q ∷ more) f e s (inr other) = absurd (other (ap (λ (x : List ℕ). getD x 0 0) e))
 
   -- a pair read is the next one
-  pub found-pair : {now next : List ℕ} {count position : ℕ} {l : List ℤ} {value : ℤ} {right : Bool} → NextPair n base rest goal now count l → Reads pairForm (λ p. p ≡ pairFrom position value) true right now next → (position < n) × PairsLeft n base rest goal next (count + 1) (set l (base + position) value)
+  found-pair : {now next : List ℕ} {count position : ℕ} {l : List ℤ} {value : ℤ} {right : Bool} → NextPair n base rest goal now count l
+      → Reads pairForm (λ p. p ≡ pairFrom position value) true right now next → (position < n) × PairsLeft n base rest goal next (count + 1) (set l (base + position) value)
   found-pair {now} {next} {count} {position} {l} {value} x h =
       let (e, u) = must-find h (x .pair) (each pairText (x .more) ++ 10 ∷ rest) (x .within) (x .follow) (x .here) in (
         subst (λ (p : Pair). p .position < n) e (x .below),
@@ -132,7 +133,9 @@ filling-start n base t l =
       left = λ ps rest a. record { left = ps; least = 0; rising = a .within .rising; short = a .within .short; few = omega (arith, a .within .few); here = a .here; stores = refl };
     }
 
-pub filling-again : (n base : ℕ) (t : List ℕ) (l : List ℤ) (now : List ℕ) (count : ℕ) (l′ : List ℤ) (position : ℕ) (value : ℤ) {right : Bool} {next : List ℕ} → Filling n base t l now count l′ → getD now 0 0 ≡ 9 → Reads pairForm (λ p. p ≡ pairFrom position value) true right now next → Filling n base t l next (count + 1) (set l′ (base + position) value)
+pub filling-again : (n base : ℕ) (t : List ℕ) (l : List ℤ) (now : List ℕ) (count : ℕ) (l′ : List ℤ) (position : ℕ) (value : ℤ) {right : Bool} {next : List ℕ}
+    → Filling n base t l now count l′ → getD now 0 0 ≡ 9 → Reads pairForm (λ p. p ≡ pairFrom position value) true right now next
+    → Filling n base t l next (count + 1) (set l′ (base + position) value)
 filling-again n base t l now count l′ position value f h r =
     record {
       same = length-set l′ (base + position) value ∙ f .same;
@@ -140,7 +143,8 @@ filling-again n base t l now count l′ position value f h r =
     }
 
 -- where there are pairs, the position read is below n
-pub filling-below : (n base : ℕ) (t : List ℕ) (l : List ℤ) (now : List ℕ) (count : ℕ) (l′ : List ℤ) (position : ℕ) (value : ℤ) {right : Bool} {next : List ℕ} → Filling n base t l now count l′ → getD now 0 0 ≡ 9 → Reads pairForm (λ p. p ≡ pairFrom position value) true right now next → PairsHere n t → position < n
+pub filling-below : (n base : ℕ) (t : List ℕ) (l : List ℤ) (now : List ℕ) (count : ℕ) (l′ : List ℤ) (position : ℕ) (value : ℤ) {right : Bool} {next : List ℕ}
+    → Filling n base t l now count l′ → getD now 0 0 ≡ 9 → Reads pairForm (λ p. p ≡ pairFrom position value) true right now next → PairsHere n t → position < n
 filling-below n base t l now count l′ position value f h r x = found-pair (next-pair (f .left (x .pairs) (x .rest) (x .at-place)) h) r .0
 
 pub filled-here : (text : List ℕ) (i : ℕ) (rest : List ℕ) {l goal : List ℤ} → (drop i text ≡ 10 ∷ rest) × (l ≡ goal) → Filled (drop (i + 1) text) rest l goal
@@ -169,15 +173,20 @@ word-behind n text at w rest a =
     ∙ append-assoc (9 ∷ signed (w .default)) (each pairText (w .pairs) ++ 10 ∷ []) rest
     ∙ ap (λ (l : List ℕ). (9 ∷ signed (w .default)) ++ l) (append-assoc (each pairText (w .pairs)) (10 ∷ []) rest)
 
-pub word-default : (n : ℕ) (text : List ℕ) (at : ℕ) (w : Word) (rest : List ℕ) {value : ℤ} {right : Bool} {next : List ℕ} → WordAt n (drop at text) w rest → Reads (lead 9 smalls) (λ v. v ≡ value) true right (drop (at + 1) text) next → (w .default ≡ value) × PairsAt n next (w .pairs) rest
+word-default : (n : ℕ) (text : List ℕ) (at : ℕ) (w : Word) (rest : List ℕ) {value : ℤ} {right : Bool} {next : List ℕ} → WordAt n (drop at text) w rest
+    → Reads (lead 9 smalls) (λ v. v ≡ value) true right (drop (at + 1) text) next → (w .default ≡ value) × PairsAt n next (w .pairs) rest
 word-default n text at w rest {value} {right} {next} a h =
     let (e, u) = must-find h (w .default) (each pairText (w .pairs) ++ 10 ∷ rest) (a .within .within .default) (stop (w .pairs) rest) (word-behind n text at w rest a) in
     (e, record { within = record { rising = a .within .within .pairs; few = a .within .within .few; short = a .within .short }; here = u })
 
-pub word-pairs-here : (n : ℕ) (text : List ℕ) (at : ℕ) {value : ℤ} {right : Bool} {next : List ℕ} → WordHere n (drop at text) → Reads (lead 9 smalls) (λ v. v ≡ value) true right (drop (at + 1) text) next → PairsHere n next
+pub word-pairs-here : (n : ℕ) (text : List ℕ) (at : ℕ) {value : ℤ} {right : Bool} {next : List ℕ} → WordHere n (drop at text)
+    → Reads (lead 9 smalls) (λ v. v ≡ value) true right (drop (at + 1) text) next → PairsHere n next
 word-pairs-here n text at x h = record { pairs = x .word .pairs; rest = x .rest; at-place = word-default n text at (x .word) (x .rest) (x .at-place) h .1 }
 
-pub word-filled : (n : ℕ) (text : List ℕ) (at base : ℕ) (l : List ℤ) {l₁ l₂ : List ℤ} {value : ℤ} {right : Bool} {next behind : List ℕ} → base + n ≤ length l → Reads (lead 9 smalls) (λ v. v ≡ value) true right (drop (at + 1) text) next → l₁ ≡ sets l base (replicate n value) → ((ps : List Pair) (rest : List ℕ) → PairsAt n next ps rest → Filled behind rest l₂ (stored base ps l₁)) → (w : Word) (rest : List ℕ) → WordAt n (drop at text) w rest → Filled behind rest l₂ (sets l base (softWord n w))
+pub word-filled : (n : ℕ) (text : List ℕ) (at base : ℕ) (l : List ℤ) {l₁ l₂ : List ℤ} {value : ℤ} {right : Bool} {next behind : List ℕ} → base + n ≤ length l
+    → Reads (lead 9 smalls) (λ v. v ≡ value) true right (drop (at + 1) text) next → l₁ ≡ sets l base (replicate n value)
+    → ((ps : List Pair) (rest : List ℕ) → PairsAt n next ps rest → Filled behind rest l₂ (stored base ps l₁)) → (w : Word) (rest : List ℕ) → WordAt n (drop at text) w rest
+    → Filled behind rest l₂ (sets l base (softWord n w))
 word-filled n text at base l {value = value} room h d p w rest a =
     let (e, x) = word-default n text at w rest a h in
     let f = p (w .pairs) rest x in
@@ -208,7 +217,7 @@ pub record NextWord (n : ℕ) (goal : List ℤ) (now : List ℕ) (count base : �
   pub stores : sets l base (softWord n word ++ softWords n more) ≡ goal
 
 module _ {n : ℕ} {goal : List ℤ} where
-  pub next-word : {now : List ℕ} {count base : ℕ} {l : List ℤ} → WordsLeft n goal now count base l → getD now 0 0 ≡ 87 → NextWord n goal now count base l
+  next-word : {now : List ℕ} {count base : ℕ} {l : List ℤ} → WordsLeft n goal now count base l → getD now 0 0 ≡ 87 → NextWord n goal now count base l
   next-word {now} {count} {base} {l} p h = go (p .left) (p .all) (p .few) (p .here) (p .stores)
     where
       go : (left : List Word) → All (LineWithin n) left → count + length left ≤ 16 → now ≡ each (wordForm n .write) left → sets l base (softWords n left) ≡ goal → NextWord n goal now count base l
@@ -224,7 +233,8 @@ module _ {n : ℕ} {goal : List ℤ} where
       go (w ∷ more) f e s (inl full) = absurd (omega arith)
       go (w ∷ more) f e s (inr other) = absurd (other (ap (λ (x : List ℕ). getD x 0 0) e))
 
-  word-left : {now next : List ℕ} {count base : ℕ} {l l′ : List ℤ} → NextWord n goal now count base l → ((w : Word) (rest : List ℕ) → WordAt n now w rest → Filled next rest l′ (sets l base (softWord n w))) → WordsLeft n goal next (count + 1) (base + n) l′
+  word-left : {now next : List ℕ} {count base : ℕ} {l l′ : List ℤ} → NextWord n goal now count base l
+      → ((w : Word) (rest : List ℕ) → WordAt n now w rest → Filled next rest l′ (sets l base (softWord n w))) → WordsLeft n goal next (count + 1) (base + n) l′
   word-left {base = base} {l} {l′} x f =
       let g = f (x .word) (each (wordForm n .write) (x .more)) (x .at-place) in
       record {
@@ -251,7 +261,9 @@ words-filling-start n t l =
       left = λ ws a. record { left = ws; all = lines-fine n ws (a .within .short) (a .within .all); few = omega (arith, a .within .sixteen); here = a .here; stores = refl };
     }
 
-pub words-filling-again : (n : ℕ) (t : List ℕ) (l : List ℤ) (now : List ℕ) (count base : ℕ) (l′ : List ℤ) {next : List ℕ} {l″ : List ℤ} → FillingWords n t l now count base l′ → n ≤ 1122 → getD now 0 0 ≡ 87 → length l″ ≡ length l′ → ((w : Word) (rest : List ℕ) → WordAt n now w rest → Filled next rest l″ (sets l′ base (softWord n w))) → FillingWords n t l next (count + 1) (base + n) l″
+pub words-filling-again : (n : ℕ) (t : List ℕ) (l : List ℤ) (now : List ℕ) (count base : ℕ) (l′ : List ℤ) {next : List ℕ} {l″ : List ℤ} → FillingWords n t l now count base l′
+    → n ≤ 1122 → getD now 0 0 ≡ 87 → length l″ ≡ length l′ → ((w : Word) (rest : List ℕ) → WordAt n now w rest → Filled next rest l″ (sets l′ base (softWord n w)))
+    → FillingWords n t l next (count + 1) (base + n) l″
 words-filling-again n t l now count base l′ f short h k g =
     record {
       same = k ∙ f .same;

@@ -46,7 +46,8 @@ module _ (n : ℕ) where
   pairs-start t h =
       going-start pairs (PairsWithin n) (pairs-within n) (PairsSo 0 0) t (record { rising = tt; few = omega arith; short = h }) (record { least-is = refl; count-is = refl })
 
-  pub pairs-again : (least count position : ℕ) (value : ℤ) (t now next : List ℕ) → PairsSoFar least count t now → Found pairForm (λ p. p ≡ pairFrom position value) now next → count < 64 → least ≤ position → position < n → PairsSoFar (position + 1) (count + 1) t next
+  pub pairs-again : (least count position : ℕ) (value : ℤ) (t now next : List ℕ) → PairsSoFar least count t now → Found pairForm (λ p. p ≡ pairFrom position value) now next
+      → count < 64 → least ≤ position → position < n → PairsSoFar (position + 1) (count + 1) t next
   pairs-again least count position value t now next o f c l h =
       let at : f .it .position ≡ position = ap (λ (p : Pair). p .position) (f .says) in
       going-more pairs (PairsWithin n) (pairs-within n) (PairsSo least count) (PairsSo (position + 1) (count + 1)) (λ p. p ≡ pairFrom position value) t now next o f
@@ -64,7 +65,8 @@ module _ (n : ℕ) where
   pairs-none least count t now o h m = going-missing pairs (PairsWithin n) (pairs-within n) (PairsSo least count) t now o h m
 
   -- a position that is not above the one before, or not below n
-  pub pairs-wrong : (least count position : ℕ) (value : ℤ) (t now next : List ℕ) → PairsSoFar least count t now → getD now 0 0 ≡ 9 → Found pairForm (λ p. p ≡ pairFrom position value) now next → (position < least) ⊎ (n ≤ position) → NoPairs t
+  pub pairs-wrong : (least count position : ℕ) (value : ℤ) (t now next : List ℕ) → PairsSoFar least count t now → getD now 0 0 ≡ 9
+      → Found pairForm (λ p. p ≡ pairFrom position value) now next → (position < least) ⊎ (n ≤ position) → NoPairs t
   pairs-wrong least count position value t now next o h f bad =
       going-wrong pairs (PairsWithin n) (pairs-within n) (PairsSo least count) (λ p. p ≡ pairFrom position value) t now next o h f (λ more w. go more (rising-at n 0 (o .done) (f .it) more (w .rising)) bad)
     where
@@ -72,13 +74,14 @@ module _ (n : ℕ) where
       go more r (inl l) = omega (arith, r .0, o .says .least-is, ap (λ (p : Pair). p .position) (f .says))
       go more r (inr l) = omega (arith, r .1, ap (λ (p : Pair). p .position) (f .says))
 
-  pub pairs-end : (least count : ℕ) (now : List ℕ) → (64 ≤ count) ⊎ (getD now 0 0 ≡ 9 → ⊥) → Ends pairs (PairsWithin n) (pairs-within n) (PairsSo least count) now
+  pairs-end : (least count : ℕ) (now : List ℕ) → (64 ≤ count) ⊎ (getD now 0 0 ≡ 9 → ⊥) → Ends pairs (PairsWithin n) (pairs-within n) (PairsSo least count) now
   pairs-end least count now (inl full) xs s = inr (λ x more w. too-many 64 xs x more (w .few) (omega (arith, s .count-is)))
   pairs-end least count now (inr other) xs s = inl other
 
   pub pairs-hopeless : {l : Bool} {t u : List ℕ} → NoPairs t → Reads (pair-chain n) (λ _. Unit) l false t u
   pairs-hopeless h = chain-missing pairs (PairsWithin n) (pairs-within n) (byte 10) (λ b r _ _. pairs-apart n r) h
 
-  pub pairs-read : (least count : ℕ) {l l′ : Bool} {t now next : List ℕ} → PairsSoFar least count t now → (64 ≤ count) ⊎ (getD now 0 0 ≡ 9 → ⊥) → Reads (byte 10) (λ _. Unit) l l′ now next → Reads (pair-chain n) (λ _. Unit) l l′ t next
+  pub pairs-read : (least count : ℕ) {l l′ : Bool} {t now next : List ℕ} → PairsSoFar least count t now → (64 ≤ count) ⊎ (getD now 0 0 ≡ 9 → ⊥)
+      → Reads (byte 10) (λ _. Unit) l l′ now next → Reads (pair-chain n) (λ _. Unit) l l′ t next
   pairs-read least count {now = now} o e h =
       reads-any (chain-reads pairs (PairsWithin n) (pairs-within n) (byte 10) (λ b r _ _. pairs-apart n r) o (pairs-end least count now e) h)

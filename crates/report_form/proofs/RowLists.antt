@@ -30,7 +30,8 @@ pub row-start : (into : List ℕ) (from : ℕ) (t : List ℕ) → RowSoFar into 
 row-start into from t =
     going-start addresses RowWithin (λ xs w. w .addresses) (RowSo into from 0 into) t (record { addresses = tt; few = omega arith }) (record { count-is = refl; places-are = refl })
 
-pub row-again : (into : List ℕ) (from count value : ℕ) (places : List ℕ) {t now next : List ℕ} → RowSoFar into from count places t now → Found (lead 9 (numbers 65535)) (λ v. v ≡ value) now next → count < 4 → RowSoFar into from (count + 1) (set places (from + count) value) t next
+pub row-again : (into : List ℕ) (from count value : ℕ) (places : List ℕ) {t now next : List ℕ} → RowSoFar into from count places t now
+    → Found (lead 9 (numbers 65535)) (λ v. v ≡ value) now next → count < 4 → RowSoFar into from (count + 1) (set places (from + count) value) t next
 row-again into from count value places {t} {now} {next} o f c =
     going-more addresses RowWithin (λ xs w. w .addresses) (RowSo into from count places) (RowSo into from (count + 1) (set places (from + count) value)) (λ v. v ≡ value) t now next o f
     (record {
@@ -52,16 +53,20 @@ row-ends : (into : List ℕ) (from count : ℕ) (places now : List ℕ) → (4 �
 row-ends into from count places now (inl full) xs s = inr (λ x more w. too-many 4 xs x more (w .few) (omega (arith, s .count-is)))
 row-ends into from count places now (inr other) xs s = inl other
 
-row-form : {S : List ℕ × Unit → Type 0} {S′ : List ℕ → Type 0} {l l′ l″ : Bool} {t u v : List ℕ} → ((x : List ℕ × Unit) → S x → S′ (x .0)) → Reads (byte 82) (λ _. Unit) l l′ t u → Reads row-chain S l′ l″ u v → Reads rowForm S′ l l″ t v
+row-form : {S : List ℕ × Unit → Type 0} {S′ : List ℕ → Type 0} {l l′ l″ : Bool} {t u v : List ℕ} → ((x : List ℕ × Unit) → S x → S′ (x .0)) → Reads (byte 82) (λ _. Unit) l l′ t u
+    → Reads row-chain S l′ l″ u v → Reads rowForm S′ l l″ t v
 row-form s h g = via-reads (lead 82 row-chain) (λ row. (row, tt)) (λ x. x .0) (λ _. refl) (λ _. refl) RowWithin (λ _ w. (w, tt)) (λ _ w. w .0) s (lead-reads 82 row-chain h g)
 
-pub row-none : {S : List ℕ → Type 0} (into : List ℕ) (from count : ℕ) (places : List ℕ) {l l′ : Bool} {t u now v : List ℕ} → Reads (byte 82) (λ _. Unit) l l′ t u → RowSoFar into from count places u now → getD now 0 0 ≡ 9 → Missing (lead 9 (numbers 65535)) now → Reads rowForm S l false t v
+pub row-none : {S : List ℕ → Type 0} (into : List ℕ) (from count : ℕ) (places : List ℕ) {l l′ : Bool} {t u now v : List ℕ} → Reads (byte 82) (λ _. Unit) l l′ t u
+    → RowSoFar into from count places u now → getD now 0 0 ≡ 9 → Missing (lead 9 (numbers 65535)) now → Reads rowForm S l false t v
 row-none {S} into from count places {u = u} {now} h o e m =
     row-form {S = λ x. S (x .0)} (λ x s. s) h
     (chain-missing addresses RowWithin (λ xs w. w .addresses) (byte 10) (λ b r _ _. newline-apart r)
     (going-missing addresses RowWithin (λ xs w. w .addresses) (RowSo into from count places) u now o e m))
 
-pub row-read : (into : List ℕ) (from count : ℕ) (places : List ℕ) {l l′ l″ : Bool} {t u now v : List ℕ} → Reads (byte 82) (λ _. Unit) l l′ t u → RowSoFar into from count places u now → (4 ≤ count) ⊎ (getD now 0 0 ≡ 9 → ⊥) → Reads (byte 10) (λ _. Unit) l′ l″ now v → Reads rowForm (λ row. (length row ≡ count) × (places ≡ sets into from row)) l l″ t v
+pub row-read : (into : List ℕ) (from count : ℕ) (places : List ℕ) {l l′ l″ : Bool} {t u now v : List ℕ} → Reads (byte 82) (λ _. Unit) l l′ t u
+    → RowSoFar into from count places u now → (4 ≤ count) ⊎ (getD now 0 0 ≡ 9 → ⊥) → Reads (byte 10) (λ _. Unit) l′ l″ now v
+    → Reads rowForm (λ row. (length row ≡ count) × (places ≡ sets into from row)) l l″ t v
 row-read into from count places {now = now} h o e g =
     row-form (λ x s. (s .0 .count-is, s .0 .places-are)) h
     (chain-reads addresses RowWithin (λ xs w. w .addresses) (byte 10) (λ b r _ _. newline-apart r) o (row-ends into from count places now e) g)
@@ -87,7 +92,9 @@ rows-start t =
 pub rows-total : (count : ℕ) (lengths : List ℕ) (total : ℕ) (places : List ℕ) {t now : List ℕ} → RowsSoFar count lengths total places t now → total ≤ count * 4
 rows-total count lengths total places o = omega (arith, o .says .count-is, o .says .total-is, flat-few (o .done) (o .ok .all))
 
-pub rows-again : (count : ℕ) (lengths : List ℕ) (total : ℕ) (places : List ℕ) (size : ℕ) (places′ : List ℕ) {t now next : List ℕ} → RowsSoFar count lengths total places t now → Found rowForm (λ row. (length row ≡ size) × (places′ ≡ sets places total row)) now next → count < 3 → RowsSoFar (count + 1) (set lengths count size) (total + size) places′ t next
+pub rows-again : (count : ℕ) (lengths : List ℕ) (total : ℕ) (places : List ℕ) (size : ℕ) (places′ : List ℕ) {t now next : List ℕ} → RowsSoFar count lengths total places t now
+    → Found rowForm (λ row. (length row ≡ size) × (places′ ≡ sets places total row)) now next → count < 3
+    → RowsSoFar (count + 1) (set lengths count size) (total + size) places′ t next
 rows-again count lengths total places size places′ {t} {now} {next} o f c =
     going-more rows RowsWithin rows-within (RowsSo count lengths total places) (RowsSo (count + 1) (set lengths count size) (total + size) places′) (λ row. (length row ≡ size) × (places′ ≡ sets places total row)) t now next o f
     (record {
@@ -101,7 +108,8 @@ rows-again count lengths total places size places′ {t} {now} {next} o f c =
       places-are = places-stored (o .done) (f .it) (o .says .total-is) (o .says .places-are) (f .says .1);
     })
   where
-    lengths-stored : (rs : List (List ℕ)) (r : List ℕ) → length rs ≡ count → lengths ≡ sets (replicate 3 0) 0 (map length rs) → length r ≡ size → set lengths count size ≡ sets (replicate 3 0) 0 (map length (rs ++ r ∷ []))
+    lengths-stored : (rs : List (List ℕ)) (r : List ℕ) → length rs ≡ count → lengths ≡ sets (replicate 3 0) 0 (map length rs) → length r ≡ size
+        → set lengths count size ≡ sets (replicate 3 0) 0 (map length (rs ++ r ∷ []))
     lengths-stored rs r n p e =
         let k : count ≡ 0 + length (map length rs) = sym n ∙ sym (length-map rs length) ∙ sym (zero-add (length (map length rs))) in
         ap (λ (l : List ℕ). set l count size) p
@@ -109,7 +117,8 @@ rows-again count lengths total places size places′ {t} {now} {next} o f c =
         ∙ sym (sets-append (replicate 3 0) 0 (map length rs) (length r ∷ []))
         ∙ ap (λ (l : List ℕ). sets (replicate 3 0) 0 l) (sym (map-snoc rs r))
 
-    places-stored : (rs : List (List ℕ)) (r : List ℕ) → length (flat rs) ≡ total → places ≡ sets (replicate 12 0) 0 (flat rs) → places′ ≡ sets places total r → places′ ≡ sets (replicate 12 0) 0 (flat (rs ++ r ∷ []))
+    places-stored : (rs : List (List ℕ)) (r : List ℕ) → length (flat rs) ≡ total → places ≡ sets (replicate 12 0) 0 (flat rs) → places′ ≡ sets places total r
+        → places′ ≡ sets (replicate 12 0) 0 (flat (rs ++ r ∷ []))
     places-stored rs r n p e =
         let k : total ≡ 0 + length (flat rs) = sym n ∙ sym (zero-add (length (flat rs))) in
         e
@@ -117,13 +126,16 @@ rows-again count lengths total places size places′ {t} {now} {next} o f c =
         ∙ sym (sets-append (replicate 12 0) 0 (flat rs) r)
         ∙ ap (λ (l : List ℕ). sets (replicate 12 0) 0 l) (sym (flat-snoc rs r))
 
-pub rows-none : {Says : List (List ℕ) → Type 0} (count : ℕ) (lengths : List ℕ) (total : ℕ) (places : List ℕ) {l : Bool} {t now u : List ℕ} → RowsSoFar count lengths total places t now → getD now 0 0 ≡ 82 → Missing rowForm now → Listed rows RowsWithin rows-within Says l false t u
+pub rows-none : {Says : List (List ℕ) → Type 0} (count : ℕ) (lengths : List ℕ) (total : ℕ) (places : List ℕ) {l : Bool} {t now u : List ℕ}
+    → RowsSoFar count lengths total places t now → getD now 0 0 ≡ 82 → Missing rowForm now → Listed rows RowsWithin rows-within Says l false t u
 rows-none count lengths total places {t = t} {now} o e m =
     not-listed rows RowsWithin rows-within (going-missing rows RowsWithin rows-within (RowsSo count lengths total places) t now o e m)
 
-rows-ends : (count : ℕ) (lengths : List ℕ) (total : ℕ) (places : List ℕ) (now : List ℕ) → (3 ≤ count) ⊎ (getD now 0 0 ≡ 82 → ⊥) → Ends rows RowsWithin rows-within (RowsSo count lengths total places) now
+rows-ends : (count : ℕ) (lengths : List ℕ) (total : ℕ) (places : List ℕ) (now : List ℕ) → (3 ≤ count) ⊎ (getD now 0 0 ≡ 82 → ⊥)
+    → Ends rows RowsWithin rows-within (RowsSo count lengths total places) now
 rows-ends count lengths total places now (inl full) xs s = inr (λ x more w. too-many 3 xs x more (w .three) (omega (arith, s .count-is)))
 rows-ends count lengths total places now (inr other) xs s = inl other
 
-pub rows-read : (count : ℕ) (lengths : List ℕ) (total : ℕ) (places : List ℕ) {l : Bool} {t now : List ℕ} → RowsSoFar count lengths total places t now → (3 ≤ count) ⊎ (getD now 0 0 ≡ 82 → ⊥) → Listed rows RowsWithin rows-within (RowsSo count lengths total places) l l t now
+pub rows-read : (count : ℕ) (lengths : List ℕ) (total : ℕ) (places : List ℕ) {l : Bool} {t now : List ℕ} → RowsSoFar count lengths total places t now
+    → (3 ≤ count) ⊎ (getD now 0 0 ≡ 82 → ⊥) → Listed rows RowsWithin rows-within (RowsSo count lengths total places) l l t now
 rows-read count lengths total places {now = now} o e = listed rows RowsWithin rows-within o (rows-ends count lengths total places now e)

@@ -73,10 +73,10 @@ negated : (value : ℕ) → 0 < value → pos 0 -ℤ pos value ≡ negsuc (value
 negated zero h = absurd (not-suc-le-zero h)
 negated (suc v) h = ap (λ (b : Bool). cond b (negsuc (suc v - 1)) (pos (0 - suc v))) (le-leb 1 (suc v) (omega arith))
 
-pub wide-value : (value : ℕ) → value ≤ 128 → toZ w32 value ≡ pos value
+wide-value : (value : ℕ) → value ≤ 128 → toZ w32 value ≡ pos value
 wide-value value l = toZ-pos w32 value (omega arith)
 
-pub wide-minus : (value : ℕ) → 0 < value → value ≤ 128 → pos 0 -ℤ toZ w32 value ≡ negsuc (value - 1)
+wide-minus : (value : ℕ) → 0 < value → value ≤ 128 → pos 0 -ℤ toZ w32 value ≡ negsuc (value - 1)
 wide-minus value h l = ap (λ (z : ℤ). pos 0 -ℤ z) (wide-value value l) ∙ negated value h
 
 pub wide-fits : (value : ℕ) → 0 < value → value ≤ 128 → SFits w32 (pos 0 -ℤ toZ w32 value)

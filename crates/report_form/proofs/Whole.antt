@@ -17,7 +17,8 @@ use Rattle.report_form.specs.Accepted.{flat-few, soft-words-length}
 use Rattle.report_form.specs.Places.{WordsAt, WordsHere}
 use Rattle.report_form.specs.declared.Reading.{Reading}
 
-pub head-reads : {n : ℕ} {l l′ l″ l‴ : Bool} {t u v w : List ℕ} → Reads (byte 78) (λ _. Unit) l l′ t u → Reads (lead 9 (numbers 1122)) (λ v. v ≡ n) l′ l″ u v → Reads (byte 10) (λ _. Unit) l″ l‴ v w → Reads headForm (λ x. (x .0 ≡ n) × Unit) l l‴ t w
+pub head-reads : {n : ℕ} {l l′ l″ l‴ : Bool} {t u v w : List ℕ} → Reads (byte 78) (λ _. Unit) l l′ t u → Reads (lead 9 (numbers 1122)) (λ v. v ≡ n) l′ l″ u v
+    → Reads (byte 10) (λ _. Unit) l″ l‴ v w → Reads headForm (λ x. (x .0 ≡ n) × Unit) l l‴ t w
 head-reads h n e = lead-reads 78 _ h (seq-reads (lead 9 (numbers 1122)) (byte 10) (λ _ _ _ _. refl) n e)
 
 pub head-bound : (n : ℕ) {t u : List ℕ} → Found headForm (λ x. (x .0 ≡ n) × Unit) t u → n ≤ 1122
@@ -28,7 +29,9 @@ pub no-head : {S : ℕ × Unit → Type 0} {l : Bool} {t u : List ℕ} → Reads
 no-head h e d w q =
     missing-there h e .none (d .n, tt) (bodyForm (d .n) .write (bodyOf d) ++ []) (w .n, tt) tt (sym q ∙ render-is d)
 
-pub body-reads : {S : List (List ℕ) → Type 0} {S′ : Settings → Type 0} {S″ : List Word × Unit → Type 0} (n : ℕ) {l l′ l″ l‴ : Bool} {t u v w : List ℕ} → Listed rows RowsWithin rows-within S l l′ t u → Reads settingsForm S′ l′ l″ u v → Reads (wordsForm n) S″ l″ l‴ v w → Reads (bodyForm n) (λ b. S (b .0) × (S′ (b .1 .0) × S″ (b .1 .1))) l l‴ t w
+pub body-reads : {S : List (List ℕ) → Type 0} {S′ : Settings → Type 0} {S″ : List Word × Unit → Type 0} (n : ℕ) {l l′ l″ l‴ : Bool} {t u v w : List ℕ}
+    → Listed rows RowsWithin rows-within S l l′ t u → Reads settingsForm S′ l′ l″ u v → Reads (wordsForm n) S″ l″ l‴ v w
+    → Reads (bodyForm n) (λ b. S (b .0) × (S′ (b .1 .0) × S″ (b .1 .1))) l l‴ t w
 body-reads n r s w =
     listed-reads rows RowsWithin rows-within (settingsThen n) (λ b r _ _. settings-apart _) r (seq-reads settingsForm (wordsForm n) (λ _ _ _ _. tt) s w)
 
@@ -46,7 +49,11 @@ pub words-at : {S : List Word × Unit → Type 0} (n : ℕ) {t u : List ℕ} (f 
 words-at n {t} {u} f =
     record {
       within = f .within .0;
-      here = f .here ∙ ap (λ (x : List ℕ). (each (wordForm n .write) (f .it .0) ++ []) ++ x) (f .after) ∙ append-nil (each (wordForm n .write) (f .it .0) ++ []) ∙ append-nil (each (wordForm n .write) (f .it .0));
+      here =
+          f .here
+          ∙ ap (λ (x : List ℕ). (each (wordForm n .write) (f .it .0) ++ []) ++ x) (f .after)
+          ∙ append-nil (each (wordForm n .write) (f .it .0) ++ [])
+          ∙ append-nil (each (wordForm n .write) (f .it .0));
     }
 
 pub words-here : {S : List Word × Unit → Type 0} (n : ℕ) {t u : List ℕ} → Found (wordsForm n) S t u → WordsHere n t
@@ -77,7 +84,8 @@ sets-padded k xs h =
     ∙ ap (λ (i : ℕ). xs ++ drop i (zeros k)) (zero-add (length xs))
     ∙ ap (λ (l : List ℕ). xs ++ l) (drop-zeros (length xs) k)
 
-pub rows-padded : {count : ℕ} {lengths : List ℕ} {total : ℕ} {places : List ℕ} (rs : List (List ℕ)) → RowsWithin rs → RowsSo count lengths total places rs → (lengths ≡ padded 3 (map length rs)) × (places ≡ padded 12 (flat rs))
+rows-padded : {count : ℕ} {lengths : List ℕ} {total : ℕ} {places : List ℕ} (rs : List (List ℕ)) → RowsWithin rs → RowsSo count lengths total places rs
+    → (lengths ≡ padded 3 (map length rs)) × (places ≡ padded 12 (flat rs))
 rows-padded rs w s = (
   s .lengths-are ∙ sets-padded 3 (map length rs) (omega (arith, length-map rs length, w .three)),
   s .places-are ∙ sets-padded 12 (flat rs) (omega (arith, flat-few rs (w .all), w .three)),
@@ -169,5 +177,7 @@ module _ (n count : ℕ) (lengths : List ℕ) (total : ℕ) (places : List ℕ) 
         values = e ∙ laid-over (softWords n (f .it .0)) l (omega (arith, soft-room n (f .it .0) (head-bound n h) (f .within .0 .sixteen)));
       }
 
-pub settings-as : {lanes iterations : ℕ} {offset offset′ : ℤ} {steps : Bool} {step rounds first bits : ℕ} {t u : List ℕ} → Found settingsForm (SettingsSo lanes iterations offset steps step rounds first bits) t u → offset ≡ offset′ → Found settingsForm (SettingsSo lanes iterations offset′ steps step rounds first bits) t u
+pub settings-as : {lanes iterations : ℕ} {offset offset′ : ℤ} {steps : Bool} {step rounds first bits : ℕ} {t u : List ℕ}
+    → Found settingsForm (SettingsSo lanes iterations offset steps step rounds first bits) t u → offset ≡ offset′
+    → Found settingsForm (SettingsSo lanes iterations offset′ steps step rounds first bits) t u
 settings-as {lanes} {iterations} {steps = steps} {step} {rounds} {first} {bits} {t} {u} f e = subst (λ (z : ℤ). Found settingsForm (SettingsSo lanes iterations z steps step rounds first bits) t u) e f

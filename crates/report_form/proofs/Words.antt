@@ -43,7 +43,8 @@ module _ (n : ℕ) where
   ends count now (inl full) xs s = inr (λ x more w. too-many 16 xs x more (w .sixteen) (omega (arith, s .count-is)))
   ends count now (inr other) xs s = inl other
 
-  pub words-read : (count : ℕ) {l l′ : Bool} {t now next : List ℕ} → WordsSoFar count t now → (16 ≤ count) ⊎ (getD now 0 0 ≡ 87 → ⊥) → Reads end (λ _. Unit) l l′ now next → Reads (wordsForm n) (λ w. length (w .0) ≡ count) l l′ t next
+  pub words-read : (count : ℕ) {l l′ : Bool} {t now next : List ℕ} → WordsSoFar count t now → (16 ≤ count) ⊎ (getD now 0 0 ≡ 87 → ⊥) → Reads end (λ _. Unit) l l′ now next
+      → Reads (wordsForm n) (λ w. length (w .0) ≡ count) l l′ t next
   words-read count {now = now} o e h =
       reads-both (chain-reads (words n) (WordsWithin n) (words-within n) end (λ b r _ e. end-apart n r e) o (ends count now e) h)
       (λ f. record { it = f .it; says = f .says .0 .count-is; within = f .within; here = f .here; after = f .after })

@@ -165,7 +165,8 @@ end =
 
 module _ {A B : Type 0} (F : Form A) (G : Form B) (joins : (b : B) (r : List ℕ) → G .Within b → G .Follow r → F .Follow (G .write b ++ r)) where
   -- one and then the other
-  pub seq-unique : (a b : A × B) (r s : List ℕ) → F .Within (a .0) × G .Within (a .1) → F .Within (b .0) × G .Within (b .1) → G .Follow r → G .Follow s → (F .write (a .0) ++ G .write (a .1)) ++ r ≡ (F .write (b .0) ++ G .write (b .1)) ++ s → (a ≡ b) × (r ≡ s)
+  pub seq-unique : (a b : A × B) (r s : List ℕ) → F .Within (a .0) × G .Within (a .1) → F .Within (b .0) × G .Within (b .1) → G .Follow r → G .Follow s
+      → (F .write (a .0) ++ G .write (a .1)) ++ r ≡ (F .write (b .0) ++ G .write (b .1)) ++ s → (a ≡ b) × (r ≡ s)
   seq-unique a b r s ha hb hr hs e =
       let e′ : F .write (a .0) ++ (G .write (a .1) ++ r) ≡ F .write (b .0) ++ (G .write (b .1) ++ s) =
       sym (append-assoc (F .write (a .0)) (G .write (a .1)) r) ∙ e ∙ append-assoc (F .write (b .0)) (G .write (b .1)) s in
@@ -267,7 +268,8 @@ module _ {A : Type 0} (I : Items A) (Fine : List A → Type 0) (fine : (xs : Lis
   item-here a xs u = ap (λ (x : List ℕ). getD ((x ++ each (I .form .write) xs) ++ u) 0 0) (I .begins a)
 
   -- items read so far are the first of all
-  pub items-prefix : (done xs : List A) (now u : List ℕ) → All (I .form .Within) done → All (I .form .Within) xs → Behind done now → Apart u → each (I .form .write) done ++ now ≡ each (I .form .write) xs ++ u → (more : List A) × (xs ≡ done ++ more) × (now ≡ each (I .form .write) more ++ u)
+  items-prefix : (done xs : List A) (now u : List ℕ) → All (I .form .Within) done → All (I .form .Within) xs → Behind done now → Apart u
+      → each (I .form .write) done ++ now ≡ each (I .form .write) xs ++ u → (more : List A) × (xs ≡ done ++ more) × (now ≡ each (I .form .write) more ++ u)
   items-prefix [] xs now u hd ha b p e = (xs, refl, e)
   items-prefix (d ∷ done) [] now u hd ha b p e = absurd (p .other (ap (λ (x : List ℕ). getD x 0 0) (sym e) ∙ item-here d done now))
   items-prefix (d ∷ done) (a ∷ xs) now u hd ha b p e =
@@ -313,7 +315,8 @@ module _ {A : Type 0} (I : Items A) (Fine : List A → Type 0) (fine : (xs : Lis
       ∙ sym (append-assoc (I .form .write y) (each (I .form .write) (ys ++ x ∷ [])) u)
 
   -- one item more
-  pub going-more : (Says Says′ : List A → Type 0) (S : A → Type 0) (t now next : List ℕ) (o : Ongoing Says t now) (f : Found (I .form) S now next) → Fine (o .done ++ f .it ∷ []) → Says′ (o .done ++ f .it ∷ []) → Ongoing Says′ t next
+  pub going-more : (Says Says′ : List A → Type 0) (S : A → Type 0) (t now next : List ℕ) (o : Ongoing Says t now) (f : Found (I .form) S now next) → Fine (o .done ++ f .it ∷ [])
+      → Says′ (o .done ++ f .it ∷ []) → Ongoing Says′ t next
   going-more Says Says′ S t now next o f ok s =
       record {
         done = o .done ++ f .it ∷ [];
@@ -341,10 +344,12 @@ module _ {A : Type 0} (I : Items A) (Fine : List A → Type 0) (fine : (xs : Lis
       record { more = more; ok = subst Fine x ok; within = all-behind (o .done) more (subst (All (I .form .Within)) x w); here = y }
 
   -- the next item of a list whose mark is there
-  next-item : (done : List A) (now u : List ℕ) → Rest done now u → Apart u → getD now 0 0 ≡ I .mark → (x : A) × (xs : List A) × Fine (done ++ x ∷ xs) × I .form .Within x × (now ≡ I .form .write x ++ (each (I .form .write) xs ++ u)) × I .form .Follow (each (I .form .write) xs ++ u)
+  next-item : (done : List A) (now u : List ℕ) → Rest done now u → Apart u → getD now 0 0 ≡ I .mark
+      → (x : A) × (xs : List A) × Fine (done ++ x ∷ xs) × I .form .Within x × (now ≡ I .form .write x ++ (each (I .form .write) xs ++ u)) × I .form .Follow (each (I .form .write) xs ++ u)
   next-item done now u r p h = go (r .more) (r .ok) (r .within) (r .here)
     where
-      go : (more : List A) → Fine (done ++ more) → All (I .form .Within) more → now ≡ each (I .form .write) more ++ u → (x : A) × (xs : List A) × Fine (done ++ x ∷ xs) × I .form .Within x × (now ≡ I .form .write x ++ (each (I .form .write) xs ++ u)) × I .form .Follow (each (I .form .write) xs ++ u)
+      go : (more : List A) → Fine (done ++ more) → All (I .form .Within) more → now ≡ each (I .form .write) more ++ u
+          → (x : A) × (xs : List A) × Fine (done ++ x ∷ xs) × I .form .Within x × (now ≡ I .form .write x ++ (each (I .form .write) xs ++ u)) × I .form .Follow (each (I .form .write) xs ++ u)
       go [] ok w y = absurd (p .other (ap (λ (l : List ℕ). getD l 0 0) (sym y) ∙ h))
       go (x ∷ xs) ok w y =
           (x, xs, ok, w .0, y ∙ append-assoc (I .form .write x) (each (I .form .write) xs) u, follow-each xs u (p .follow))
@@ -359,7 +364,8 @@ module _ {A : Type 0} (I : Items A) (Fine : List A → Type 0) (fine : (xs : Lis
       }
 
   -- an item with which no list goes on
-  pub going-wrong : (Says : List A → Type 0) (S : A → Type 0) (t now next : List ℕ) (o : Ongoing Says t now) → getD now 0 0 ≡ I .mark → (f : Found (I .form) S now next) → ((more : List A) → Fine (o .done ++ f .it ∷ more) → ⊥) → Hopeless t
+  pub going-wrong : (Says : List A → Type 0) (S : A → Type 0) (t now next : List ℕ) (o : Ongoing Says t now) → getD now 0 0 ≡ I .mark → (f : Found (I .form) S now next)
+      → ((more : List A) → Fine (o .done ++ f .it ∷ more) → ⊥) → Hopeless t
   going-wrong Says S t now next o h i bad =
       record {
         none = λ xs u ok p e.
@@ -412,7 +418,8 @@ module _ {A : Type 0} (I : Items A) (Fine : List A → Type 0) (fine : (xs : Lis
     abbrev chained : List A × B → List ℕ
     chained x = each (I .form .write) (x .0) ++ G .write (x .1)
 
-    pub chain-unique : (a b : List A × B) (r s : List ℕ) → Fine (a .0) × G .Within (a .1) → Fine (b .0) × G .Within (b .1) → G .Follow r → G .Follow s → chained a ++ r ≡ chained b ++ s → (a ≡ b) × (r ≡ s)
+    pub chain-unique : (a b : List A × B) (r s : List ℕ) → Fine (a .0) × G .Within (a .1) → Fine (b .0) × G .Within (b .1) → G .Follow r → G .Follow s
+        → chained a ++ r ≡ chained b ++ s → (a ≡ b) × (r ≡ s)
     chain-unique a b r s ha hb hr hs e =
         let w = each (I .form .write) in
         let e′ : w (a .0) ++ (G .write (a .1) ++ r) ≡ w (b .0) ++ (G .write (b .1) ++ s) =
@@ -436,7 +443,8 @@ module _ {A : Type 0} (I : Items A) (Fine : List A → Type 0) (fine : (xs : Lis
           unique = chain-unique;
         }
 
-    chain-answer : (Says : List A → Type 0) (S : B → Type 0) (l l′ : Bool) (t now next : List ℕ) → Going Says l t now → (l ≡ true → Ends Says now) → Answer G S l l′ now next → Answer chain (λ x. Says (x .0) × S (x .1)) true l′ t next
+    chain-answer : (Says : List A → Type 0) (S : B → Type 0) (l l′ : Bool) (t now next : List ℕ) → Going Says l t now → (l ≡ true → Ends Says now) → Answer G S l l′ now next
+        → Answer chain (λ x. Says (x .0) × S (x .1)) true l′ t next
     chain-answer Says S false true t now next g ends h = absurd (right-wrong h)
     chain-answer Says S false false t now next g ends h =
         record {
@@ -458,27 +466,32 @@ module _ {A : Type 0} (I : Items A) (Fine : List A → Type 0) (fine : (xs : Lis
               go (x .1) r (w .1) f (o .more) (o .ok) (o .here) (ends refl (g .done) (g .says));
         }
       where
-        go : (b : B) (r : List ℕ) → G .Within b → G .Follow r → (more : List A) → Fine (g .done ++ more) → now ≡ each (I .form .write) more ++ (G .write b ++ r) → (getD now 0 0 ≡ I .mark → ⊥) ⊎ ((x : A) (more : List A) → Fine (g .done ++ x ∷ more) → ⊥) → ⊥
+        go : (b : B) (r : List ℕ) → G .Within b → G .Follow r → (more : List A) → Fine (g .done ++ more) → now ≡ each (I .form .write) more ++ (G .write b ++ r)
+            → (getD now 0 0 ≡ I .mark → ⊥) ⊎ ((x : A) (more : List A) → Fine (g .done ++ x ∷ more) → ⊥) → ⊥
         go b r w f [] ok y z = h .none b r w f y
         go b r w f (a ∷ more) ok y (inl z) = z (ap (λ (l : List ℕ). getD l 0 0) y ∙ item-here a more (G .write b ++ r))
         go b r w f (a ∷ more) ok y (inr z) = z a more ok
 
-    chain-any : (Says : List A → Type 0) (S : B → Type 0) (l l′ : Bool) (t now next : List ℕ) → Ongoing Says t now → Ends Says now → Answer G S l l′ now next → Answer chain (λ x. Says (x .0) × S (x .1)) l l′ t next
+    chain-any : (Says : List A → Type 0) (S : B → Type 0) (l l′ : Bool) (t now next : List ℕ) → Ongoing Says t now → Ends Says now → Answer G S l l′ now next
+        → Answer chain (λ x. Says (x .0) × S (x .1)) l l′ t next
     chain-any Says S false l′ t now next o e h = h
     chain-any Says S true l′ t now next o e h = chain-answer Says S true l′ t now next o (λ _. e) h
 
     -- after the items read so far, the list ends
-    pub chain-reads : {Says : List A → Type 0} {S : B → Type 0} {l l′ : Bool} {t now next : List ℕ} → Ongoing Says t now → Ends Says now → Reads G S l l′ now next → Reads chain (λ x. Says (x .0) × S (x .1)) l l′ t next
+    pub chain-reads : {Says : List A → Type 0} {S : B → Type 0} {l l′ : Bool} {t now next : List ℕ} → Ongoing Says t now → Ends Says now → Reads G S l l′ now next
+        → Reads chain (λ x. Says (x .0) × S (x .1)) l l′ t next
     chain-reads {Says} {S} {l} {l′} {t} {now} {next} o e h = record { answer = chain-any Says S l l′ t now next o e (h .answer) }
 
     pub chain-missing : {S : List A × B → Type 0} {l : Bool} {t u : List ℕ} → Hopeless t → Reads chain S l false t u
     chain-missing {S} {l} {t} {u} h = reads-none (chain-answer (λ _. Unit) (λ _. Unit) false false t t u h (λ e. absurd (right-wrong (sym e))) refl)
 
-    listed-answer : (Says : List A → Type 0) (S : B → Type 0) (l l′ l″ : Bool) (t now next : List ℕ) → Lists Says l l′ t now → Answer G S l′ l″ now next → Answer chain (λ x. Says (x .0) × S (x .1)) l l″ t next
+    listed-answer : (Says : List A → Type 0) (S : B → Type 0) (l l′ l″ : Bool) (t now next : List ℕ) → Lists Says l l′ t now → Answer G S l′ l″ now next
+        → Answer chain (λ x. Says (x .0) × S (x .1)) l l″ t next
     listed-answer Says S false false l″ t now next h g = g
     listed-answer Says S false true l″ t now next h g = absurd (right-wrong h)
     listed-answer Says S true true l″ t now next h g = chain-answer Says S true l″ t now next (h .0) (λ _. h .1) g
     listed-answer Says S true false l″ t now next h g = chain-answer Says S false l″ t now next h (λ e. absurd (right-wrong (sym e))) g
 
-    pub listed-reads : {Says : List A → Type 0} {S : B → Type 0} {l l′ l″ : Bool} {t now next : List ℕ} → Listed Says l l′ t now → Reads G S l′ l″ now next → Reads chain (λ x. Says (x .0) × S (x .1)) l l″ t next
+    pub listed-reads : {Says : List A → Type 0} {S : B → Type 0} {l l′ l″ : Bool} {t now next : List ℕ} → Listed Says l l′ t now → Reads G S l′ l″ now next
+        → Reads chain (λ x. Says (x .0) × S (x .1)) l l″ t next
     listed-reads {Says} {S} {l} {l′} {l″} {t} {now} {next} h g = record { answer = listed-answer Says S l l′ l″ t now next (h .answer) (g .answer) }

@@ -132,7 +132,11 @@ settingsForm =
     (λ _ w. (w .lanes, (w .iterations, (w .offset, (w .schedule, (w .rounds, (w .first, (w .bits, tt))))))))
     (λ _ w. record { lanes = w .0; iterations = w .1 .0; offset = w .1 .1 .0; schedule = w .1 .1 .1 .0; rounds = w .1 .1 .1 .1 .0; first = w .1 .1 .1 .1 .1 .0; bits = w .1 .1 .1 .1 .1 .1 .0 })
 
-pub settings-reads : {lanes iterations step rounds first bits : ℕ} {offset : ℤ} {steps : Bool} {l₀ l₁ l₂ l₃ l₄ l₅ l₆ l₇ l₈ l₉ : Bool} {t₀ t₁ t₂ t₃ t₄ t₅ t₆ t₇ t₈ t₉ : List ℕ} → Reads (byte 80) (λ _. Unit) l₀ l₁ t₀ t₁ → Reads (lead 9 (numbers 4)) (λ v. v ≡ lanes) l₁ l₂ t₁ t₂ → Reads wides (λ v. v ≡ iterations) l₂ l₃ t₂ t₃ → Reads (lead 9 smalls) (λ v. v ≡ offset) l₃ l₄ t₃ t₄ → Reads (lead 9 schedules) (OrderSo steps step) l₄ l₅ t₄ t₅ → Reads wides (λ v. v ≡ rounds) l₅ l₆ t₅ t₆ → Reads wides (λ v. v ≡ first) l₆ l₇ t₆ t₇ → Reads wides (λ v. v ≡ bits) l₇ l₈ t₇ t₈ → Reads (byte 10) (λ _. Unit) l₈ l₉ t₈ t₉ → Reads settingsForm (SettingsSo lanes iterations offset steps step rounds first bits) l₀ l₉ t₀ t₉
+pub settings-reads : {lanes iterations step rounds first bits : ℕ} {offset : ℤ} {steps : Bool} {l₀ l₁ l₂ l₃ l₄ l₅ l₆ l₇ l₈ l₉ : Bool} {t₀ t₁ t₂ t₃ t₄ t₅ t₆ t₇ t₈ t₉ : List ℕ}
+    → Reads (byte 80) (λ _. Unit) l₀ l₁ t₀ t₁ → Reads (lead 9 (numbers 4)) (λ v. v ≡ lanes) l₁ l₂ t₁ t₂ → Reads wides (λ v. v ≡ iterations) l₂ l₃ t₂ t₃
+    → Reads (lead 9 smalls) (λ v. v ≡ offset) l₃ l₄ t₃ t₄ → Reads (lead 9 schedules) (OrderSo steps step) l₄ l₅ t₄ t₅ → Reads wides (λ v. v ≡ rounds) l₅ l₆ t₅ t₆
+    → Reads wides (λ v. v ≡ first) l₆ l₇ t₆ t₇ → Reads wides (λ v. v ≡ bits) l₇ l₈ t₇ t₈ → Reads (byte 10) (λ _. Unit) l₈ l₉ t₈ t₉
+    → Reads settingsForm (SettingsSo lanes iterations offset steps step rounds first bits) l₀ l₉ t₀ t₉
 settings-reads p a b o s r f c e =
     via-reads (lead 80 seven-fields) fieldsOf settingsOfFields (λ _. refl) (λ _. refl) SettingsWithin
     (λ _ w. (w .lanes, (w .iterations, (w .offset, (w .schedule, (w .rounds, (w .first, (w .bits, tt))))))))
@@ -159,7 +163,8 @@ pairForm =
 abbrev pub pairFrom : ℕ → ℤ → Pair
 pairFrom position value = record { position = position; value = value }
 
-pub pair-reads : {position : ℕ} {value : ℤ} {l l′ l″ : Bool} {t u v : List ℕ} → Reads wides (λ p. p ≡ position) l l′ t u → Reads (lead 9 smalls) (λ z. z ≡ value) l′ l″ u v → Reads pairForm (λ p. p ≡ pairFrom position value) l l″ t v
+pub pair-reads : {position : ℕ} {value : ℤ} {l l′ l″ : Bool} {t u v : List ℕ} → Reads wides (λ p. p ≡ position) l l′ t u → Reads (lead 9 smalls) (λ z. z ≡ value) l′ l″ u v
+    → Reads pairForm (λ p. p ≡ pairFrom position value) l l″ t v
 pair-reads {position} {value} p z =
     via-reads (seq wides (lead 9 smalls) (λ _ _ _ _. refl)) (λ p. (p .position, p .value)) (λ x. record { position = x .0; value = x .1 }) (λ _. refl) (λ _. refl) PairWithin
     (λ _ w. (w .position, w .value))
@@ -222,7 +227,8 @@ wordForm n =
     (λ _ w. (w .within .default, (record { rising = w .within .pairs; few = w .within .few; short = w .short }, tt)))
     (λ _ w. record { within = record { default = w .0; pairs = w .1 .0 .rising; few = w .1 .0 .few }; short = w .1 .0 .short })
 
-pub word-reads : {S : ℤ → Type 0} {S′ : List Pair × Unit → Type 0} (n : ℕ) {l₀ l₁ l₂ l₃ : Bool} {t₀ t₁ t₂ t₃ : List ℕ} → Reads (byte 87) (λ _. Unit) l₀ l₁ t₀ t₁ → Reads (lead 9 smalls) S l₁ l₂ t₁ t₂ → Reads (pair-chain n) S′ l₂ l₃ t₂ t₃ → Reads (wordForm n) (λ _. Unit) l₀ l₃ t₀ t₃
+pub word-reads : {S : ℤ → Type 0} {S′ : List Pair × Unit → Type 0} (n : ℕ) {l₀ l₁ l₂ l₃ : Bool} {t₀ t₁ t₂ t₃ : List ℕ} → Reads (byte 87) (λ _. Unit) l₀ l₁ t₀ t₁
+    → Reads (lead 9 smalls) S l₁ l₂ t₁ t₂ → Reads (pair-chain n) S′ l₂ l₃ t₂ t₃ → Reads (wordForm n) (λ _. Unit) l₀ l₃ t₀ t₃
 word-reads n w d p =
     via-reads (lead 87 (word-fields n)) fieldsOfWord wordOfFields (λ _. refl) (λ _. refl) (LineWithin n)
     (λ _ w. (w .within .default, (record { rising = w .within .pairs; few = w .within .few; short = w .short }, tt)))

@@ -292,7 +292,10 @@ fn read_order_field(text: &[u8], right: bool, at: usize) -> Order
 
 // The settings' line.
 fn read_settings(text: &[u8], right: bool, at: usize) -> Line
-    ensures { λ r. ⌜ Reads settingsForm (SettingsSo (r .lanes) (r .iterations) (r .offset) (r .layered) (r .step) (r .rounds) (r .first) (r .bits)) right (r .right) (drop at (now (text .entry))) (drop (r .next) (now (text .entry))) ⌝ }
+    ensures { λ r. ⌜
+        Reads settingsForm (SettingsSo (r .lanes) (r .iterations) (r .offset) (r .layered) (r .step) (r .rounds) (r .first) (r .bits)) right (r .right)
+        (drop at (now (text .entry))) (drop (r .next) (now (text .entry)))
+        ⌝ }
 {
     let letter = expect(text, right, at, b'P');
     let lanes = read_field(text, letter.right, letter.next, 4);
@@ -424,7 +427,10 @@ fn read_words(text: &[u8], right: bool, at: usize, n: u32) -> Number
 // A row's line, its addresses laid into those of all rows behind the first `from`.
 fn read_row(text: &[u8], at: usize, into: [u16; 12], from: u32) -> Row
     requires { ⌜ from ≤ 8 ⌝ }
-    ensures { λ r. ⌜ Reads rowForm (λ row. (length row ≡ r .count) × (r .addresses ≡ sets into from row)) true (r .right) (drop at (now (text .entry))) (drop (r .next) (now (text .entry))) ⌝ }
+    ensures { λ r. ⌜
+        Reads rowForm (λ row. (length row ≡ r .count) × (r .addresses ≡ sets into from row)) true (r .right) (drop at (now (text .entry)))
+        (drop (r .next) (now (text .entry)))
+        ⌝ }
 {
     let letter = expect(text, true, at, b'R');
     let mut addresses = into;
@@ -457,7 +463,10 @@ fn read_row(text: &[u8], at: usize, into: [u16; 12], from: u32) -> Row
 
 // The rows' lines, as many as there are.
 fn read_rows(text: &[u8], right: bool, at: usize) -> Rows
-    ensures { λ r. ⌜ Listed rows RowsWithin rows-within (RowsSo (r .count) (r .lengths) (r .total) (r .addresses)) right (r .right) (drop at (now (text .entry))) (drop (r .next) (now (text .entry))) ⌝ }
+    ensures { λ r. ⌜
+        Listed rows RowsWithin rows-within (RowsSo (r .count) (r .lengths) (r .total) (r .addresses)) right (r .right) (drop at (now (text .entry)))
+        (drop (r .next) (now (text .entry)))
+        ⌝ }
 {
     let mut lengths = [0u32; 3];
     let mut addresses = [0u16; 12];
@@ -510,7 +519,11 @@ fn fill_default(words: &mut [i8], base: usize, n: u32, value: i8)
 // A word's pairs, stored: the place behind their line.
 fn fill_pairs(text: &[u8], at: usize, n: u32, words: &mut [i8], base: usize) -> usize
     requires { ⌜ (base + n ≤ length (now words)) × PairsHere n (drop at (now text)) ⌝ }
-    ensures { λ r. ⌜ ((ps : List Pair) (rest : List ℕ) → PairsAt n (drop at (now (text .entry))) ps rest → Filled (drop r (now (text .entry))) rest (now (words .exit)) (stored base ps (now (words .entry)))) ⌝ }
+    ensures { λ r. ⌜
+        ((ps : List Pair) (rest : List ℕ)
+        → PairsAt n (drop at (now (text .entry))) ps rest
+        → Filled (drop r (now (text .entry))) rest (now (words .exit)) (stored base ps (now (words .entry))))
+        ⌝ }
 {
     let mut i = at;
     let mut count: u32 = 0;
@@ -528,7 +541,11 @@ fn fill_pairs(text: &[u8], at: usize, n: u32, words: &mut [i8], base: usize) -> 
 // A word's soft values: the place behind its line.
 fn fill_word(text: &[u8], at: usize, n: u32, words: &mut [i8], base: usize) -> usize
     requires { ⌜ (base + n ≤ length (now words)) × WordHere n (drop at (now text)) ⌝ }
-    ensures { λ r. ⌜ ((w : Word) (rest : List ℕ) → WordAt n (drop at (now (text .entry))) w rest → Filled (drop r (now (text .entry))) rest (now (words .exit)) (sets (now (words .entry)) base (softWord n w))) ⌝ }
+    ensures { λ r. ⌜
+        ((w : Word) (rest : List ℕ)
+        → WordAt n (drop at (now (text .entry))) w rest
+        → Filled (drop r (now (text .entry))) rest (now (words .exit)) (sets (now (words .entry)) base (softWord n w)))
+        ⌝ }
 {
     let value = read_small_field(text, true, at + 1);
     fill_default(words, base, n, value.value);

@@ -50,7 +50,7 @@ results-snoc ran w (suc count) =
     ∙ ap (λ (k : ℕ). resultIn ran w ∷ (resultsIn ran (suc w) count ++ resultIn ran k ∷ [])) (suc-add w count ∙ sym (add-suc w count))
 
 -- one word more
-pub lines-snoc : (ran : Ran) (count : ℕ) → firstLines ran (suc count) ≡ firstLines ran count ++ resultLine count (resultIn ran count)
+lines-snoc : (ran : Ran) (count : ℕ) → firstLines ran (suc count) ≡ firstLines ran count ++ resultLine count (resultIn ran count)
 lines-snoc ran count =
     ap (resultLines 0) (results-snoc ran 0 count)
     ∙ word-lines-snoc 0 (resultsIn ran 0 count) (resultIn ran (0 + count))
@@ -102,7 +102,8 @@ writing-again ran at out next out′ w {next′} {out″} h less g =
       wrote = subst (λ (t : List ℕ). Wrote t at out next′ out″) (sym (ap (firstLines ran) (add-one w) ∙ lines-snoc ran w)) (wrote-then (h .wrote) (g .wrote));
     }
 
-pub writing-end : (ran : Ran) (at : ℕ) (out : List ℕ) (next : ℕ) (out′ : List ℕ) (w : ℕ) → ran .words ≤ 16 → Writing ran at out next out′ w → ran .words ≤ w → WroteShort 832 (firstLines ran (ran .words)) at out next out′
+pub writing-end : (ran : Ran) (at : ℕ) (out : List ℕ) (next : ℕ) (out′ : List ℕ) (w : ℕ) → ran .words ≤ 16 → Writing ran at out next out′ w → ran .words ≤ w
+    → WroteShort 832 (firstLines ran (ran .words)) at out next out′
 writing-end ran at out next out′ w few h more =
     subst (λ (k : ℕ). WroteShort 832 (firstLines ran k) at out next out′) (omega (arith, h .bound, more))
     (record { wrote = h .wrote; short = omega (arith, h .place, h .wrote .next, few, h .bound) })

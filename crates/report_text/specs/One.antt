@@ -80,17 +80,21 @@ module _ (d : Description) (r r′ : Ran) (R : Run d r) (R′ : Run d r′) wher
   asked′ = runRefusal (d .n) (map length (d .rows)) (flat (d .rows)) (softWords (d .n) (d .words)) (runSettings (d .settings)) (R′ .room) (R′ .out) (R′ .work) (R′ .index)
 
   is : r .refusal ≡ asked
-  is = run-number (d .n) (map length (d .rows)) (flat (d .rows)) (softWords (d .n) (d .words)) (runSettings (d .settings)) (R .room) (R .out) (R .out′) (R .work) (R .work′) (R .index) (R .index′) r (R .runs)
+  is =
+      run-number (d .n) (map length (d .rows)) (flat (d .rows)) (softWords (d .n) (d .words)) (runSettings (d .settings)) (R .room) (R .out) (R .out′) (R .work) (R .work′)
+      (R .index) (R .index′) r (R .runs)
 
   is′ : r′ .refusal ≡ asked′
-  is′ = run-number (d .n) (map length (d .rows)) (flat (d .rows)) (softWords (d .n) (d .words)) (runSettings (d .settings)) (R′ .room) (R′ .out) (R′ .out′) (R′ .work) (R′ .work′) (R′ .index) (R′ .index′) r′ (R′ .runs)
+  is′ =
+      run-number (d .n) (map length (d .rows)) (flat (d .rows)) (softWords (d .n) (d .words)) (runSettings (d .settings)) (R′ .room) (R′ .out) (R′ .out′) (R′ .work) (R′ .work′)
+      (R′ .index) (R′ .index′) r′ (R′ .runs)
 
   asked-same : asked ≡ asked′
   unfolding runRefusal refusalOf
   asked-same = first-same _ _ _ _ _ _ _ _ (λ e. R .enough (is ∙ e)) (λ e. R′ .enough (is′ ∙ e))
 
   -- two runs of a description have the same lines
-  pub lines-same : linesOf r ≡ linesOf r′
+  lines-same : linesOf r ≡ linesOf r′
   unfolding linesOf
   lines-same = at (ℕ-discrete asked 0)
     where

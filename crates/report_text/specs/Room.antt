@@ -140,7 +140,7 @@ module _ (n : ℕ) (lens addrs : List ℕ) (soft : List ℤ) (set : Settings) (w
         λ i. le-ltb (length out) (length soft / n * n) fits i
         || (le-ltb 16 (length soft / n) room i || (le-ltb (length work) (workNeed n (eOf n lens addrs) (set .lanes)) work-enough i || le-ltb (length index) (indexNeed (pOf n lens) (eOf n lens addrs)) index-enough i))
 
-  pub never-short : runRefusal n lens addrs soft set 16 out work index ≢ 13
+  never-short : runRefusal n lens addrs soft set 16 out work index ≢ 13
   unfolding runRefusal refusalOf
   never-short = not-short (shape.refusalOf n lens addrs) _ _ _ _ _ _ (code-le n lens addrs) (λ e. long-enough (accepted n lens addrs e))
 

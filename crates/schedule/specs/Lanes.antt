@@ -14,7 +14,7 @@ use lib.Dec.{eqb}
 use lib.ListN.{length, getD, take, drop, set, length-set}
 use lib.Seq.{getD-set-same, getD-set-other, ext-getD, set-getD}
 use Rattle.laws.specs.Lists.{or-left, or-right}
-use Rattle.laws.specs.Put.{set-at}
+use Rattle.laws.specs.Stores.{set-at}
 use Rattle.schedule.specs.Run.{Words, Lane, empty, holds, Left, Stock, Turn, each, held, logged}
 use Rattle.schedule.specs.Status.{Status, waiting, holding, done, log-words, seek}
 

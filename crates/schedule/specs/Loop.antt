@@ -13,7 +13,7 @@ use lib.Seq.{ext-getD}
 use Rattle.laws.specs.Choice.{by-bool, by-cond}
 unfoldable pub use Rattle.schedule.specs.Run.{is-stopped}
 use Rattle.schedule.specs.Run.{Words, Lane, empty, holds, Left, Stock, State, Ending, finished, stopped, Result, each, held, over, fill, iterated, leave, refill, round, go, start, run}
-use Rattle.schedule.specs.Sums.{in-lane, in-lanes, in-queue, in-log, in-stock, Held, AllLanes, AllLog, each-all, each-sum, fill-sum, leave-sum, iterated-sum, iterated-all, fill-all, leave-all, leave-held}
+use Rattle.schedule.specs.Sums.{in-lane, in-lanes, in-queue, in-log, in-stock, Held, AllLanes, AllLog, each-all, each-sum, fill-sum, leave-sum, iterated-sum, iterated-all, fill-all, leave-all, all-empty, none-in, round-held}
 use Rattle.schedule.specs.Lanes.{Setup, lane-of, rows, length-rows, getD-rows, lane-held, any-held, any-is, Kept, kept-start, stock, Stands, Sized}
 use Rattle.schedule.specs.Refill.{Refilled, Assigned, fresh, refilled-later}
 use Rattle.schedule.specs.Round.{Advanced}
@@ -48,7 +48,7 @@ module _ {X : Type 0} (words : Words X) (n : ℕ) where
   any-log [] = tt
   any-log (e ∷ es) = (tt, any-log es)
 
-  pub safe-fill : (ls : List (Lane X)) (s : Stock X) → Safe ls s → Safe (each (fill words) ls s .0) (each (fill words) ls s .1)
+  safe-fill : (ls : List (Lane X)) (s : Stock X) → Safe ls s → Safe (each (fill words) ls s .0) (each (fill words) ls s .1)
   safe-fill ls s v =
       record {
         short = each-all (fill words) (Held Short) (Held Short) (λ (t : Stock X). AllLog Any (t .log))
@@ -56,7 +56,7 @@ module _ {X : Type 0} (words : Words X) (n : ℕ) where
         known = each-sum (fill words) (outside n) (fill-sum words (outside n)) ls s ∙ v .known;
       }
 
-  pub safe-round : (ls : List (Lane X)) (s : Stock X) → Safe ls s → Safe (each (leave words) (map (iterated words) ls) s .0) (each (leave words) (map (iterated words) ls) s .1)
+  safe-round : (ls : List (Lane X)) (s : Stock X) → Safe ls s → Safe (each (leave words) (map (iterated words) ls) s .0) (each (leave words) (map (iterated words) ls) s .1)
   safe-round ls s v =
       record {
         short = each-all (leave words) (Held B) (Held Short) (λ (t : Stock X). AllLog Any (t .log))
@@ -152,15 +152,6 @@ module _ {X M : Type 0} (R : Setup X M) (n round-limit : ℕ) where
       let g : i < R .lanes = omega (arith, h, length-rows (R .lanes) held′ iters col) in
       getD-rows (R .lanes) held′ iters col i g ∙ ap (λ h. lane-of h (col i) (getD iters i 0)) (z i g) ∙ sym (getD-replicate (R .lanes) i empty empty g))
 
-  all-empty : (P : ℕ → X → ℕ → Type 0) (k : ℕ) → AllLanes (Held P) (replicate k empty)
-  all-empty P zero = tt
-  all-empty P (suc k) = (tt, all-empty P k)
-
-  none-in : (f : ℕ → ℕ → ℕ) (k : ℕ) → in-lanes {X = X} f (replicate k empty) ≡ 0
-  unfolding in-lanes in-lane
-  none-in f zero = refl
-  none-in f (suc k) = omega (arith, none-in f k)
-
   all-inside : (q : List ℕ) → ((k : ℕ) → k < length q → getD q k 0 < n) → in-queue (outside n) q ≡ 0
   unfolding in-queue
   all-inside [] h = refl
@@ -182,7 +173,7 @@ module _ {X M : Type 0} (R : Setup X M) (n round-limit : ℕ) where
         log = [];
         log-is = kept-start R memory m;
         safe = subst (λ (ls : List (Lane X)). Safe (R .words) n ls (stock R 0 [])) (sym (zeros held′ iters col z))
-            (record { short = all-empty _ (R .lanes); known = omega (arith, none-in (outside n) (R .lanes), all-inside (R .order) inside) });
+            (record { short = all-empty _ (R .lanes); known = omega (arith, none-in X (outside n) (R .lanes), all-inside (R .order) inside) });
         goes = ap₂ (λ k ls. go (R .words) k (record { lanes = ls; stock = record { queue = R .order; log = [] }; rounds = 0 })) none (zeros held′ iters col z);
       }
     where
@@ -260,17 +251,17 @@ module _ {X M : Type 0} (R : Setup X M) (n round-limit : ℕ) where
     unfolding T is-stopped
     ends-finished b = stands-so finished (sym (p .goes) ∙ idle (round-limit - rounds) (not-false _ (sym busy-rows ∙ b)))
 
+    busy-held : busy ≡ true → eqb (held (rows (R .lanes) held′ iters col)) 0 ≡ false
+    busy-held b = not-true _ (sym busy-rows ∙ b)
+
     -- the limit is used up
     pub ends-stopped : busy ≡ true → rounds ≡ round-limit → (ended : Bool) → ended ≡ true → Runs ended rounds held′ iters col next memory
     unfolding settle T made is-stopped
     ends-stopped b r =
-        stands-so stopped (sym (p .goes) ∙ ap (λ k. settle k T) zero-left ∙ ap (λ b. cond b (record { ending = finished; last = T }) (record { ending = stopped; last = T })) busy-held)
+        stands-so stopped (sym (p .goes) ∙ ap (λ k. settle k T) zero-left ∙ ap (λ b. cond b (record { ending = finished; last = T }) (record { ending = stopped; last = T })) (busy-held b))
       where
         zero-left : round-limit - rounds ≡ 0
         zero-left = omega arith
-
-        busy-held : eqb (held (rows (R .lanes) held′ iters col)) 0 ≡ false
-        busy-held = not-true _ (sym busy-rows ∙ b)
 
     -- else a round
     pub goes-on : (held″ iters″ : List ℕ) (col″ : ℕ → X) (next″ : ℕ) (memory″ : ℕ → M) → next″ ≡ next → busy ≡ true → rounds ≢ round-limit
@@ -290,7 +281,7 @@ module _ {X M : Type 0} (R : Setup X M) (n round-limit : ℕ) where
           goes =
               ap (λ (m : ℕ). go (R .words) (round-limit - (rounds + 1)) (record { lanes = rows (R .lanes) held″ iters″ col″; stock = record { queue = drop next (R .order); log = x .0 }; rounds = m })) (add-one rounds)
               ∙ ap (λ (t : List (Lane X) × Stock X). go (R .words) (round-limit - (rounds + 1)) (record { lanes = t .0; stock = t .1; rounds = suc rounds })) (sym (x .2))
-              ∙ sym (ap (λ b. cond b (record { ending = finished; last = T }) (go (R .words) (round-limit - (rounds + 1)) (round (R .words) T))) busy-held)
+              ∙ sym (ap (λ b. cond b (record { ending = finished; last = T }) (go (R .words) (round-limit - (rounds + 1)) (round (R .words) T))) (busy-held b))
               ∙ ap (λ k. settle k T) (sym one-less) ∙ p .goes;
         })
       where
@@ -302,19 +293,10 @@ module _ {X M : Type 0} (R : Setup X M) (n round-limit : ℕ) where
         Begun : ℕ → X → ℕ → Type 0
         Begun w x i = 1 ≤ i
 
-        any-lane : (ls : List (Lane X)) → AllLanes (Held (λ w x i. Unit {0})) ls
-        any-lane [] = tt
-        any-lane (empty ∷ ls) = (tt, any-lane ls)
-        any-lane (holds w x i ∷ ls) = (tt, any-lane ls)
-
         once-more : AllLanes (Held Begun) (rows (R .lanes) held″ iters″ col″)
         once-more =
             subst (λ (t : List (Lane X) × Stock X). AllLanes (Held Begun) (t .0)) (x .2)
-            (each-all (leave (R .words)) (Held Begun) (Held Begun) (λ _. Unit {0}) (λ l s q _. (leave-held (R .words) Begun l s q, tt)) _ _
-            (iterated-all (R .words) (λ w x i. Unit {0}) Begun (λ w x i _. omega arith) (rows (R .lanes) held′ iters col) (any-lane (rows (R .lanes) held′ iters col))) tt .0)
+            (round-held (R .words) Begun (λ w x i. omega arith) (rows (R .lanes) held′ iters col) _)
 
         one-less : round-limit - rounds ≡ suc (round-limit - (rounds + 1))
         one-less = omega (arith, p .in-limit)
-
-        busy-held : eqb (held (rows (R .lanes) held′ iters col)) 0 ≡ false
-        busy-held = not-true _ (sym busy-rows ∙ b)

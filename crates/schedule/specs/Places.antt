@@ -24,7 +24,7 @@ unfolding count sum
 count-sum v [] = refl
 count-sum v (w ∷ q) = omega (arith, count-sum v q)
 
-pub sum-times : (k : ℕ → ℕ) (a : ℕ) (q : List ℕ) → sum (λ w. k w * a) q ≡ a * sum k q
+sum-times : (k : ℕ → ℕ) (a : ℕ) (q : List ℕ) → sum (λ w. k w * a) q ≡ a * sum k q
 unfolding sum
 sum-times k a [] = omega arith
 sum-times k a (w ∷ q) = omega (arith, sum-times k a q)
@@ -74,7 +74,7 @@ module _ {X : Type 0} where
   All P [] = Unit {0}
   All P (e ∷ es) = P (e .0) (e .1) × All P es
 
-  pub weigh-append : (f : ℕ → Status X → ℕ) (a b : List (ℕ × Status X)) → weigh f (a ++ b) ≡ weigh f a + weigh f b
+  weigh-append : (f : ℕ → Status X → ℕ) (a b : List (ℕ × Status X)) → weigh f (a ++ b) ≡ weigh f a + weigh f b
   unfolding weigh
   weigh-append f [] b = omega arith
   weigh-append f (e ∷ a) b = omega (arith, weigh-append f a b)
@@ -84,12 +84,12 @@ module _ {X : Type 0} where
   times-weigh v [] = refl
   times-weigh v (e ∷ es) = omega (arith, times-weigh v es)
 
-  pub all-append : (P : ℕ → Status X → Type 0) (a b : List (ℕ × Status X)) → All P a → All P b → All P (a ++ b)
+  all-append : (P : ℕ → Status X → Type 0) (a b : List (ℕ × Status X)) → All P a → All P b → All P (a ++ b)
   all-append P [] b p q = q
   all-append P (e ∷ a) b p q = (p .0, all-append P a b (p .1) q)
 
   -- what holds of every word in the list, and of waiting, holds of the status that is found
-  pub seek-all : (P : ℕ → Status X → Type 0) (v : ℕ) (es : List (ℕ × Status X)) → All P es → P v waiting → P v (seek v es)
+  seek-all : (P : ℕ → Status X → Type 0) (v : ℕ) (es : List (ℕ × Status X)) → All P es → P v waiting → P v (seek v es)
   unfolding seek
   seek-all P v [] p h = h
   seek-all P v (e ∷ es) p h =

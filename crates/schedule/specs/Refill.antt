@@ -11,7 +11,7 @@ use borrow.Author.Tests.{eq-eqb, ne-eqb}
 use lib.Dec.{eqb}
 use lib.ListN.{length, getD, drop, set, length-set, drop-of-length-le}
 use lib.Seq.{getD-set-same, getD-set-other, drop-cons}
-use Rattle.laws.specs.Put.{grown}
+use Rattle.laws.specs.Stores.{grown}
 use Rattle.schedule.specs.Run.{Words, Lane, empty, holds, Left, Stock, Turn, each, over, logged, load, fill}
 use Rattle.schedule.specs.Lanes.{Setup, lane-of, rows, length-rows, getD-rows, rows-ext, set-rows, from, from-start, from-end, from-step, from-same, any-held, Kept, kept-more, stock, Stands, Sized}
 
@@ -95,7 +95,7 @@ module _ {X M : Type 0} (R : Setup X M) where
   pub filling-start : (held′ iters : List ℕ) (col : ℕ → X) (next : ℕ) (memory : ℕ → M) → next ≤ length (R .order) → Filling held′ iters col next memory held′ iters col next memory
   filling-start held′ iters col next memory h = record { later = omega arith; in-order = h; held-fit = refl; iters-fit = refl; same = λ d m. (d, m, refl) }
 
-  pub filling-on : {held₀ iters₀ : List ℕ} {col₀ : ℕ → X} {next₀ : ℕ} {memory₀ : ℕ → M} {held₁ iters₁ : List ℕ} {col₁ : ℕ → X} {next₁ : ℕ} {memory₁ : ℕ → M}
+  filling-on : {held₀ iters₀ : List ℕ} {col₀ : ℕ → X} {next₀ : ℕ} {memory₀ : ℕ → M} {held₁ iters₁ : List ℕ} {col₁ : ℕ → X} {next₁ : ℕ} {memory₁ : ℕ → M}
       {held′ iters : List ℕ} {col : ℕ → X} {next : ℕ} {memory : ℕ → M}
       → Filling held₀ iters₀ col₀ next₀ memory₀ held₁ iters₁ col₁ next₁ memory₁ → Filling held₁ iters₁ col₁ next₁ memory₁ held′ iters col next memory
       → Filling held₀ iters₀ col₀ next₀ memory₀ held′ iters col next memory
@@ -128,7 +128,7 @@ module _ {X M : Type 0} (R : Setup X M) where
     taken d = ap (λ (q : List ℕ). record { queue = q; log = d }) (drop-cons (R .order) next 0 some ∙ ap (λ n. w ∷ drop n (R .order)) (sym (add-one next)))
 
     -- the word leaves at once: memory says so
-    pub filling-quick : (memory′ : ℕ → M) → over (R .words) (R .words .begin w) 0 ≡ true → memory′ w ≡ R .after w (R .words .begin w) 0 → ((v : ℕ) → v ≢ w → memory′ v ≡ memory v)
+    filling-quick : (memory′ : ℕ → M) → over (R .words) (R .words .begin w) 0 ≡ true → memory′ w ≡ R .after w (R .words .begin w) 0 → ((v : ℕ) → v ≢ w → memory′ v ≡ memory v)
         → Filling held′ iters col next memory held′ iters col (next + 1) memory′
     filling-quick memory′ z new others =
         record {
@@ -144,7 +144,7 @@ module _ {X M : Type 0} (R : Setup X M) where
         }
 
     -- the lane takes the word: its column is what the word begins with, and the other columns are as they were
-    pub filling-hold : (col′ : ℕ → X) → R .lanes ≤ length held′ → R .lanes ≤ length iters → over (R .words) (R .words .begin w) 0 ≡ false
+    filling-hold : (col′ : ℕ → X) → R .lanes ≤ length held′ → R .lanes ≤ length iters → over (R .words) (R .words .begin w) 0 ≡ false
         → col′ l ≡ R .words .begin w → ((k : ℕ) → k < R .lanes → k ≢ l → col′ k ≡ col k)
         → Filling held′ iters col next memory (set held′ l (w + 1)) (set iters l 0) col′ (next + 1) memory
     unfolding lane-of
@@ -164,7 +164,7 @@ module _ {X M : Type 0} (R : Setup X M) where
         }
 
   -- every lane is held, or no word waits
-  pub filling-end : (held₀ iters₀ : List ℕ) (col₀ : ℕ → X) (next₀ : ℕ) (memory₀ : ℕ → M) (held′ iters : List ℕ) (col : ℕ → X) (next : ℕ) (memory : ℕ → M) (busy : Bool)
+  filling-end : (held₀ iters₀ : List ℕ) (col₀ : ℕ → X) (next₀ : ℕ) (memory₀ : ℕ → M) (held′ iters : List ℕ) (col : ℕ → X) (next : ℕ) (memory : ℕ → M) (busy : Bool)
       → Filling held₀ iters₀ col₀ next₀ memory₀ held′ iters col next memory → (next < length (R .order) → (k : ℕ) → k < R .lanes → getD held′ k 0 ≢ 0)
       → busy ≡ any-held held′ (R .lanes)
       → Refilled held₀ iters₀ col₀ next₀ memory₀ held′ iters col next busy memory

@@ -7,12 +7,12 @@ use native.Mathlib.Nat.{not-suc-le-zero, mul-le-mul-left}
 use native.Mathlib.Omega.{arith}
 use borrow.Author.Tests.{eqb-true, eqb-false, ltb-false}
 use lib.Dec.{eqb, ltb}
-use lib.ListN.{length, replicate, length-replicate, length-map}
+use lib.ListN.{length, length-replicate, length-map}
 use Rattle.laws.specs.Choice.{by-cond}
 use Rattle.schedule.specs.Run.{Words, Lane, empty, holds, Stock, State, finished, stopped, Result, each, held, over, fill, iterated, leave, refill, round, go, start, run}
 use Rattle.schedule.specs.Alone.{after, end-test}
 use Rattle.schedule.specs.Demand.{after-alone, ends-alone}
-use Rattle.schedule.specs.Sums.{in-lane, in-lanes, in-queue, in-log, in-stock, one, iterations-of, Held, AllLanes, AllLog, Some, held-one, each-length, each-sum, each-all, each-before, each-queue, fill-sum, iterated-sum, iterated-all, leave-sum, leave-queue, fill-all, leave-all, leave-held, refill-full, fill-before, fill-fresh}
+use Rattle.schedule.specs.Sums.{in-lane, in-lanes, in-queue, in-log, in-stock, one, iterations-of, Held, AllLanes, AllLog, Some, held-one, each-length, each-sum, each-all, each-before, each-queue, fill-sum, iterated-sum, iterated-all, leave-sum, leave-queue, fill-all, leave-all, leave-held, refill-full, fill-before, fill-fresh, all-empty, none-in}
 
 -- every word of a state, once
 unfoldable pub total : {X : Type 0} → (ℕ → ℕ → ℕ) → State X → ℕ
@@ -60,7 +60,7 @@ module _ {X : Type 0} (words : Words X) where
   Testing w x i = (x ≡ after-alone words w i) × (i ≤ ends-alone words w)
 
   -- the test on the lane's own values is the test whether the word alone is at its end
-  pub own-test : (w : ℕ) (x : X) (i : ℕ) → x ≡ after-alone words w i → i ≤ ends-alone words w → over words x i ≡ eqb (ends-alone words w) i
+  own-test : (w : ℕ) (x : X) (i : ℕ) → x ≡ after-alone words w i → i ≤ ends-alone words w → over words x i ≡ eqb (ends-alone words w) i
   unfolding over
   own-test w x i e h = rw e (end-test (words .begin w) (words .iterate) (words .met) (words .iteration-limit) i h)
 
@@ -242,18 +242,9 @@ module _ {X : Type 0} (words : Words X) where
         sums s left = unfold round refill in omega arith
 
     -- ---- the start
-    none-held : (f : ℕ → ℕ → ℕ) (n : ℕ) → in-lanes {X = X} f (replicate n empty) ≡ 0
-    unfolding in-lanes in-lane
-    none-held f zero = refl
-    none-held f (suc n) = omega (arith, none-held f n)
-
-    all-empty : (P : ℕ → X → ℕ → Type 0) (n : ℕ) → AllLanes (Held P) (replicate n empty)
-    all-empty P zero = tt
-    all-empty P (suc n) = (tt, all-empty P n)
-
     start-spent : spent-so-far (start words order (suc others)) ≡ 0
     unfolding spent-so-far start in-log
-    start-spent = omega (arith, none-held iterations-of (suc others))
+    start-spent = omega (arith, none-in X iterations-of (suc others))
 
     start-inv : Inv (start words order (suc others))
     unfolding start total in-stock in-log
@@ -262,7 +253,7 @@ module _ {X : Type 0} (words : Words X) where
           width = length-replicate (suc others) empty;
           running = all-empty _ (suc others);
           ended = tt;
-          words-kept = λ f. omega (arith, none-held (λ w i. f w) (suc others));
+          words-kept = λ f. omega (arith, none-in X (λ w i. f w) (suc others));
           suffix = ([], refl);
           busy = omega arith;
           full = λ _. omega (arith, start-spent);

@@ -2,9 +2,9 @@
 use mathlib.Core.Path.{_≡_, refl, sym, ap, _∙_}
 use mathlib.Core.Bool.{true, false}
 use mathlib.Core.List.{List, [], _∷_, _++_, map, append-assoc}
-use Prim.Native.Nat.{ℕ, suc, _+_}
+use Prim.Native.Nat.{ℕ, zero, suc, _+_}
 use native.Mathlib.Omega.{arith}
-use lib.ListN.{length}
+use lib.ListN.{length, replicate}
 use Rattle.laws.specs.Choice.{by-cond}
 use Rattle.schedule.specs.Run.{Words, Lane, empty, holds, Left, Stock, Turn, each, held, over, logged, load, fill, iterated, leave}
 
@@ -21,6 +21,11 @@ module _ {X : Type 0} where
   unfoldable pub in-log : (ℕ → ℕ → ℕ) → List (Left X) → ℕ
   in-log f [] = 0
   in-log f (e ∷ es) = f (e .word) (e .iterations) + in-log f es
+
+pub none-in : (X : Type 0) (f : ℕ → ℕ → ℕ) (n : ℕ) → in-lanes {X = X} f (replicate n empty) ≡ 0
+unfolding in-lanes in-lane
+none-in X f zero = refl
+none-in X f (suc n) = omega (arith, none-in X f n)
 
 unfoldable pub in-queue : (ℕ → ℕ → ℕ) → List ℕ → ℕ
 in-queue f [] = 0
@@ -44,6 +49,16 @@ module _ {X : Type 0} where
   abbrev pub AllLanes : (Lane X → Type 0) → List (Lane X) → Type 0
   AllLanes P [] = Unit {0}
   AllLanes P (l ∷ ls) = P l × AllLanes P ls
+
+  -- lanes that hold no word; and of lanes nothing is asked
+  pub all-empty : (P : ℕ → X → ℕ → Type 0) (n : ℕ) → AllLanes (Held P) (replicate n empty)
+  all-empty P zero = tt
+  all-empty P (suc n) = (tt, all-empty P n)
+
+  any-lane : (ls : List (Lane X)) → AllLanes (Held (λ w x i. Unit {0})) ls
+  any-lane [] = tt
+  any-lane (empty ∷ ls) = (tt, any-lane ls)
+  any-lane (holds w x i ∷ ls) = (tt, any-lane ls)
 
   abbrev pub AllLog : (ℕ → X → ℕ → Type 0) → List (Left X) → Type 0
   AllLog P [] = Unit {0}
@@ -165,6 +180,13 @@ module _ {X : Type 0} (words : Words X) where
   unfolding leave
   leave-held P empty s p = tt
   leave-held P (holds w x i) s p = by-cond (λ (t : Turn X). Held P (t .0)) (over words x i) _ _ (λ e. tt) (λ e. p)
+
+  -- after an iteration a word that is held has had one: what holds of every number of iterations but 0 holds of it
+  pub round-held : (P : ℕ → X → ℕ → Type 0) → ((w : ℕ) (x : X) (i : ℕ) → P w x (suc i)) → (ls : List (Lane X)) (s : Stock X)
+      → AllLanes (Held P) (each (leave words) (map (iterated words) ls) s .0)
+  round-held P h ls s =
+      each-all (leave words) (Held P) (Held P) (λ _. Unit {0}) (λ l t q _. (leave-held P l t q, tt)) _ s
+      (iterated-all (λ w x i. Unit {0}) P (λ w x i _. h w (words .iterate x) i) ls (any-lane ls)) tt .0
 
   -- ---- while a word waits after refilling, every lane is held
   load-full : (q : List ℕ) (d : List (Left X)) → Some (load words q d .1 .queue) → (in-lane one (load words q d .0) ≡ 1) × Some q

@@ -12,7 +12,7 @@ use lib.ListN.{length, replicate, length-map}
 use Rattle.laws.specs.Choice.{by-cond, by-bool, same}
 use Rattle.schedule.specs.Run.{Words, Lane, empty, holds, Left, Stock, State, Turn, finished, stopped, Result, each, held, over, logged, load, fill, iterated, leave, refill, round, go, start, run}
 use Rattle.schedule.specs.Status.{Status, waiting, holding, done, spent, lane-words, log-words, all-words, status, times, count, sum, case}
-use Rattle.schedule.specs.Sums.{Held, AllLanes, AllLog, each-length, each-all, each-queue, iterated-all, leave-queue, leave-all, leave-held}
+use Rattle.schedule.specs.Sums.{Held, AllLanes, AllLog, each-length, each-all, each-queue, iterated-all, leave-queue, leave-all, all-empty, round-held}
 use Rattle.schedule.specs.Demand.{after-alone, ends-alone}
 use Rattle.schedule.specs.Rounds.{Running, Ended, Testing, out, stays, begins, one-more, Good, run-good}
 use Rattle.schedule.specs.Places.{weigh, times-weigh, weigh-parts, only-found, By-status, by-status}
@@ -399,7 +399,10 @@ module _ {X : Type 0} (words : Words X) where
       free-same = omega (arith, free-is (s .lanes), free-is (t .lanes), a .width-same, a .lanes-same (λ w st. 1))
 
       left : Same (free (s .lanes)) (s .lanes) (s .stock) 0 (each (fill words) (s .lanes) (s .stock) .0) (each (fill words) (s .lanes) (s .stock) .1)
-      left = let e : free (s .lanes) + 0 ≡ free (s .lanes) = omega arith in subst (λ k. Same k (s .lanes) (s .stock) 0 (each (fill words) (s .lanes) (s .stock) .0) (each (fill words) (s .lanes) (s .stock) .1)) e (fill-same (s .lanes) (s .stock) 0)
+      left =
+          let e : free (s .lanes) + 0 ≡ free (s .lanes) = omega arith in
+          subst (λ k. Same k (s .lanes) (s .stock) 0 (each (fill words) (s .lanes) (s .stock) .0) (each (fill words) (s .lanes) (s .stock) .1)) e
+          (fill-same (s .lanes) (s .stock) 0)
 
       right : Same (free (t .lanes)) (t .lanes) (t .stock) 0 (p .0) (p .1)
       right = let h : length (t .stock .queue) ≤ length (t .stock .queue) = omega arith in same-on (many .same) (same-end (p .0) (p .1) (many .settled (inr h)))
@@ -469,63 +472,38 @@ module _ {X : Type 0} (words : Words X) where
 
   round-tested : (s : State X) → AllLanes (Held Tested) (round words s .lanes)
   unfolding round
-  round-tested s =
-      each-all (leave words) (Held Tested) (Held Tested) (λ _. Unit {0}) (λ l t q _. (leave-held words Tested l t q, tt)) _ _
-      (iterated-all words (λ w x i. Unit {0}) Tested (λ w x i _ e. absurd (omega arith)) (s .lanes) (any-lane (s .lanes))) tt .0
-    where
-      any-lane : (ls : List (Lane X)) → AllLanes (Held (λ w x i. Unit {0})) ls
-      any-lane [] = tt
-      any-lane (empty ∷ ls) = (tt, any-lane ls)
-      any-lane (holds w x i ∷ ls) = (tt, any-lane ls)
+  round-tested s = round-held words Tested (λ w x i e. absurd (omega arith)) (s .lanes) (s .stock)
 
   pub record Same-run (r q : Result X) : Type 0 where
     pub ending-same : r .ending ≡ q .ending
     pub alike : Alike (r .last) (q .last)
 
+  -- the same test, and the same results either way
+  by-test : {p p′ q q′ : Result X} (x y : Bool) → x ≡ y → Same-run p p′ → Same-run q q′ → Same-run (cond x p q) (cond y p′ q′)
+  by-test true true e u v = u
+  by-test false false e u v = v
+  by-test true false e u v = absurd (true≢false e)
+  by-test false true e u v = absurd (false≢true e)
+
+  tests-same : (s t : State X) → Alike s t → eqb (held (s .lanes)) 0 ≡ eqb (held (t .lanes)) 0
+  tests-same s t a = ap (λ n. eqb n 0) (held-weigh (s .lanes) ∙ a .lanes-same (λ w st. 1) ∙ sym (held-weigh (t .lanes)))
+
   go-alike : (left : ℕ) (s t : State X) → Alike s t → AllLanes (Held Tested) (t .lanes) → Same-run (go words left s) (go-together left t)
   unfolding go go-together
-  go-alike zero s t a h = by-held (eqb (held (refill words s .lanes)) 0) (eqb (held (refill-together t .lanes)) 0) tests-same
-    where
-      b : Alike (refill words s) (refill-together t)
-      b = refill-alike s t a h
-
-      tests-same : eqb (held (refill words s .lanes)) 0 ≡ eqb (held (refill-together t .lanes)) 0
-      tests-same = ap (λ n. eqb n 0) (held-weigh (refill words s .lanes) ∙ b .lanes-same (λ w st. 1) ∙ sym (held-weigh (refill-together t .lanes)))
-
-      by-held : (x y : Bool) → x ≡ y
-          → Same-run (cond x (record { ending = finished; last = refill words s }) (record { ending = stopped; last = refill words s }))
-          (cond y (record { ending = finished; last = refill-together t }) (record { ending = stopped; last = refill-together t }))
-      by-held true true e = record { ending-same = refl; alike = b }
-      by-held false false e = record { ending-same = refl; alike = b }
-      by-held true false e = absurd (true≢false e)
-      by-held false true e = absurd (false≢true e)
-  go-alike (suc left) s t a h = by-held (eqb (held (refill words s .lanes)) 0) (eqb (held (refill-together t .lanes)) 0) tests-same
-      (go-alike left (round words (refill words s)) (round words (refill-together t)) (round-alike _ _ (refill-alike s t a h)) (round-tested (refill-together t)))
-    where
-      b : Alike (refill words s) (refill-together t)
-      b = refill-alike s t a h
-
-      tests-same : eqb (held (refill words s .lanes)) 0 ≡ eqb (held (refill-together t .lanes)) 0
-      tests-same = ap (λ n. eqb n 0) (held-weigh (refill words s .lanes) ∙ b .lanes-same (λ w st. 1) ∙ sym (held-weigh (refill-together t .lanes)))
-
-      by-held : (x y : Bool) → x ≡ y → Same-run (go words left (round words (refill words s))) (go-together left (round words (refill-together t)))
-          → Same-run (cond x (record { ending = finished; last = refill words s }) (go words left (round words (refill words s))))
-          (cond y (record { ending = finished; last = refill-together t }) (go-together left (round words (refill-together t))))
-      by-held true true e r = record { ending-same = refl; alike = b }
-      by-held false false e r = r
-      by-held true false e r = absurd (true≢false e)
-      by-held false true e r = absurd (false≢true e)
-
-  none-tested : (n : ℕ) → AllLanes (Held Tested) (replicate n empty)
-  none-tested zero = tt
-  none-tested (suc n) = (tt, none-tested n)
+  go-alike zero s t a h =
+      let b = refill-alike s t a h in
+      by-test _ _ (tests-same (refill words s) (refill-together t) b) (record { ending-same = refl; alike = b }) (record { ending-same = refl; alike = b })
+  go-alike (suc left) s t a h =
+      let b = refill-alike s t a h in
+      by-test _ _ (tests-same (refill words s) (refill-together t) b) (record { ending-same = refl; alike = b })
+      (go-alike left (round words (refill words s)) (round words (refill-together t)) (round-alike _ _ b) (round-tested (refill-together t)))
 
   -- refilling lane by lane and refilling in passes make the same run
   pub same-run : (order : List ℕ) (lanes round-limit : ℕ) → Same-run (run words order lanes round-limit) (run-together order lanes round-limit)
   unfolding run run-together
   same-run order lanes round-limit =
       go-alike round-limit (start words order lanes) (start words order lanes)
-      (record { rounds-same = refl; width-same = refl; queue-same = refl; lanes-same = λ f. refl; log-same = λ f. refl }) (unfold start in none-tested lanes)
+      (record { rounds-same = refl; width-same = refl; queue-same = refl; lanes-same = λ f. refl; log-same = λ f. refl }) (unfold start in all-empty _ lanes)
 
   -- ---- and every word has the same status: the same kind and iterations, and the values that it has alone after them
   abbrev Mid : ℕ → X → ℕ → Type 0

@@ -27,7 +27,8 @@ pub record Scan (v : ℕ → ℕ) (s base lanes at : ℕ) (a : List ℤ) (d : �
   pub min2-is : (k : ℕ) → k < 16 → n m2 k ≡ min2 (tAt v s base (column lanes a (at + k))) d
   pub sign-is : (k : ℕ) → k < 16 → negative (z g k) ≡ parity (tAt v s base (column lanes a (at + k))) d
 
-pub scan-start : (v : ℕ → ℕ) (s base lanes at : ℕ) (a t : List ℤ) (m1 m2 : List ℕ) (g : List ℤ) → ((k : ℕ) → k < 16 → n m1 k ≡ 127) → ((k : ℕ) → k < 16 → n m2 k ≡ 127) → ((k : ℕ) → k < 16 → z g k ≡ pos 0) → Scan v s base lanes at a 0 t m1 m2 g
+pub scan-start : (v : ℕ → ℕ) (s base lanes at : ℕ) (a t : List ℤ) (m1 m2 : List ℕ) (g : List ℤ) → ((k : ℕ) → k < 16 → n m1 k ≡ 127) → ((k : ℕ) → k < 16 → n m2 k ≡ 127)
+    → ((k : ℕ) → k < 16 → z g k ≡ pos 0) → Scan v s base lanes at a 0 t m1 m2 g
 unfolding min1 min2 parity
 scan-start v s base lanes at a t m1 m2 g h1 h2 h3 =
     record { t-is = λ k q e h. absurd (omega (arith, h)); min1-is = h1; min2-is = h2; sign-is = λ k q. ap negative (h3 k q) }
@@ -81,7 +82,7 @@ unfoldable pub written : ℕ → (ℕ → ℕ) → ℕ → (ℕ → ℤ) → (�
 written base v s m y f zero = f
 written base v s m y f (suc d) = put (put (written base v s m y f d) (base + (s + d)) (m d)) (v (s + d)) (y d)
 
-pub written-same : (base : ℕ) (v : ℕ → ℕ) (s : ℕ) (m m′ y y′ f : ℕ → ℤ) (d : ℕ) → ((k : ℕ) → k < d → m k ≡ m′ k) → ((k : ℕ) → k < d → y k ≡ y′ k) → written base v s m y f d ≡ written base v s m′ y′ f d
+written-same : (base : ℕ) (v : ℕ → ℕ) (s : ℕ) (m m′ y y′ f : ℕ → ℤ) (d : ℕ) → ((k : ℕ) → k < d → m k ≡ m′ k) → ((k : ℕ) → k < d → y k ≡ y′ k) → written base v s m y f d ≡ written base v s m′ y′ f d
 unfolding written
 written-same base v s m m′ y y′ f zero h g = refl
 written-same base v s m m′ y y′ f (suc d) h g =
@@ -100,7 +101,7 @@ pub record Replied (w : ℕ) (v : ℕ → ℕ) (s base lanes at : ℕ) (t g : Li
   pub inside : Inside w v s base lanes at t g least m1 m2 a d a′
   pub outside : (i : ℕ) → i < lanes → Off at w i → column lanes a′ i ≡ column lanes a i
 
-pub inside-start : (w : ℕ) (v : ℕ → ℕ) (s base lanes at : ℕ) (t g : List ℤ) (least : List ℕ) (m1 m2 a : List ℤ) → Inside w v s base lanes at t g least m1 m2 a 0 a
+inside-start : (w : ℕ) (v : ℕ → ℕ) (s base lanes at : ℕ) (t g : List ℤ) (least : List ℕ) (m1 m2 a : List ℤ) → Inside w v s base lanes at t g least m1 m2 a 0 a
 unfolding written
 inside-start w v s base lanes at t g least m1 m2 a = record { is = λ k q. refl }
 
@@ -109,7 +110,7 @@ replied-start w v s base lanes at t g least m1 m2 a = record { inside = inside-s
 
 module _ {w : ℕ} {v : ℕ → ℕ} {s base lanes at : ℕ} {t g : List ℤ} {least : List ℕ} {m1 m2 a : List ℤ} {d : ℕ} {a′ a″ x m y : List ℤ} {u : ℕ} where
   -- one edge more: its message, then its value
-  pub inside-again : w ≤ 16 → Inside w v s base lanes at t g least m1 m2 a d a′ → u ≡ v (s + d)
+  inside-again : w ≤ 16 → Inside w v s base lanes at t g least m1 m2 a d a′ → u ≡ v (s + d)
       → ((k : ℕ) → k < 16 → z x k ≡ column 16 t (0 + k) d) → Answered x g least m1 m2 m y
       → ((k : ℕ) → k < w → column lanes a″ (at + k) ≡ put (put (column lanes a′ (at + k)) (base + (s + d)) (z m k)) u (z y k))
       → Inside w v s base lanes at t g least m1 m2 a (suc d) a″
@@ -137,10 +138,12 @@ module _ {w : ℕ} {v : ℕ → ℕ} {s base lanes at : ℕ} {t g : List ℤ} {l
         outside = λ i q f. sy .outside i q f ∙ sm .outside i q f ∙ c .outside i q f;
       })
 
-pub replied-width : {w w′ : ℕ} {v : ℕ → ℕ} {s base lanes at : ℕ} {t g : List ℤ} {least : List ℕ} {m1 m2 a : List ℤ} {d : ℕ} {a′ : List ℤ} → w ≡ w′ → Replied w v s base lanes at t g least m1 m2 a d a′ → Replied w′ v s base lanes at t g least m1 m2 a d a′
+pub replied-width : {w w′ : ℕ} {v : ℕ → ℕ} {s base lanes at : ℕ} {t g : List ℤ} {least : List ℕ} {m1 m2 a : List ℤ} {d : ℕ} {a′ : List ℤ} → w ≡ w′
+    → Replied w v s base lanes at t g least m1 m2 a d a′ → Replied w′ v s base lanes at t g least m1 m2 a d a′
 replied-width {w} {w′} {v} {s} {base} {lanes} {at} {t} {g} {least} {m1} {m2} {a} {d} {a′} e c = subst (λ (j : ℕ). Replied j v s base lanes at t g least m1 m2 a d a′) e c
 
-pub replied-end : {w : ℕ} {v : ℕ → ℕ} {s base lanes at : ℕ} {t g : List ℤ} {least : List ℕ} {m1 m2 a : List ℤ} {i d : ℕ} {a′ : List ℤ} → i ≡ d → Replied w v s base lanes at t g least m1 m2 a i a′ → Replied w v s base lanes at t g least m1 m2 a d a′
+pub replied-end : {w : ℕ} {v : ℕ → ℕ} {s base lanes at : ℕ} {t g : List ℤ} {least : List ℕ} {m1 m2 a : List ℤ} {i d : ℕ} {a′ : List ℤ} → i ≡ d
+    → Replied w v s base lanes at t g least m1 m2 a i a′ → Replied w v s base lanes at t g least m1 m2 a d a′
 replied-end {w} {v} {s} {base} {lanes} {at} {t} {g} {least} {m1} {m2} {a} {i} {d} {a′} e c = subst (λ (j : ℕ). Replied w v s base lanes at t g least m1 m2 a j a′) e c
 
 -- ---- what was made ready of a scan: it is a scan with the least and the signs that the answers use
@@ -152,7 +155,7 @@ module _ {v : ℕ → ℕ} {s d base lanes at : ℕ} {a t g g′ : List ℤ} {m1
   least-reduced = record { is = λ k q. h .r1 .is k q ∙ ap (λ (x : ℕ). reduced o (min x 127)) (sym (h .least-is k q)) }
 
   -- the lanes' columns are checked
-  pub inside-is : {w : ℕ} (a′ : List ℤ) → w ≤ 16 → Inside w v s base lanes at t g′ least r1 r2 a d a′ → (k : ℕ) → k < w → column lanes a′ (at + k) ≡ checkColumn o v s d base (column lanes a (at + k))
+  inside-is : {w : ℕ} (a′ : List ℤ) → w ≤ 16 → Inside w v s base lanes at t g′ least r1 r2 a d a′ → (k : ℕ) → k < w → column lanes a′ (at + k) ≡ checkColumn o v s d base (column lanes a (at + k))
   unfolding checkColumn
   inside-is {w} a′ narrow p k q =
       p .is k q
@@ -168,7 +171,8 @@ pub record RepliedTwo (v : ℕ → ℕ) (s base lanes at : ℕ) (t g : List ℤ)
   pub two : Inside 16 v s base lanes (at + 16) u h most n1 n2 a d a′
   pub outside : (i : ℕ) → i < lanes → Off at 32 i → column lanes a′ i ≡ column lanes a i
 
-pub two-start : (v : ℕ → ℕ) (s base lanes at : ℕ) (t g : List ℤ) (least : List ℕ) (m1 m2 u h : List ℤ) (most : List ℕ) (n1 n2 a : List ℤ) → RepliedTwo v s base lanes at t g least m1 m2 u h most n1 n2 a 0 a
+pub two-start : (v : ℕ → ℕ) (s base lanes at : ℕ) (t g : List ℤ) (least : List ℕ) (m1 m2 u h : List ℤ) (most : List ℕ) (n1 n2 a : List ℤ)
+    → RepliedTwo v s base lanes at t g least m1 m2 u h most n1 n2 a 0 a
 two-start v s base lanes at t g least m1 m2 u h most n1 n2 a =
     record { one = inside-start 16 v s base lanes at t g least m1 m2 a; two = inside-start 16 v s base lanes (at + 16) u h most n1 n2 a; outside = λ i q f. refl }
 
@@ -202,11 +206,13 @@ module _ {v : ℕ → ℕ} {s base lanes at : ℕ} {t g : List ℤ} {least : Lis
             ∙ c .outside i q f;
       })
 
-pub two-end : {v : ℕ → ℕ} {s base lanes at : ℕ} {t g : List ℤ} {least : List ℕ} {m1 m2 u h : List ℤ} {most : List ℕ} {n1 n2 a : List ℤ} {i d : ℕ} {a′ : List ℤ} → i ≡ d → RepliedTwo v s base lanes at t g least m1 m2 u h most n1 n2 a i a′ → RepliedTwo v s base lanes at t g least m1 m2 u h most n1 n2 a d a′
+pub two-end : {v : ℕ → ℕ} {s base lanes at : ℕ} {t g : List ℤ} {least : List ℕ} {m1 m2 u h : List ℤ} {most : List ℕ} {n1 n2 a : List ℤ} {i d : ℕ} {a′ : List ℤ} → i ≡ d
+    → RepliedTwo v s base lanes at t g least m1 m2 u h most n1 n2 a i a′ → RepliedTwo v s base lanes at t g least m1 m2 u h most n1 n2 a d a′
 two-end {v} {s} {base} {lanes} {at} {t} {g} {least} {m1} {m2} {u} {h} {most} {n1} {n2} {a} {i} {d} {a′} e c = subst (λ (j : ℕ). RepliedTwo v s base lanes at t g least m1 m2 u h most n1 n2 a j a′) e c
 
 -- two halves of sixteen lanes are thirty-two
-pub halves : (F : (ℕ → ℤ) → ℕ → ℤ) (lanes at : ℕ) (a a′ : List ℤ) → ((k : ℕ) → k < 16 → column lanes a′ (at + k) ≡ F (column lanes a (at + k))) → ((k : ℕ) → k < 16 → column lanes a′ (at + 16 + k) ≡ F (column lanes a (at + 16 + k)))
+pub halves : (F : (ℕ → ℤ) → ℕ → ℤ) (lanes at : ℕ) (a a′ : List ℤ) → ((k : ℕ) → k < 16 → column lanes a′ (at + k) ≡ F (column lanes a (at + k)))
+    → ((k : ℕ) → k < 16 → column lanes a′ (at + 16 + k) ≡ F (column lanes a (at + 16 + k)))
     → (k : ℕ) → k < 32 → column lanes a′ (at + k) ≡ F (column lanes a (at + k))
 halves F lanes at a a′ one two k q = go (ltb k 16) refl
   where
@@ -217,14 +223,16 @@ halves F lanes at a a′ one two k q = go (ltb k 16) refl
         let y : at + 16 + (k - 16) ≡ at + k = omega arith in
         subst (λ (j : ℕ). column lanes a′ j ≡ F (column lanes a j)) y (two (k - 16) (omega arith))
 
-pub two-is : {v : ℕ → ℕ} {s d base lanes at : ℕ} {a a′ t g g′ u h h′ : List ℤ} {m1 m2 least k1 k2 most : List ℕ} {o : ℤ} {r1 r2 n1 n2 : List ℤ} → Scan v s base lanes at a d t m1 m2 g → Readied o m1 m2 g g′ least r1 r2
+pub two-is : {v : ℕ → ℕ} {s d base lanes at : ℕ} {a a′ t g g′ u h h′ : List ℤ} {m1 m2 least k1 k2 most : List ℕ} {o : ℤ} {r1 r2 n1 n2 : List ℤ}
+    → Scan v s base lanes at a d t m1 m2 g → Readied o m1 m2 g g′ least r1 r2
     → Scan v s base lanes (at + 16) a d u k1 k2 h → Readied o k1 k2 h h′ most n1 n2
     → RepliedTwo v s base lanes at t g′ least r1 r2 u h′ most n1 n2 a d a′ → Part (checkColumn o v s d base) 32 lanes at a a′
 two-is {v} {s} {d} {base} {lanes} {at} {a} {a′} {o = o} c e c′ e′ p =
     record { inside = halves (checkColumn o v s d base) lanes at a a′ (inside-is c e a′ (omega arith) (p .one)) (inside-is c′ e′ a′ (omega arith) (p .two)); outside = p .outside }
 
 -- of a memory whose columns are the same there
-pub scan-to : {v : ℕ → ℕ} {s base lanes at : ℕ} {a : List ℤ} (b : List ℤ) {d : ℕ} {t g : List ℤ} {m1 m2 : List ℕ} → ((k : ℕ) → k < 16 → column lanes a (at + k) ≡ column lanes b (at + k)) → Scan v s base lanes at a d t m1 m2 g → Scan v s base lanes at b d t m1 m2 g
+pub scan-to : {v : ℕ → ℕ} {s base lanes at : ℕ} {a : List ℤ} (b : List ℤ) {d : ℕ} {t g : List ℤ} {m1 m2 : List ℕ}
+    → ((k : ℕ) → k < 16 → column lanes a (at + k) ≡ column lanes b (at + k)) → Scan v s base lanes at a d t m1 m2 g → Scan v s base lanes at b d t m1 m2 g
 scan-to {v} {s} {base} {lanes} {at} {a} b {d} same c =
     record {
       t-is = λ k q e h. c .t-is k q e h ∙ ap (λ (f : ℕ → ℤ). tAt v s base f e) (same k q);

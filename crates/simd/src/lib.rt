@@ -68,7 +68,10 @@ pub fn scan_two(
 ) -> Two
     requires { ⌜ Room (now rows) s d n lanes (now a) ⌝ }
     requires { ⌜ (at + 32 ≤ lanes) × ((2048 ≤ length (now t)) × (2048 ≤ length (now u))) ⌝ }
-    ensures { λ q. ⌜ Scan (var (now (rows .entry))) s n lanes at (now (a .entry)) d (now (t .exit)) (q .one .min1) (q .one .min2) (q .one .sign) × Scan (var (now (rows .entry))) s n lanes (at + 16) (now (a .entry)) d (now (u .exit)) (q .two .min1) (q .two .min2) (q .two .sign) ⌝ }
+    ensures { λ q. ⌜
+        Scan (var (now (rows .entry))) s n lanes at (now (a .entry)) d (now (t .exit)) (q .one .min1) (q .one .min2) (q .one .sign)
+        × Scan (var (now (rows .entry))) s n lanes (at + 16) (now (a .entry)) d (now (u .exit)) (q .two .min1) (q .two .min2) (q .two .sign)
+        ⌝ }
 {
     let mut one = Pass {
         min1: [127; 16],
@@ -193,7 +196,10 @@ fn reply_two(
     requires { ⌜ Room (now rows) s d n lanes (now a) ⌝ }
     requires { ⌜ (at + 32 ≤ lanes) × ((2048 ≤ length (now t)) × (2048 ≤ length (now u))) ⌝ }
     requires { ⌜ (NoneNegative m1 × NoneNegative m2) × (NoneNegative n1 × NoneNegative n2) ⌝ }
-    ensures { λ _. ⌜ RepliedTwo (var (now (rows .entry))) s n lanes at (now (t .entry)) sign least m1 m2 (now (u .entry)) sign2 least2 n1 n2 (now (a .entry)) d (now (a .exit)) ⌝ }
+    ensures { λ _. ⌜
+        RepliedTwo (var (now (rows .entry))) s n lanes at (now (t .entry)) sign least m1 m2 (now (u .entry)) sign2 least2 n1 n2 (now (a .entry)) d
+        (now (a .exit))
+        ⌝ }
 {
     let mut k: usize = 0;
     while k < d {

@@ -53,7 +53,7 @@ pub record StoredUnless (b : Bool) (w lanes u at : ℕ) (x old new : List ℤ) :
   pub inside : (k : ℕ) → k < w → column lanes new (at + k) ≡ putUnless b (column lanes old (at + k)) u (z x k)
   pub outside : (i : ℕ) → i < lanes → Off at w i → column lanes new i ≡ column lanes old i
 
-pub stored-all : {w lanes u at : ℕ} {x old new : List ℤ} → Stored w lanes u at x old new → StoredUnless false w lanes u at x old new
+stored-all : {w lanes u at : ℕ} {x old new : List ℤ} → Stored w lanes u at x old new → StoredUnless false w lanes u at x old new
 stored-all s = record { inside = s .inside; outside = s .outside }
 
 pub stored-unless : (b : Bool) {w lanes u at : ℕ} {x old new : List ℤ} → b ≡ false → Stored w lanes u at x old new → StoredUnless b w lanes u at x old new
@@ -62,7 +62,7 @@ stored-unless b {w} {lanes} {u} {at} {x} {old} {new} e s = subst (λ (t : Bool).
 pub stored-none : (b : Bool) (w lanes u at : ℕ) (x old : List ℤ) → b ≡ true → StoredUnless b w lanes u at x old old
 stored-none b w lanes u at x old e = subst (λ (t : Bool). StoredUnless t w lanes u at x old old) (sym e) (record { inside = λ k q. refl; outside = λ i q f. refl })
 
-pub put-both : (f : ℕ → ℤ) (base u : ℕ) (x : ℤ) (e : ℕ) (g : ℕ → ℤ) → f (base + e) ≡ g e → put f (base + u) x (base + e) ≡ put g u x e
+put-both : (f : ℕ → ℤ) (base u : ℕ) (x : ℤ) (e : ℕ) (g : ℕ → ℤ) → f (base + e) ≡ g e → put f (base + u) x (base + e) ≡ put g u x e
 unfolding put
 put-both f base u x e g h = ap (λ (k : ℕ → ℤ). k e) (shifted-put base f u x) ∙ ap (λ (y : ℤ). cond (eqb e u) x y) h
 
@@ -79,12 +79,15 @@ runColumn sh o v s d base E p f = told sh base E v s p (tAt v s base f) (message
 -- where the others are as they were; so is all behind them.
 pub record Checked (sh : ℕ → Bool) (rows : List ℕ) (s d n lanes place : ℕ) (o : ℤ) (a a′ : List ℤ) : Type 0 where
   pub words : (i : ℕ) → i < lanes → word n (length rows) lanes a′ i ≡ checkUnless sh o (var rows) s d (word n (length rows) lanes a i)
-  pub t-rows : (i : ℕ) → i < lanes → (e : ℕ) → e < length rows → column lanes a′ i (n + length rows + e) ≡ wrote (λ k. place + k) (tOf (var rows) s (word n (length rows) lanes a i .L) (word n (length rows) lanes a i .r)) (λ e. column lanes a i (n + length rows + e)) d e
-  pub old-rows : (i : ℕ) → i < lanes → (e : ℕ) → e < length rows → column lanes a′ i (n + 2 * length rows + e) ≡ wrote (λ k. place + k) (λ k. word n (length rows) lanes a i .r (s + k)) (λ e. column lanes a i (n + 2 * length rows + e)) d e
+  pub t-rows : (i : ℕ) → i < lanes → (e : ℕ) → e < length rows
+      → column lanes a′ i (n + length rows + e) ≡ wrote (λ k. place + k) (tOf (var rows) s (word n (length rows) lanes a i .L) (word n (length rows) lanes a i .r)) (λ e. column lanes a i (n + length rows + e)) d e
+  pub old-rows : (i : ℕ) → i < lanes → (e : ℕ) → e < length rows
+      → column lanes a′ i (n + 2 * length rows + e) ≡ wrote (λ k. place + k) (λ k. word n (length rows) lanes a i .r (s + k)) (λ e. column lanes a i (n + 2 * length rows + e)) d e
   pub rest : (i : ℕ) → i < lanes → (u : ℕ) → n + 3 * length rows ≤ u → column lanes a′ i u ≡ column lanes a i u
 
 module _ (sh : ℕ → Bool) (base E : ℕ) (v : ℕ → ℕ) (s p : ℕ) where
-  pub told-same : (t t′ m m′ y y′ f : ℕ → ℤ) (d : ℕ) → ((k : ℕ) → k < d → t k ≡ t′ k) → ((k : ℕ) → k < d → m k ≡ m′ k) → ((k : ℕ) → k < d → y k ≡ y′ k) → told sh base E v s p t m y f d ≡ told sh base E v s p t′ m′ y′ f d
+  pub told-same : (t t′ m m′ y y′ f : ℕ → ℤ) (d : ℕ) → ((k : ℕ) → k < d → t k ≡ t′ k) → ((k : ℕ) → k < d → m k ≡ m′ k) → ((k : ℕ) → k < d → y k ≡ y′ k)
+      → told sh base E v s p t m y f d ≡ told sh base E v s p t′ m′ y′ f d
   unfolding told
   told-same t t′ m m′ y y′ f zero h g l = refl
   told-same t t′ m m′ y y′ f (suc d) h g l =
@@ -110,7 +113,7 @@ module _ (sh : ℕ → Bool) (base E : ℕ) (v : ℕ → ℕ) (s p : ℕ) where
     three d = put (two d) (base + (s + d)) (m d)
 
     -- a message that is not yet replaced
-    pub told-next : (d e : ℕ) → Within d → s + d ≤ e → e < E → told sh base E v s p t m y f d (base + e) ≡ f (base + e)
+    told-next : (d e : ℕ) → Within d → s + d ≤ e → e < E → told sh base E v s p t m y f d (base + e) ≡ f (base + e)
     unfolding told
     told-next zero e w h q = refl
     told-next (suc d) e w h q =
@@ -120,7 +123,8 @@ module _ (sh : ℕ → Bool) (base E : ℕ) (v : ℕ → ℕ) (s p : ℕ) where
         ∙ put-other (told sh base E v s p t m y f d) (base + E + (p + d)) (t d) (base + e) (λ k. omega arith)
         ∙ told-next d e (fewer d w) (omega arith) q
 
-    word-told : (d : ℕ) → Within d → wordOf base E (told sh base E v s p t m y f d) ≡ record { L = wroteUnless sh (λ k. v (s + k)) y (wordOf base E f .L) d; r = wrote (λ k. s + k) m (wordOf base E f .r) d }
+    word-told : (d : ℕ) → Within d
+        → wordOf base E (told sh base E v s p t m y f d) ≡ record { L = wroteUnless sh (λ k. v (s + k)) y (wordOf base E f .L) d; r = wrote (λ k. s + k) m (wordOf base E f .r) d }
     unfolding told wrote wroteUnless
     word-told zero w = refl
     word-told (suc d) w =
@@ -162,7 +166,8 @@ module _ (sh : ℕ → Bool) (base E : ℕ) (v : ℕ → ℕ) (s p : ℕ) where
 
 -- ---- the second pass: d edges of the w lanes from at
 pub record Told (sh : ℕ → Bool) (w : ℕ) (v : ℕ → ℕ) (s base E p lanes at : ℕ) (t g : List ℤ) (least : List ℕ) (m1 m2 a : List ℤ) (d : ℕ) (a′ : List ℤ) : Type 0 where
-  pub inside : (k : ℕ) → k < w → column lanes a′ (at + k) ≡ told sh base E v s p (column 16 t (0 + k)) (answer t g least m1 m2 k) (λ e. satZ (column 16 t (0 + k) e +ℤ answer t g least m1 m2 k e)) (column lanes a (at + k)) d
+  pub inside : (k : ℕ) → k < w
+      → column lanes a′ (at + k) ≡ told sh base E v s p (column 16 t (0 + k)) (answer t g least m1 m2 k) (λ e. satZ (column 16 t (0 + k) e +ℤ answer t g least m1 m2 k e)) (column lanes a (at + k)) d
   pub outside : (i : ℕ) → i < lanes → Off at w i → column lanes a′ i ≡ column lanes a i
 
 pub told-start : (sh : ℕ → Bool) (w : ℕ) (v : ℕ → ℕ) (s base E p lanes at : ℕ) (t g : List ℤ) (least : List ℕ) (m1 m2 a : List ℤ) → Told sh w v s base E p lanes at t g least m1 m2 a 0 a
@@ -196,10 +201,12 @@ module _ {sh : ℕ → Bool} {w : ℕ} {v : ℕ → ℕ} {s base E p lanes at : 
           ∙ ap (λ (f : ℕ → ℤ). f (base + (s + d))) (c .inside k q)
           ∙ told-next sh base E v s p (column 16 t (0 + k)) (answer t g least m1 m2 k) _ (column lanes a (at + k)) d (s + d) wi (omega arith) (omega arith)
 
-pub told-end : {sh : ℕ → Bool} {w : ℕ} {v : ℕ → ℕ} {s base E p lanes at : ℕ} {t g : List ℤ} {least : List ℕ} {m1 m2 a : List ℤ} {i d : ℕ} {a′ : List ℤ} → i ≡ d → Told sh w v s base E p lanes at t g least m1 m2 a i a′ → Told sh w v s base E p lanes at t g least m1 m2 a d a′
+pub told-end : {sh : ℕ → Bool} {w : ℕ} {v : ℕ → ℕ} {s base E p lanes at : ℕ} {t g : List ℤ} {least : List ℕ} {m1 m2 a : List ℤ} {i d : ℕ} {a′ : List ℤ} → i ≡ d
+    → Told sh w v s base E p lanes at t g least m1 m2 a i a′ → Told sh w v s base E p lanes at t g least m1 m2 a d a′
 told-end {sh} {w} {v} {s} {base} {E} {p} {lanes} {at} {t} {g} {least} {m1} {m2} {a} {i} {d} {a′} e c = subst (λ (j : ℕ). Told sh w v s base E p lanes at t g least m1 m2 a j a′) e c
 
-pub told-is : {sh : ℕ → Bool} {w : ℕ} {v : ℕ → ℕ} {s d base E p lanes at : ℕ} {a a′ t g g′ : List ℤ} {m1 m2 least : List ℕ} {o : ℤ} {r1 r2 : List ℤ} → w ≤ 16 → Scan v s base lanes at a d t m1 m2 g → Readied o m1 m2 g g′ least r1 r2
+pub told-is : {sh : ℕ → Bool} {w : ℕ} {v : ℕ → ℕ} {s d base E p lanes at : ℕ} {a a′ t g g′ : List ℤ} {m1 m2 least : List ℕ} {o : ℤ} {r1 r2 : List ℤ} → w ≤ 16
+    → Scan v s base lanes at a d t m1 m2 g → Readied o m1 m2 g g′ least r1 r2
     → Told sh w v s base E p lanes at t g′ least r1 r2 a d a′ → Part (runColumn sh o v s d base E p) w lanes at a a′
 unfolding runColumn
 told-is {sh} {w} {v} {s} {d} {base} {E} {p} {lanes} {at} {a} {a′} narrow c r b =
@@ -231,7 +238,13 @@ checked {sh} {rows} {s} {d} {n} {lanes} {a} r {place} {o} {a′} room h =
           λ i q. ap (wordOf n (length rows)) (h i q)
           ∙ word-told sh n (length rows) (var rows) s place (t i) (message o (t i) d) (y i) (column lanes a i) d wi
           ∙ (λ j. record {
-            L = wrote-unless-same sh (λ k. var rows (s + k)) _ _ (word n (length rows) lanes a i .L) d (λ k b. λ l. satZ (t-same n (length rows) (var rows) s (column lanes a i) d (inside r) k b l +ℤ message-is n (length rows) (var rows) s o (column lanes a i) d (inside r) k l)) j;
+            L =
+                wrote-unless-same sh (λ k. var rows (s + k)) _ _ (word n (length rows) lanes a i .L) d
+                (λ k b.
+                λ l.
+                satZ
+                (t-same n (length rows) (var rows) s (column lanes a i) d (inside r) k b l +ℤ message-is n (length rows) (var rows) s o (column lanes a i) d (inside r) k l))
+                j;
             r = wrote-same (λ k. s + k) _ _ (word n (length rows) lanes a i .r) d (λ k b. message-is n (length rows) (var rows) s o (column lanes a i) d (inside r) k) j;
           });
       t-rows =

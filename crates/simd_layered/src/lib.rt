@@ -52,7 +52,10 @@ fn answer(
     requires { ⌜ (at + w ≤ lanes) × (Width w × (2048 ≤ length (now t))) ⌝ }
     requires { ⌜ place + d ≤ length (now rows) ⌝ }
     requires { ⌜ NoneNegative m1 × NoneNegative m2 ⌝ }
-    ensures { λ _. ⌜ Told (sharedIn (now (flags .entry))) w (var (now (rows .entry))) s n (length (now (rows .entry))) place lanes at (now (t .entry)) sign least m1 m2 (now (a .entry)) d (now (a .exit)) ⌝ }
+    ensures { λ _. ⌜
+        Told (sharedIn (now (flags .entry))) w (var (now (rows .entry))) s n (length (now (rows .entry))) place lanes at (now (t .entry)) sign least m1 m2
+        (now (a .entry)) d (now (a .exit))
+        ⌝ }
 {
     let edges = rows.len();
     let mut k: usize = 0;
@@ -96,7 +99,10 @@ fn finish(
     requires { ⌜ (at + w ≤ lanes) × (Width w × (2048 ≤ length (now t))) ⌝ }
     requires { ⌜ place + d ≤ length (now rows) ⌝ }
     requires { ⌜ Scan (var (now rows)) s n lanes at (now a) d (now t) (st .min1) (st .min2) (st .sign) ⌝ }
-    ensures { λ _. ⌜ Part (runColumn (sharedIn (now (flags .entry))) offset (var (now (rows .entry))) s d n (length (now (rows .entry))) place) w lanes at (now (a .entry)) (now (a .exit)) ⌝ }
+    ensures { λ _. ⌜
+        Part (runColumn (sharedIn (now (flags .entry))) offset (var (now (rows .entry))) s d n (length (now (rows .entry))) place) w lanes at
+        (now (a .entry)) (now (a .exit))
+        ⌝ }
 {
     let r = lane16::prepare(st, offset);
     let sign = r.sign;
@@ -140,7 +146,10 @@ fn two_chunks(
     requires { ⌜ Room (now rows) s d n lanes (now a) × (n ≤ 44880) ⌝ }
     requires { ⌜ (at + 32 ≤ lanes) × ((2048 ≤ length (now t)) × (2048 ≤ length (now u))) ⌝ }
     requires { ⌜ place + d ≤ length (now rows) ⌝ }
-    ensures { λ _. ⌜ Part (runColumn (sharedIn (now (flags .entry))) offset (var (now (rows .entry))) s d n (length (now (rows .entry))) place) 32 lanes at (now (a .entry)) (now (a .exit)) ⌝ }
+    ensures { λ _. ⌜
+        Part (runColumn (sharedIn (now (flags .entry))) offset (var (now (rows .entry))) s d n (length (now (rows .entry))) place) 32 lanes at
+        (now (a .entry)) (now (a .exit))
+        ⌝ }
 {
     let p = simd::scan_two(rows, s, d, a, t, u, n, lanes, at);
     let one = p.one;
@@ -195,7 +204,11 @@ fn chunk(
     requires { ⌜ Room (now rows) s d n lanes (now a) × (n ≤ 44880) ⌝ }
     requires { ⌜ (at < lanes) × ((2048 ≤ length (now t)) × (2048 ≤ length (now u))) ⌝ }
     requires { ⌜ place + d ≤ length (now rows) ⌝ }
-    ensures { λ w. ⌜ ((0 < w) × (at + w ≤ lanes)) × Part (runColumn (sharedIn (now (flags .entry))) offset (var (now (rows .entry))) s d n (length (now (rows .entry))) place) w lanes at (now (a .entry)) (now (a .exit)) ⌝ }
+    ensures { λ w. ⌜
+        ((0 < w) × (at + w ≤ lanes))
+        × Part (runColumn (sharedIn (now (flags .entry))) offset (var (now (rows .entry))) s d n (length (now (rows .entry))) place) w lanes at
+        (now (a .entry)) (now (a .exit))
+        ⌝ }
 {
     if 32 <= lanes - at {
         two_chunks(rows, s, d, a, t, u, n, lanes, at, place, flags, offset);

@@ -24,7 +24,9 @@ returns c =
     (λ j h. y .syndromes .ensures .at j h ∙ of-remainder (s .args .word .now) (valueOf (s .args .r)) j (s .pre .2) h) (g .shortest .ensures) (c .if1 .taken)
 
 chien-requires : tie.Need-chien-requires
-chien-requires c κs = (c .if1 .left, omega (arith, c .before .before .before .before .pre .1), c .before .shortest .ensures .gen (c .if1 .left) .head)
+chien-requires c κs =
+    let s = c .before .before .before .before in
+    (c .if1 .left, omega (arith, s .pre .1), c .before .shortest .ensures .gen (c .if1 .left) .head)
 
 flip-requires : tie.Need-flip-requires
 flip-requires c κs =
@@ -33,7 +35,10 @@ flip-requires c κs =
     (omega (arith, p .most, l), p .inside)
 
 cast-t15 : tie.Need-cast-t15
-cast-t15 c = omega (arith, c .before .before .before .before .before .before .chien .ensures .most, c .before .before .before .before .before .before .before .if1 .left)
+cast-t15 c =
+    let at-chien = c .before .before .before .before .before .before in
+    let at-if1 = at-chien .before in
+    omega (arith, at-chien .chien .ensures .most, at-if1 .if1 .left)
 
 same-length : tie.Need-same-length
 same-length c = search needs

@@ -38,11 +38,17 @@ sub-j-2 c = omega (arith, c .before .before .pre .1 (c .before .loop .i) (c .loo
 
 -- src/lib.rt:127:19
 slice-read-word : tie.Need-slice-read-word Inv-loop μ-loop
-slice-read-word c = omega (arith, c .before .before .before .pre .1 (c .before .before .loop .i) (c .before .loop-test .taken), c .before .before .loop .inv .2)
+slice-read-word c =
+    let at-loop = c .before .before in
+    let s = at-loop .before in
+    omega (arith, s .pre .1 (at-loop .loop .i) (c .before .loop-test .taken), at-loop .loop .inv .2)
 
 -- src/lib.rt:127:9
 slice-write-word : tie.Need-slice-write-word Inv-loop μ-loop
-slice-write-word c = omega (arith, c .before .before .before .pre .1 (c .before .before .loop .i) (c .before .loop-test .taken), c .before .before .loop .inv .2)
+slice-write-word c =
+    let at-loop = c .before .before in
+    let s = at-loop .before in
+    omega (arith, s .pre .1 (at-loop .loop .i) (c .before .loop-test .taken), at-loop .loop .inv .2)
 
 -- src/lib.rt:128:9
 add-i : tie.Need-add-i Inv-loop μ-loop

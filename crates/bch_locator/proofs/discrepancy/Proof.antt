@@ -44,7 +44,9 @@ loop-less : tie.Need-loop-less Inv-loop μ-loop
 loop-less c = search needs
 
 loop-again : tie.Need-loop-again Inv-loop μ-loop
-loop-again c = (omega arith, total-more _ _ _ (c .before .before .before .before .loop .i) _ _ (c .before .before .before .before .loop .inv .1) (c .mul .ensures))
+loop-again c =
+    let loop = c .before .before .before .before .loop in
+    (omega arith, total-more _ _ _ (loop .i) _ _ (loop .inv .1) (c .mul .ensures))
 
 returns : tie.Need-returns Inv-loop μ-loop
 returns c =

@@ -49,7 +49,9 @@ loop-less : tie.Need-loop-less Inv-loop μ-loop
 loop-less c = search needs
 
 loop-again : tie.Need-loop-again Inv-loop μ-loop
-loop-again c = (omega arith, mending-again _ _ _ _ _ (c .before .before .before .before .loop .i) _ (c .before .before .before .before .loop .inv .2) (search needs) (search needs) (c .before .before .before .before .loop .inv .1) (c .mul .ensures), simp length-set (c .before .before .before .before .loop .inv .2))
+loop-again c =
+    let loop = c .before .before .before .before .loop in
+    (omega arith, mending-again _ _ _ _ _ (loop .i) _ (loop .inv .2) (search needs) (search needs) (loop .inv .1) (c .mul .ensures), simp length-set (loop .inv .2))
 
 returns : tie.Need-returns Inv-loop μ-loop
 returns c = mending-end _ _ _ _ _ (c .before .loop .i) (search needs) (c .before .loop .inv .2) (c .before .loop .inv .1)

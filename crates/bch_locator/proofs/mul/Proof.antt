@@ -18,15 +18,17 @@ loop-holds c = taken-start (c .args .a) (c .args .b) (search needs)
 
 cast-x : tie.Need-cast-x Inv-loop μ-loop
 cast-x c =
+    let s = c .before .before in
     let l = c .before .loop in
-    let h = top-lt (c .before .before .args .a) (c .before .before .args .b) (l .x) (l .y) (l .i) (search needs) (l .inv) (search needs) in
+    let h = top-lt (s .args .a) (s .args .b) (l .x) (l .y) (l .i) (search needs) (l .inv) (search needs) in
     record { fits = omega arith }
 
 mul-x : tie.Need-mul-x Inv-loop μ-loop
 mul-x c =
+    let s = c .before .before in
     let l = c .before .loop in
-    let h = top-lt (c .before .before .args .a) (c .before .before .args .b) (l .x) (l .y) (l .i) (search needs) (l .inv) (search needs) in
-    record { fits = product-lt (l .y) (c .before .before .args .a) (search needs) h }
+    let h = top-lt (s .args .a) (s .args .b) (l .x) (l .y) (l .i) (search needs) (l .inv) (search needs) in
+    record { fits = product-lt (l .y) (s .args .a) (search needs) h }
 
 add-i : tie.Need-add-i Inv-loop μ-loop
 add-i c = search needs
@@ -36,13 +38,15 @@ loop-less c = search needs
 
 loop-again : tie.Need-loop-again Inv-loop μ-loop
 loop-again c =
+    let s = c .before .before in
     let l = c .before .loop in
-    taken-again (c .before .before .args .a) (c .before .before .args .b) (l .x) (l .y) (l .i) (search needs) (l .inv) (search needs)
+    taken-again (s .args .a) (s .args .b) (l .x) (l .y) (l .i) (search needs) (l .inv) (search needs)
 
 fold-requires : tie.Need-fold-requires Inv-loop μ-loop
 fold-requires c κs =
+    let s = c .before .before in
     let l = c .before .loop in
-    taken-fits (c .before .before .args .a) (c .before .before .args .b) (l .x) (l .y) (l .i) (search needs) (l .inv) (search needs)
+    taken-fits (s .args .a) (s .args .b) (l .x) (l .y) (l .i) (search needs) (l .inv) (search needs)
 
 returns : tie.Need-returns Inv-loop μ-loop
 returns c =

@@ -30,25 +30,34 @@ slice-aggregate-step c = sym (ap length (c .before .before .table .ensures) ∙ 
 
 step-requires : tie.Need-step-requires Inv-loop μ-loop
 step-requires c κs =
-    let m = c .before .before .before .before .args .message .now in
+    let s = c .before .before .before .before in
+    let m = s .args .message .now in
     (c .before .before .table .ensures, subst (λ (v : ℕ). v < 2 ^ 8) (sym (c .before .pack .ensures)) (packed-lt m 0 (length m % 8) 8 (omega arith)))
 
 loop-holds : tie.Need-loop-holds Inv-loop μ-loop
-loop-holds c = divide-start (c .before .before .before .before .before .args .message .now) (valueOf (c .step .result)) (c .before .before .pack .result) (c .before .before .pack .ensures) (c .step .ensures)
+loop-holds c =
+    let at-pack = c .before .before in
+    let s = at-pack .before .before .before in
+    divide-start (s .args .message .now) (valueOf (c .step .result)) (at-pack .pack .result) (at-pack .pack .ensures) (c .step .ensures)
 
 pack-requires-2 : tie.Need-pack-requires-2 Inv-loop μ-loop
 pack-requires-2 c κs =
-    let m = c .before .before .before .before .before .before .before .args .message .now in
+    let s = c .before .before .before .before .before .before .before in
+    let m = s .args .message .now in
     let l = c .before .loop in
     (byte-left m (length m) (valueOf (l .r)) (l .i) (l .inv) (c .loop-test .taken), lit≤ tt)
 
 slice-aggregate-step-2 : tie.Need-slice-aggregate-step-2 Inv-loop μ-loop
-slice-aggregate-step-2 c = sym (ap length (c .before .before .before .before .before .before .before .table .ensures) ∙ table-length)
+slice-aggregate-step-2 c =
+    let table = c .before .before .before .before .before .before .before .table in
+    sym (ap length (table .ensures) ∙ table-length)
 
 step-requires-2 : tie.Need-step-requires-2 Inv-loop μ-loop
 step-requires-2 c κs =
-    let m = c .before .before .before .before .before .before .before .before .before .args .message .now in
-    (c .before .before .before .before .before .before .before .table .ensures, subst (λ (v : ℕ). v < 2 ^ 8) (sym (c .before .pack2 .ensures)) (packed-lt m (c .before .before .before .loop .i) 8 8 (le-refl 8)))
+    let at-table = c .before .before .before .before .before .before .before in
+    let s = at-table .before .before in
+    let m = s .args .message .now in
+    (at-table .table .ensures, subst (λ (v : ℕ). v < 2 ^ 8) (sym (c .before .pack2 .ensures)) (packed-lt m (c .before .before .before .loop .i) 8 8 (le-refl 8)))
 
 add-i : tie.Need-add-i Inv-loop μ-loop
 add-i c = search needs
@@ -58,13 +67,17 @@ loop-less c = search needs
 
 loop-again : tie.Need-loop-again Inv-loop μ-loop
 loop-again c =
-    let m = c .before .before .before .before .before .before .before .before .before .before .args .message .now in
+    let at-pack2 = c .before .before in
+    let s = at-pack2 .before .before .before .before .before .before .before .before in
+    let m = s .args .message .now in
     let l = c .before .before .before .before .loop in
-    divide-again m (length m) (valueOf (l .r)) (l .i) (c .before .before .pack2 .result) (valueOf (c .step2 .result)) (l .inv) (c .before .before .before .loop-test .taken) (c .before .before .pack2 .ensures) (c .step2 .ensures)
+    divide-again m (length m) (valueOf (l .r)) (l .i) (at-pack2 .pack2 .result) (valueOf (c .step2 .result)) (l .inv) (c .before .before .before .loop-test .taken)
+    (at-pack2 .pack2 .ensures) (c .step2 .ensures)
 
 returns : tie.Need-returns Inv-loop μ-loop
 returns c =
-    let m = c .before .before .before .before .before .before .before .args .message .now in
+    let s = c .before .before .before .before .before .before .before in
+    let m = s .args .message .now in
     let l = c .before .loop in
     divide-end m (length m) (valueOf (l .r)) (l .i) (l .inv) (c .loop-test .left)
 

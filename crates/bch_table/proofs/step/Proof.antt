@@ -24,14 +24,18 @@ word-at-requires-2 : tie.Need-word-at-requires-2
 word-at-requires-2 c κs = (c .before .before .pre .0, index (c .before .before), lit< tt)
 
 word-at-requires-3 : tie.Need-word-at-requires-3
-word-at-requires-3 c κs = (c .before .before .before .pre .0, index (c .before .before .before), lit< tt)
+word-at-requires-3 c κs =
+    let s = c .before .before .before in
+    (s .pre .0, index (c .before .before .before), lit< tt)
 
 returns : tie.Need-returns
 returns c =
+    let at-word-at = c .before .before in
+    let s = at-word-at .before .before in
     let a = c .before .before .before .before .args in
     let f = fit (c .before .before .before .before) in
-    stepped (a .r .hi) (a .r .mid) (a .r .lo) (a .b) (c .before .before .word-at .result) (c .before .word-at2 .result) (c .word-at3 .result) (f .0) (f .1) (f .2)
-    (c .before .before .word-at .ensures) (c .before .word-at2 .ensures) (c .word-at3 .ensures)
+    stepped (a .r .hi) (a .r .mid) (a .r .lo) (a .b) (at-word-at .word-at .result) (c .before .word-at2 .result) (c .word-at3 .result) (f .0) (f .1) (f .2)
+    (at-word-at .word-at .ensures) (c .before .word-at2 .ensures) (c .word-at3 .ensures)
 
 pub step-spec : {M : Type 1} → statement M
 step-spec = tie.close (tie.spec word-at-requires word-at-requires-2 word-at-requires-3 returns)

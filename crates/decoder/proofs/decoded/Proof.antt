@@ -26,8 +26,10 @@ array-share-prefix-order c = search needs
 
 slice-aggregate-complete : tie.Need-slice-aggregate-complete
 slice-aggregate-complete c =
-    let h : c .before .before .before .before .before .before .before .before .args .plan .words ≤ length (c .before .before .number .last .0) = omega (arith, c .before .before .before .before .before .before .before .before .pre .0 .0 .fair .few-words, c .before .before .number .kept .0, length-replicate {A = ℕ} 4096 0) in
-    sym (length-take-le _ (c .before .before .number .last .0) h)
+    let at-number = c .before .before in
+    let s = at-number .before .before .before .before .before .before in
+    let h : s .args .plan .words ≤ length (at-number .number .last .0) = omega (arith, s .pre .0 .0 .fair .few-words, at-number .number .kept .0, length-replicate {A = ℕ} 4096 0) in
+    sym (length-take-le _ (at-number .number .last .0) h)
 
 slice-aggregate-complete-2 : tie.Need-slice-aggregate-complete-2
 slice-aggregate-complete-2 c = search needs
@@ -46,17 +48,17 @@ slice-aggregate-complete-6 c = search needs
 
 complete-requires : tie.Need-complete-requires
 complete-requires c κs =
-    let G = c .before .before .before .before .before .before .before .before .before .before .before .before .before .before .before .pre .0 .0 in
-    let o : take (c .before .before .before .before .before .before .before .before .before .before .before .before .before .before .before .args .plan .words) (c .before .before .before .before .before .before .before .before .before .number .last .0) ≡ input-order (c .before .before .before .before .before .before .before .before .before .before .before .before .before .before .before .args .plan .words) = order-is (c .before .before .before .before .before .before .before .before .before .before .before .before .before .before .before .args .plan .words) (c .before .before .before .before .before .before .before .before .before .number .last .0) (G .fair .few-words) (c .before .before .before .before .before .before .before .before .before .number .ensures ∙ ap input-order (length-replicate {A = ℕ} 4096 0)) in (
-      (G, subst (λ (l : List ℕ). Ordered (c .before .before .before .before .before .before .before .before .before .before .before .before .before .before .before .args .plan) l) (sym o) (order-so (c .before .before .before .before .before .before .before .before .before .before .before .before .before .before .before .args .plan)), c .before .before .before .before .before .before .before .before .before .before .before .before .before .before .before .pre .0 .2),
+    let at-number = c .before .before .before .before .before .before .before .before .before in
+    let s = at-number .before .before .before .before .before .before in
+    let G = s .pre .0 .0 in
+    let o : take (s .args .plan .words) (at-number .number .last .0) ≡ input-order (s .args .plan .words) =
+    order-is (s .args .plan .words) (at-number .number .last .0) (G .fair .few-words) (at-number .number .ensures ∙ ap input-order (length-replicate {A = ℕ} 4096 0)) in (
+      (G, subst (λ (l : List ℕ). Ordered (s .args .plan) l) (sym o) (order-so (s .args .plan)), s .pre .0 .2),
       (
-        c .before .before .before .before .before .before .before .before .before .before .before .before .before .before .before .pre .1,
+        s .pre .1,
         (
-          zero-room _ _ 4096 _ refl (c .before .before .before .before .before .before .before .before .before .before .before .before .before .before .before .pre .0 .1),
-          (
-            zero-blank (c .before .before .before .before .before .before .before .before .before .before .before .before .before .before .before .args .plan) 4096 (c .before .before .before .before .before .before .before .before .before .before .before .before .before .before .before .args .out .now),
-            λ w. subst (λ (l : List ℕ). count w l ≤ 1) (sym o) (input-once (c .before .before .before .before .before .before .before .before .before .before .before .before .before .before .before .args .plan .words) w),
-          ),
+          zero-room _ _ 4096 _ refl (s .pre .0 .1),
+          (zero-blank (s .args .plan) 4096 (s .args .out .now), λ w. subst (λ (l : List ℕ). count w l ≤ 1) (sym o) (input-once (s .args .plan .words) w)),
         ),
       ),
     )
@@ -72,18 +74,33 @@ slice-aggregate-tally-3 c = search needs
 
 tally-requires : tie.Need-tally-requires
 tally-requires c κs =
-    let G = c .before .before .before .before .before .before .before .before .before .before .before .before .before .before .before .before .before .before .before .before .before .before .before .before .before .before .before .pre .0 .0 in
-    let o : take (c .before .before .before .before .before .before .before .before .before .before .before .before .before .before .before .before .before .before .before .before .before .before .before .before .before .before .before .args .plan .words) (c .before .before .before .before .before .before .before .before .before .before .before .before .before .before .before .before .before .before .before .before .before .number .last .0) ≡ input-order (c .before .before .before .before .before .before .before .before .before .before .before .before .before .before .before .before .before .before .before .before .before .before .before .before .before .before .before .args .plan .words) = order-is (c .before .before .before .before .before .before .before .before .before .before .before .before .before .before .before .before .before .before .before .before .before .before .before .before .before .before .before .args .plan .words) (c .before .before .before .before .before .before .before .before .before .before .before .before .before .before .before .before .before .before .before .before .before .number .last .0) (G .fair .few-words) (c .before .before .before .before .before .before .before .before .before .before .before .before .before .before .before .before .before .before .before .before .before .number .ensures ∙ ap input-order (length-replicate {A = ℕ} 4096 0)) in
+    let at-complete = c .before .before .before .before .before .before .before .before .before .before .before in
+    let at-number = at-complete .before .before .before .before .before .before .before .before .before .before in
+    let s = at-number .before .before .before .before .before .before in
+    let G = s .pre .0 .0 in
+    let o : take (s .args .plan .words) (at-number .number .last .0) ≡ input-order (s .args .plan .words) =
+    order-is (s .args .plan .words) (at-number .number .last .0) (G .fair .few-words) (at-number .number .ensures ∙ ap input-order (length-replicate {A = ℕ} 4096 0)) in
     let z = length-replicate {A = ℕ} 4096 0 in (
-      (G .fair .few-words, c .before .before .before .before .before .before .before .before .before .before .before .complete .ensures .same .state ∙ z, c .before .before .before .before .before .before .before .before .before .before .before .complete .ensures .same .iterations ∙ z, c .before .before .before .before .before .before .before .before .before .before .before .complete .ensures .same .bch ∙ z),
-      iterations-few _ _ _ _ _ _ _ _ _ _ _ _ _ (finished-so _ _ _ _ _ _ _ _ _ _ _ _ _ _ _ o refl (c .before .before .before .before .before .before .before .before .before .before .before .complete .ensures)) (G .fair .some-lanes) (G .fair .limit-fits),
+      (
+        G .fair .few-words,
+        at-complete .complete .ensures .same .state ∙ z,
+        at-complete .complete .ensures .same .iterations ∙ z,
+        at-complete .complete .ensures .same .bch ∙ z,
+      ),
+      iterations-few _ _ _ _ _ _ _ _ _ _ _ _ _ (finished-so _ _ _ _ _ _ _ _ _ _ _ _ _ _ _ o refl (at-complete .complete .ensures)) (G .fair .some-lanes)
+          (G .fair .limit-fits),
     )
 
 cast-loaded : tie.Need-cast-loaded
 cast-loaded c =
-    let G = c .before .before .before .before .before .before .before .before .before .before .before .before .before .before .before .before .before .before .before .before .before .before .before .before .before .before .before .before .before .pre .0 .0 in
-    let o : take (c .before .before .before .before .before .before .before .before .before .before .before .before .before .before .before .before .before .before .before .before .before .before .before .before .before .before .before .before .before .args .plan .words) (c .before .before .before .before .before .before .before .before .before .before .before .before .before .before .before .before .before .before .before .before .before .before .before .number .last .0) ≡ input-order (c .before .before .before .before .before .before .before .before .before .before .before .before .before .before .before .before .before .before .before .before .before .before .before .before .before .before .before .before .before .args .plan .words) = order-is (c .before .before .before .before .before .before .before .before .before .before .before .before .before .before .before .before .before .before .before .before .before .before .before .before .before .before .before .before .before .args .plan .words) (c .before .before .before .before .before .before .before .before .before .before .before .before .before .before .before .before .before .before .before .before .before .before .before .number .last .0) (G .fair .few-words) (c .before .before .before .before .before .before .before .before .before .before .before .before .before .before .before .before .before .before .before .before .before .before .before .number .ensures ∙ ap input-order (length-replicate {A = ℕ} 4096 0)) in
-    let n : c .before .before .before .before .before .before .before .before .before .before .before .before .before .complete .result .next ≤ c .before .before .before .before .before .before .before .before .before .before .before .before .before .before .before .before .before .before .before .before .before .before .before .before .before .before .before .before .before .args .plan .words = next-le _ _ _ _ _ _ _ _ _ _ _ _ _ (finished-so _ _ _ _ _ _ _ _ _ _ _ _ _ _ _ o refl (c .before .before .before .before .before .before .before .before .before .before .before .before .before .complete .ensures)) (G .fair .some-lanes) in
+    let at-complete = c .before .before .before .before .before .before .before .before .before .before .before .before .before in
+    let at-number = at-complete .before .before .before .before .before .before .before .before .before .before in
+    let s = at-number .before .before .before .before .before .before in
+    let G = s .pre .0 .0 in
+    let o : take (s .args .plan .words) (at-number .number .last .0) ≡ input-order (s .args .plan .words) =
+    order-is (s .args .plan .words) (at-number .number .last .0) (G .fair .few-words) (at-number .number .ensures ∙ ap input-order (length-replicate {A = ℕ} 4096 0)) in
+    let n : at-complete .complete .result .next ≤ s .args .plan .words =
+    next-le _ _ _ _ _ _ _ _ _ _ _ _ _ (finished-so _ _ _ _ _ _ _ _ _ _ _ _ _ _ _ o refl (at-complete .complete .ensures)) (G .fair .some-lanes) in
     omega (arith, n, G .fair .few-words)
 
 same-length : tie.Need-same-length
@@ -94,13 +111,16 @@ same-length-2 c = search needs
 
 returns : tie.Need-returns
 returns c =
-    let G = c .before .before .before .before .before .before .before .before .before .before .before .before .before .before .before .before .before .before .before .before .before .before .before .before .before .before .before .before .before .pre .0 .0 in
-    let o : take (c .before .before .before .before .before .before .before .before .before .before .before .before .before .before .before .before .before .before .before .before .before .before .before .before .before .before .before .before .before .args .plan .words) (c .before .before .before .before .before .before .before .before .before .before .before .before .before .before .before .before .before .before .before .before .before .before .before .number .last .0) ≡ input-order (c .before .before .before .before .before .before .before .before .before .before .before .before .before .before .before .before .before .before .before .before .before .before .before .before .before .before .before .before .before .args .plan .words) = order-is (c .before .before .before .before .before .before .before .before .before .before .before .before .before .before .before .before .before .before .before .before .before .before .before .before .before .before .before .before .before .args .plan .words) (c .before .before .before .before .before .before .before .before .before .before .before .before .before .before .before .before .before .before .before .before .before .before .before .number .last .0) (G .fair .few-words) (c .before .before .before .before .before .before .before .before .before .before .before .before .before .before .before .before .before .before .before .before .before .before .before .number .ensures ∙ ap input-order (length-replicate {A = ℕ} 4096 0)) in
-    decoded-to (plain (c .before .before .before .before .before .before .before .before .before .before .before .before .before .before .before .before .before .before .before .before .before .before .before .before .before .before .before .before .before .args .offset) (c .before .before .before .before .before .before .before .before .before .before .before .before .before .before .before .before .before .before .before .before .before .before .before .before .before .before .before .before .before .fits .offset))
+    let at-complete = c .before .before .before .before .before .before .before .before .before .before .before .before .before in
+    let at-number = at-complete .before .before .before .before .before .before .before .before .before .before in
+    let s = at-number .before .before .before .before .before .before in
+    let G = s .pre .0 .0 in
+    let o : take (s .args .plan .words) (at-number .number .last .0) ≡ input-order (s .args .plan .words) = order-is (s .args .plan .words) (at-number .number .last .0) (G .fair .few-words) (at-number .number .ensures ∙ ap input-order (length-replicate {A = ℕ} 4096 0)) in
+    decoded-to (plain (s .args .offset) (s .fits .offset))
     (record {
       number = refl;
       words-are = refl;
-      runs = finished-so _ _ _ _ _ _ _ _ _ _ _ _ _ _ _ o refl (c .before .before .before .before .before .before .before .before .before .before .before .before .before .complete .ensures);
+      runs = finished-so _ _ _ _ _ _ _ _ _ _ _ _ _ _ _ o refl (at-complete .complete .ensures);
       given-are = c .before .tally .ensures .0;
       kept-are = c .before .tally .ensures .1;
       lost-are = c .before .tally .ensures .2;

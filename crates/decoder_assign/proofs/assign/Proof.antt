@@ -15,9 +15,9 @@ use Rattle.decoder_assign.proofs.assign.Statement.{statement}
 use Rattle.decoder_assign.proofs.assign.Tie as tie
 
 abbrev Inv-loop : tie.InvT-loop
-Inv-loop plan lens addrs index soft order out₀ state₀ iterations₀ unsatisfied₀ check₀ bch₀ held₀ iters₀ next₀ lanes any₀ l₀ out state iterations unsatisfied check bch held iters next any l = (lanes ≡ plan .lanes) × (l ≤ lanes)
-    × Takes (codeOf (plan .n) lens addrs) plan soft order held₀ iters₀ next₀ (book state₀ iterations₀ unsatisfied₀ check₀ bch₀ out₀) held iters next (book state iterations unsatisfied check bch out)
-    × (next < length order → (k : ℕ) → k < l → getD held k 0 ≢ 0) × (any ≡ any-held held l)
+Inv-loop plan lens addrs index soft order out₀ state₀ iterations₀ unsatisfied₀ check₀ bch₀ held₀ iters₀ next₀ lanes any₀ l₀ out state iterations unsatisfied check bch held iters next any l =
+    (lanes ≡ plan .lanes) × (l ≤ lanes) × Takes (codeOf (plan .n) lens addrs) plan soft order held₀ iters₀ next₀ (book state₀ iterations₀ unsatisfied₀ check₀ bch₀ out₀)
+    held iters next (book state iterations unsatisfied check bch out) × (next < length order → (k : ℕ) → k < l → getD held k 0 ≢ 0) × (any ≡ any-held held l)
 
 abbrev μ-loop : tie.MeasureT-loop
 μ-loop plan lens addrs index soft order out₀ state₀ iterations₀ unsatisfied₀ check₀ bch₀ held₀ iters₀ next₀ lanes any₀ l₀ out state iterations unsatisfied check bch held iters next any l = lanes - l
@@ -30,7 +30,9 @@ abbrev μ-refill : tie.MeasureT-refill
 μ-refill plan lens addrs index soft order out₀ state₀ iterations₀ unsatisfied₀ check₀ bch₀ held₀ iters₀ next₀ lanes out state iterations unsatisfied check bch held iters next = length order - next
 
 refill-holds : tie.Need-refill-holds Inv-loop μ-loop Inv-refill μ-refill
-refill-holds c = (refl, takes-start _ _ _ _ _ _ _ _ (c .before .before .before .before .before .before .before .before .before .before .before .before .pre .1 .1 .0))
+refill-holds c =
+    let s = c .before .before .before .before .before .before .before .before .before .before .before .before in
+    (refl, takes-start _ _ _ _ _ _ _ _ (s .pre .1 .1 .0))
 
 loop-holds : tie.Need-loop-holds Inv-loop μ-loop Inv-refill μ-refill
 loop-holds c = (c .refill .inv .0, omega arith, takes-start _ _ _ _ _ _ _ _ (c .refill .inv .1 .in-order), (λ _ k h. absurd (omega arith)), any-start _)
@@ -39,7 +41,9 @@ mul-if1 : tie.Need-mul-if1 Inv-loop μ-loop Inv-refill μ-refill
 mul-if1 c = search needs
 
 array-read-if1 : tie.Need-array-read-if1 Inv-loop μ-loop Inv-refill μ-refill
-array-read-if1 c = omega (arith, c .loop-test .taken, c .before .loop .inv .0, c .before .before .before .before .before .before .before .before .before .before .before .before .before .before .before .pre .0 .0 .fair .few-lanes)
+array-read-if1 c =
+    let s = c .before .before .before .before .before .before .before .before .before .before .before .before .before .before .before in
+    omega (arith, c .loop-test .taken, c .before .loop .inv .0, s .pre .0 .0 .fair .few-lanes)
 
 mul-w : tie.Need-mul-w Inv-loop μ-loop Inv-refill μ-refill
 mul-w c = search needs
@@ -51,51 +55,95 @@ add-next : tie.Need-add-next Inv-loop μ-loop Inv-refill μ-refill
 add-next c = search needs
 
 cast-v : tie.Need-cast-v Inv-loop μ-loop Inv-refill μ-refill
-cast-v c = omega (arith, c .before .before .before .before .before .before .before .before .before .before .before .before .before .before .before .before .before .before .pre .0 .1 (c .before .before .before .before .loop .next) (c .before .if2 .taken), c .before .before .before .before .before .before .before .before .before .before .before .before .before .before .before .before .before .before .pre .0 .0 .fair .few-words)
+cast-v c =
+    let at-loop = c .before .before .before .before in
+    let s = at-loop .before .before .before .before .before .before .before .before .before .before .before .before .before .before in
+    omega (arith, s .pre .0 .1 (at-loop .loop .next) (c .before .if2 .taken), s .pre .0 .0 .fair .few-words)
 
 at-once-requires : tie.Need-at-once-requires Inv-loop μ-loop Inv-refill μ-refill
-at-once-requires c κs = (c .before .before .before .before .before .before .before .before .before .before .before .before .before .before .before .before .before .before .pre .0 .0, c .before .before .before .before .before .before .before .before .before .before .before .before .before .before .before .before .before .before .pre .0 .1 (c .before .before .before .before .loop .next) (c .before .if2 .taken))
+at-once-requires c κs =
+    let at-loop = c .before .before .before .before in
+    let s = at-loop .before .before .before .before .before .before .before .before .before .before .before .before .before .before in
+    (s .pre .0 .0, s .pre .0 .1 (at-loop .loop .next) (c .before .if2 .taken))
 
 finish-soft-requires : tie.Need-finish-soft-requires Inv-loop μ-loop Inv-refill μ-refill
-finish-soft-requires c κs = ((c .before .before .before .before .before .before .before .before .before .before .before .before .before .before .before .before .before .before .before .before .before .before .before .before .before .before .pre .0 .0, c .before .before .before .before .before .before .before .before .before .before .before .before .before .before .before .before .before .before .before .before .before .before .before .before .before .before .pre .0 .1 (c .before .before .before .before .before .before .before .before .before .before .before .before .loop .next) (c .before .before .before .before .before .before .before .before .before .if2 .taken)), room-on (c .before .before .before .before .before .before .before .before .before .before .before .before .before .before .before .before .before .before .before .before .before .before .before .before .before .before .pre .1 .0) (same-on (c .before .before .before .before .before .before .before .before .before .before .before .before .before .refill .inv .1 .same) (c .before .before .before .before .before .before .before .before .before .before .before .before .loop .inv .2 .same)))
+finish-soft-requires c κs =
+    let at-if2 = c .before .before .before .before .before .before .before .before .before in
+    let at-loop = at-if2 .before .before .before in
+    let at-refill = at-loop .before in
+    let s = at-refill .before .before .before .before .before .before .before .before .before .before .before .before .before in
+    ((s .pre .0 .0, s .pre .0 .1 (at-loop .loop .next) (at-if2 .if2 .taken)), room-on (s .pre .1 .0) (same-on (at-refill .refill .inv .1 .same) (at-loop .loop .inv .2 .same)))
 
 add-held : tie.Need-add-held Inv-loop μ-loop Inv-refill μ-refill
-add-held c = omega (arith, c .before .before .before .before .before .before .before .before .before .before .before .before .before .before .before .before .before .before .before .before .pre .0 .1 (c .before .before .before .before .before .before .loop .next) (c .before .before .before .if2 .taken), c .before .before .before .before .before .before .before .before .before .before .before .before .before .before .before .before .before .before .before .before .pre .0 .0 .fair .few-words)
+add-held c =
+    let at-loop = c .before .before .before .before .before .before in
+    let s = at-loop .before .before .before .before .before .before .before .before .before .before .before .before .before .before in
+    omega (arith, s .pre .0 .1 (at-loop .loop .next) (c .before .before .before .if2 .taken), s .pre .0 .0 .fair .few-words)
 
 mul-held : tie.Need-mul-held Inv-loop μ-loop Inv-refill μ-refill
 mul-held c = search needs
 
 array-write-held : tie.Need-array-write-held Inv-loop μ-loop Inv-refill μ-refill
-array-write-held c = omega (arith, c .before .before .before .before .before .loop-test .taken, c .before .before .before .before .before .before .loop .inv .0, c .before .before .before .before .before .before .before .before .before .before .before .before .before .before .before .before .before .before .before .before .pre .0 .0 .fair .few-lanes)
+array-write-held c =
+    let at-loop-test = c .before .before .before .before .before in
+    let at-loop = at-loop-test .before in
+    let s = at-loop .before .before .before .before .before .before .before .before .before .before .before .before .before .before in
+    omega (arith, at-loop-test .loop-test .taken, at-loop .loop .inv .0, s .pre .0 .0 .fair .few-lanes)
 
 mul-iters : tie.Need-mul-iters Inv-loop μ-loop Inv-refill μ-refill
 mul-iters c = search needs
 
 array-write-iters : tie.Need-array-write-iters Inv-loop μ-loop Inv-refill μ-refill
-array-write-iters c = omega (arith, c .before .before .before .before .before .loop-test .taken, c .before .before .before .before .before .before .loop .inv .0, c .before .before .before .before .before .before .before .before .before .before .before .before .before .before .before .before .before .before .before .before .pre .0 .0 .fair .few-lanes)
+array-write-iters c =
+    let at-loop-test = c .before .before .before .before .before in
+    let at-loop = at-loop-test .before in
+    let s = at-loop .before .before .before .before .before .before .before .before .before .before .before .before .before .before in
+    omega (arith, at-loop-test .loop-test .taken, at-loop .loop .inv .0, s .pre .0 .0 .fair .few-lanes)
 
 refill-less : tie.Need-refill-less Inv-loop μ-loop Inv-refill μ-refill
-refill-less c = omega (arith, c .before .before .before .before .before .before .before .before .before .before .before .before .before .before .before .before .before .before .before .before .before .before .if2 .taken, c .before .before .before .before .before .before .before .before .before .before .before .before .before .before .before .before .before .before .before .before .before .before .before .before .before .loop .inv .2 .later)
+refill-less c =
+    let at-if2 = c .before .before .before .before .before .before .before .before .before .before .before .before .before .before .before .before .before .before .before .before .before .before in
+    let at-loop = at-if2 .before .before .before in
+    omega (arith, at-if2 .if2 .taken, at-loop .loop .inv .2 .later)
 
 refill-again : tie.Need-refill-again Inv-loop μ-loop Inv-refill μ-refill
-refill-again c = let inl : c .before .before .before .before .before .before .before .before .before .before .before .before .before .before .before .before .before .before .before .before .before .before .before .before .before .loop .l < c .before .before .before .before .before .before .before .before .before .before .before .before .before .before .before .before .before .before .before .before .before .before .before .before .before .before .before .before .before .before .before .before .before .before .before .before .before .before .before .args .plan .lanes = omega (arith, c .before .before .before .before .before .before .before .before .before .before .before .before .before .before .before .before .before .before .before .before .before .before .before .before .loop-test .taken, c .before .before .before .before .before .before .before .before .before .before .before .before .before .before .before .before .before .before .before .before .before .before .before .before .before .loop .inv .0) in (
-  c .before .before .before .before .before .before .before .before .before .before .before .before .before .before .before .before .before .before .before .before .before .before .before .before .before .before .refill .inv .0,
-  takes-on _ _ _ _ (c .before .before .before .before .before .before .before .before .before .before .before .before .before .before .before .before .before .before .before .before .before .before .before .before .before .before .refill .inv .1) (takes-on _ _ _ _ (c .before .before .before .before .before .before .before .before .before .before .before .before .before .before .before .before .before .before .before .before .before .before .before .before .before .loop .inv .2)
-      (takes-quick _ _ _ _ _ _ _ _ (c .before .before .before .before .before .before .before .before .before .before .before .before .before .before .before .before .before .before .before .before .before .before .before .before .before .loop .l) inl (c .before .before .before .before .before .before .before .before .before .before .before .before .before .before .before .before .before .before .before .before .before .before .before .before .before .loop .inv .3 (c .before .before .before .before .before .before .before .before .before .before .before .before .before .before .before .before .before .before .before .before .before .before .if2 .taken)) (c .before .before .before .before .before .before .before .before .before .before .before .before .before .before .before .before .before .before .before .before .before .before .before .if1 .left) (c .before .before .before .before .before .before .before .before .before .before .before .before .before .before .before .before .before .before .before .before .before .before .if2 .taken) _ (c .before .before .before .before .before .before .before .before .before .before .before .before .before .before .before .before .before .before .before .before .at-once .ensures) _ (c .before .before .before .before .before .before .before .before .before .before .before .before .before .before .before .before .before .before .before .if3 .taken)
-      (c .before .before .before .before .before .before .before .before .before .before .before .before .before .before .before .before .before .before .before .before .before .before .before .before .before .before .before .before .before .before .before .before .before .before .before .before .before .before .before .pre .0 .1 (c .before .before .before .before .before .before .before .before .before .before .before .before .before .before .before .before .before .before .before .before .before .before .before .before .before .loop .next) (c .before .before .before .before .before .before .before .before .before .before .before .before .before .before .before .before .before .before .before .before .before .before .if2 .taken)) (c .before .before .before .before .before .before .before .before .before .before .before .before .finish-soft .ensures .0) (c .before .before .before .before .before .before .before .before .before .before .before .before .finish-soft .ensures .1))),
-)
+refill-again c =
+    let at-finish-soft = c .before .before .before .before .before .before .before .before .before .before .before .before in
+    let at-if3 = at-finish-soft .before .before .before .before .before .before .before in
+    let at-at-once = at-if3 .before in
+    let at-if2 = at-at-once .before .before in
+    let at-if1 = at-if2 .before in
+    let at-loop-test = at-if1 .before in
+    let at-loop = at-loop-test .before in
+    let at-refill = at-loop .before in
+    let s = at-refill .before .before .before .before .before .before .before .before .before .before .before .before .before in
+    let inl : at-loop .loop .l < s .args .plan .lanes = omega (arith, at-loop-test .loop-test .taken, at-loop .loop .inv .0) in (
+      at-refill .refill .inv .0,
+      takes-on _ _ _ _ (at-refill .refill .inv .1) (takes-on _ _ _ _ (at-loop .loop .inv .2)
+          (takes-quick _ _ _ _ _ _ _ _ (at-loop .loop .l) inl (at-loop .loop .inv .3 (at-if2 .if2 .taken)) (at-if1 .if1 .left) (at-if2 .if2 .taken) _ (at-at-once .at-once .ensures) _ (at-if3 .if3 .taken)
+          (s .pre .0 .1 (at-loop .loop .next) (at-if2 .if2 .taken)) (at-finish-soft .finish-soft .ensures .0) (at-finish-soft .finish-soft .ensures .1))),
+    )
 
 refill-less-2 : tie.Need-refill-less-2 Inv-loop μ-loop Inv-refill μ-refill
-refill-less-2 c = omega (arith, c .before .before .before .if2 .taken, c .before .before .before .before .before .before .loop .inv .2 .later)
+refill-less-2 c =
+    let loop = c .before .before .before .before .before .before .loop in
+    omega (arith, c .before .before .before .if2 .taken, loop .inv .2 .later)
 
 refill-again-2 : tie.Need-refill-again-2 Inv-loop μ-loop Inv-refill μ-refill
-refill-again-2 c = let inl : c .before .before .before .before .before .before .loop .l < c .before .before .before .before .before .before .before .before .before .before .before .before .before .before .before .before .before .before .before .before .args .plan .lanes = omega (arith, c .before .before .before .before .before .loop-test .taken, c .before .before .before .before .before .before .loop .inv .0) in (
-  c .before .before .before .before .before .before .before .refill .inv .0,
-  takes-on _ _ _ _ (c .before .before .before .before .before .before .before .refill .inv .1) (takes-on _ _ _ _ (c .before .before .before .before .before .before .loop .inv .2)
-      (takes-hold _ _ _ _ _ _ _ _ (c .before .before .before .before .before .before .loop .l) inl (c .before .before .before .before .before .before .loop .inv .3 (c .before .before .before .if2 .taken)) (c .before .before .before .before .if1 .left) (c .before .before .before .if2 .taken) _ (c .before .at-once .ensures) (c .if3 .left)
-      (omega (arith, c .before .before .before .before .before .before .before .before .before .before .before .before .before .before .before .before .before .before .before .before .pre .0 .0 .fair .few-lanes, c .before .before .before .before .before .before .before .before .before .before .before .before .before .before .before .before .before .before .before .before .pre .1 .1 .1 .held-fit, c .before .before .before .before .before .before .loop .inv .2 .held-fit, c .before .before .before .before .before .before .before .refill .inv .1 .held-fit))
-      (omega (arith, c .before .before .before .before .before .before .before .before .before .before .before .before .before .before .before .before .before .before .before .before .pre .0 .0 .fair .few-lanes, c .before .before .before .before .before .before .before .before .before .before .before .before .before .before .before .before .before .before .before .before .pre .1 .1 .1 .iters-fit, c .before .before .before .before .before .before .loop .inv .2 .iters-fit, c .before .before .before .before .before .before .before .refill .inv .1 .iters-fit)))),
-)
+refill-again-2 c =
+    let at-if2 = c .before .before .before in
+    let at-if1 = at-if2 .before in
+    let at-loop-test = at-if1 .before in
+    let at-loop = at-loop-test .before in
+    let at-refill = at-loop .before in
+    let s = at-refill .before .before .before .before .before .before .before .before .before .before .before .before .before in
+    let inl : at-loop .loop .l < s .args .plan .lanes = omega (arith, at-loop-test .loop-test .taken, at-loop .loop .inv .0) in (
+      at-refill .refill .inv .0,
+      takes-on _ _ _ _ (at-refill .refill .inv .1) (takes-on _ _ _ _ (at-loop .loop .inv .2)
+          (takes-hold _ _ _ _ _ _ _ _ (at-loop .loop .l) inl (at-loop .loop .inv .3 (at-if2 .if2 .taken)) (at-if1 .if1 .left) (at-if2 .if2 .taken) _ (c .before .at-once .ensures) (c .if3 .left)
+          (omega (arith, s .pre .0 .0 .fair .few-lanes, s .pre .1 .1 .1 .held-fit, at-loop .loop .inv .2 .held-fit, at-refill .refill .inv .1 .held-fit))
+          (omega (arith, s .pre .0 .0 .fair .few-lanes, s .pre .1 .1 .1 .iters-fit, at-loop .loop .inv .2 .iters-fit, at-refill .refill .inv .1 .iters-fit)))),
+    )
 
 add-l : tie.Need-add-l Inv-loop μ-loop Inv-refill μ-refill
 add-l c = search needs
@@ -129,10 +177,12 @@ same-length-6 : tie.Need-same-length-6 Inv-loop μ-loop Inv-refill μ-refill
 same-length-6 c = c .before .loop .inv .2 .same .bch ∙ c .before .before .refill .inv .1 .same .bch
 
 returns : tie.Need-returns Inv-loop μ-loop Inv-refill μ-refill
-returns c = let at = c .before .loop in
+returns c =
+    let s = c .before .before .before .before .before .before .before .before .before .before .before .before .before .before .before in
+    let at = c .before .loop in
     takes-end _ _ _ _ _ _ _ _ _ _ _ _ _ (takes-on _ _ _ _ (c .before .before .refill .inv .1) (at .inv .2))
     (λ g k h. at .inv .3 g k (omega arith))
-    (let e : at .l ≡ c .before .before .before .before .before .before .before .before .before .before .before .before .before .before .before .args .plan .lanes = omega arith in at .inv .4 ∙ ap (any-held (at .held)) e)
+    (let e : at .l ≡ s .args .plan .lanes = omega arith in at .inv .4 ∙ ap (any-held (at .held)) e)
 
 pub assign-spec : {M : Type 1} → statement M
 assign-spec =

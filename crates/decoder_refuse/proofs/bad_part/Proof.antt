@@ -28,7 +28,9 @@ add-result c = search needs
 
 returns-3 : tie.Need-returns-3
 unfolding badPart
-returns-3 c = simp (le-ltb _ _ (c .before .before .before .before .if1 .left), le-ltb _ _ (c .before .before .before .if2 .left), c .before .before .wide .ensures, c .before .wide2 .ensures, c .wide3 .ensures)
+returns-3 c =
+    let if1 = c .before .before .before .before .if1 in
+    simp (le-ltb _ _ (if1 .left), le-ltb _ _ (c .before .before .before .if2 .left), c .before .before .wide .ensures, c .before .wide2 .ensures, c .wide3 .ensures)
 
 pub bad-part-spec : {M : Type 1} → statement M
 bad-part-spec =

@@ -29,10 +29,17 @@ wide-requires : tie.Need-wide-requires
 wide-requires c κs = search needs
 
 work-need-requires : tie.Need-work-need-requires
-work-need-requires c κs = omega (arith, c .before .before .before .before .before .before .pre, c .wide .ensures)
+work-need-requires c κs =
+    let s = c .before .before .before .before .before .before in
+    omega (arith, s .pre, c .wide .ensures)
 
 returns-3 : tie.Need-returns-3
-returns-3 c = short-work _ _ _ _ _ (c .before .before .before .before .before .before .if1 .left) (c .before .before .before .before .if2 .left) _ (c .before .before .work-need .ensures ∙ ap (workNeed (c .before .before .before .before .before .before .before .before .before .args .n) (c .before .before .before .before .before .before .before .before .before .args .e)) (c .before .before .before .wide .ensures)) (c .if3 .taken)
+returns-3 c =
+    let at-if2 = c .before .before .before .before in
+    let at-if1 = at-if2 .before .before in
+    let s = at-if1 .before .before .before in
+    short-work _ _ _ _ _ (at-if1 .if1 .left) (at-if2 .if2 .left) _
+    (c .before .before .work-need .ensures ∙ ap (workNeed (s .args .n) (s .args .e)) (c .before .before .before .wide .ensures)) (c .if3 .taken)
 
 add-result : tie.Need-add-result
 add-result c = search needs
@@ -41,7 +48,13 @@ add-result-2 : tie.Need-add-result-2
 add-result-2 c = search needs
 
 returns-4 : tie.Need-returns-4
-returns-4 c = short-index _ _ _ _ _ (c .before .before .before .before .before .before .before .if1 .left) (c .before .before .before .before .before .if2 .left) _ (c .before .before .before .work-need .ensures ∙ ap (workNeed (c .before .before .before .before .before .before .before .before .before .before .args .n) (c .before .before .before .before .before .before .before .before .before .before .args .e)) (c .before .before .before .before .wide .ensures)) (c .before .if3 .left)
+returns-4 c =
+    let at-wide = c .before .before .before .before in
+    let at-if2 = at-wide .before in
+    let at-if1 = at-if2 .before .before in
+    let s = at-if1 .before .before .before in
+    short-index _ _ _ _ _ (at-if1 .if1 .left) (at-if2 .if2 .left) _
+    (c .before .before .before .work-need .ensures ∙ ap (workNeed (s .args .n) (s .args .e)) (at-wide .wide .ensures)) (c .before .if3 .left)
 
 pub too-short-spec : {M : Type 1} → statement M
 too-short-spec =

@@ -13,8 +13,10 @@ counts-requires c κs = search needs
 
 write-held-requires : tie.Need-write-held-requires
 write-held-requires c κs =
+    let at-counts = c .before .before .before .before .before .before .before .before in
+    let at-some-held = at-counts .before in
     let s = c .before .before .before .before .before .before .before .before .before .before .before .before .before .before .before .before .before in
-    (s .pre .0, (s .pre .1 .0, (s .pre .1 .1, counted-held (s .pre .0 .memory .few-lanes) (c .before .before .before .before .before .before .before .before .counts .ensures) (s .args .held) (c .before .before .before .before .before .before .before .before .before .some-held .ensures))))
+    (s .pre .0, (s .pre .1 .0, (s .pre .1 .1, counted-held (s .pre .0 .memory .few-lanes) (at-counts .counts .ensures) (s .args .held) (at-some-held .some-held .ensures))))
 
 same-length : tie.Need-same-length
 same-length c = search needs

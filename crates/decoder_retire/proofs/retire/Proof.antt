@@ -15,8 +15,22 @@ counts-requires c κs = search needs
 
 turns-requires : tie.Need-turns-requires
 turns-requires c κs =
-    let s = c .before .before .before .before .before .before .before .before .before .before .before .before .before .before .before .before .before .before .before in
-    (s .pre .0, (s .pre .1 .0, (s .pre .1 .1 .0, (s .pre .1 .1 .1, tallied (s .pre .0 .memory .few-lanes) (c .before .before .before .before .before .before .before .before .counts .ensures) (s .args .at .held) (s .args .at .iters) (λ l. getD (s .args .verdict) l false) (c .before .before .before .before .before .before .before .before .before .due .ensures) (s .pre .1 .1 .1)))))
+    let at-counts = c .before .before .before .before .before .before .before .before in
+    let at-due = at-counts .before in
+    let s = c .before .before .before .before .before .before .before .before .before .before .before .before .before .before .before .before .before .before .before in (
+      s .pre .0,
+      (
+        s .pre .1 .0,
+        (
+          s .pre .1 .1 .0,
+          (
+            s .pre .1 .1 .1,
+            tallied (s .pre .0 .memory .few-lanes) (at-counts .counts .ensures) (s .args .at .held) (s .args .at .iters) (λ l. getD (s .args .verdict) l false)
+                (at-due .due .ensures) (s .pre .1 .1 .1),
+          ),
+        ),
+      ),
+    )
 
 same-length : tie.Need-same-length
 same-length c = search needs

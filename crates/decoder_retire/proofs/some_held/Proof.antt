@@ -37,8 +37,9 @@ loop-again c =
 
 returns : tie.Need-returns Inv-loop μ-loop
 returns c =
-    let e : c .before .loop .l ≡ c .before .before .args .lanes = omega (arith, c .before .loop .inv .0, c .loop-test .left) in
-    c .before .loop .inv .1 ∙ ap (any-held (c .before .before .args .t1)) e
+    let s = c .before .before in
+    let e : c .before .loop .l ≡ s .args .lanes = omega (arith, c .before .loop .inv .0, c .loop-test .left) in
+    c .before .loop .inv .1 ∙ ap (any-held (s .args .t1)) e
 
 pub some-held-spec : {M : Type 1} → statement M
 some-held-spec =

@@ -25,36 +25,54 @@ mul-h : tie.Need-mul-h Inv-loop μ-loop
 mul-h c = search needs
 
 array-read-h : tie.Need-array-read-h Inv-loop μ-loop
-array-read-h c = omega (arith, c .loop-test .taken, c .before .loop .inv .0, c .before .before .before .before .before .before .before .before .before .pre .0 .memory .few-lanes)
+array-read-h c =
+    let s = c .before .before .before .before .before .before .before .before .before in
+    omega (arith, c .loop-test .taken, c .before .loop .inv .0, s .pre .0 .memory .few-lanes)
 
 sub-w : tie.Need-sub-w Inv-loop μ-loop
 sub-w c = omega (arith, c .if1 .taken)
 
 cast-w : tie.Need-cast-w Inv-loop μ-loop
-cast-w c = let inl : c .before .before .loop .l < c .before .before .before .before .before .before .before .before .before .before .args .plan .lanes = omega (arith, c .before .loop-test .taken, c .before .before .loop .inv .0) in
-    omega (arith, c .before .before .before .before .before .before .before .before .before .before .pre .1 .1 .0 .1 .known (c .before .before .loop .l) inl (c .if1 .taken), c .before .before .before .before .before .before .before .before .before .before .pre .0 .fair .few-words)
+cast-w c =
+    let at-loop = c .before .before in
+    let s = at-loop .before .before .before .before .before .before .before .before in
+    let inl : at-loop .loop .l < s .args .plan .lanes = omega (arith, c .before .loop-test .taken, at-loop .loop .inv .0) in
+    omega (arith, s .pre .1 .1 .0 .1 .known (at-loop .loop .l) inl (c .if1 .taken), s .pre .0 .fair .few-words)
 
 mul-hold : tie.Need-mul-hold Inv-loop μ-loop
 mul-hold c = search needs
 
 array-read-hold : tie.Need-array-read-hold Inv-loop μ-loop
-array-read-hold c = omega (arith, c .before .loop-test .taken, c .before .before .loop .inv .0, c .before .before .before .before .before .before .before .before .before .before .pre .0 .memory .few-lanes)
+array-read-hold c =
+    let s = c .before .before .before .before .before .before .before .before .before .before in
+    omega (arith, c .before .loop-test .taken, c .before .before .loop .inv .0, s .pre .0 .memory .few-lanes)
 
 mul-hold-2 : tie.Need-mul-hold-2 Inv-loop μ-loop
 mul-hold-2 c = search needs
 
 array-read-hold-2 : tie.Need-array-read-hold-2 Inv-loop μ-loop
-array-read-hold-2 c = omega (arith, c .before .loop-test .taken, c .before .before .loop .inv .0, c .before .before .before .before .before .before .before .before .before .before .pre .0 .memory .few-lanes)
+array-read-hold-2 c =
+    let s = c .before .before .before .before .before .before .before .before .before .before in
+    omega (arith, c .before .loop-test .taken, c .before .before .loop .inv .0, s .pre .0 .memory .few-lanes)
 
 mul-hold-3 : tie.Need-mul-hold-3 Inv-loop μ-loop
 mul-hold-3 c = search needs
 
 array-read-hold-3 : tie.Need-array-read-hold-3 Inv-loop μ-loop
-array-read-hold-3 c = omega (arith, c .before .loop-test .taken, c .before .before .loop .inv .0, c .before .before .before .before .before .before .before .before .before .before .pre .0 .memory .few-lanes)
+array-read-hold-3 c =
+    let s = c .before .before .before .before .before .before .before .before .before .before in
+    omega (arith, c .before .loop-test .taken, c .before .before .loop .inv .0, s .pre .0 .memory .few-lanes)
 
 hold-requires : tie.Need-hold-requires Inv-loop μ-loop
-hold-requires c κs = let inl : c .before .before .before .before .before .before .before .before .loop .l < c .before .before .before .before .before .before .before .before .before .before .before .before .before .before .before .before .args .plan .lanes = omega (arith, c .before .before .before .before .before .before .before .loop-test .taken, c .before .before .before .before .before .before .before .before .loop .inv .0) in
-    ((c .before .before .before .before .before .before .before .before .before .before .before .before .before .before .before .before .pre .0, c .before .before .before .before .before .before .before .before .before .before .before .before .before .before .before .before .pre .1 .1 .0 .1 .known (c .before .before .before .before .before .before .before .before .loop .l) inl (c .before .before .before .before .before .before .if1 .taken), inl), (room-on (c .before .before .before .before .before .before .before .before .before .before .before .before .before .before .before .before .pre .1 .0) (c .before .before .before .before .before .before .before .before .loop .inv .2 .same), c .before .before .before .before .before .before .before .before .before .before .before .before .before .before .before .before .pre .1 .1 .1 (c .before .before .before .before .before .before .before .before .loop .l) inl (c .before .before .before .before .before .before .if1 .taken)))
+hold-requires c κs =
+    let at-if1 = c .before .before .before .before .before .before in
+    let at-loop-test = at-if1 .before in
+    let at-loop = at-loop-test .before in
+    let s = at-loop .before .before .before .before .before .before .before .before in
+    let inl : at-loop .loop .l < s .args .plan .lanes = omega (arith, at-loop-test .loop-test .taken, at-loop .loop .inv .0) in (
+      (s .pre .0, s .pre .1 .1 .0 .1 .known (at-loop .loop .l) inl (at-if1 .if1 .taken), inl),
+      (room-on (s .pre .1 .0) (at-loop .loop .inv .2 .same), s .pre .1 .1 .1 (at-loop .loop .l) inl (at-if1 .if1 .taken)),
+    )
 
 add-l : tie.Need-add-l Inv-loop μ-loop
 add-l c = search needs
@@ -63,14 +81,16 @@ loop-less : tie.Need-loop-less Inv-loop μ-loop
 loop-less c = search needs
 
 loop-again : tie.Need-loop-again Inv-loop μ-loop
-loop-again c = let at = c .before .before .loop in
-    let inl : at .l < c .before .before .before .before .before .before .before .before .before .before .args .plan .lanes = omega (arith, c .before .loop-test .taken, at .inv .0) in
+loop-again c =
+    let s = c .before .before .before .before .before .before .before .before .before .before in
+    let at = c .before .before .loop in
+    let inl : at .l < s .args .plan .lanes = omega (arith, c .before .loop-test .taken, at .inv .0) in
     ⊎-elim
     (λ w. (
       at .inv .0,
       omega arith,
       closes-as _ _ _ _ _ (λ i. book (w .21 i) (w .22 i) (w .23 i) (w .24 i) (w .25 i) (w .20 i))
-          (closes-write _ _ _ _ _ _ (at .l) _ (at .inv .2) inl _ (w .0 .taken) (c .before .before .before .before .before .before .before .before .before .before .pre .1 .1 .0 .1 .known (at .l) inl (w .0 .taken)) (w .7 .ensures .0) (w .7 .ensures .1)),
+          (closes-write _ _ _ _ _ _ (at .l) _ (at .inv .2) inl _ (w .0 .taken) (s .pre .1 .1 .0 .1 .known (at .l) inl (w .0 .taken)) (w .7 .ensures .0) (w .7 .ensures .1)),
     ))
     (λ w. (
       at .inv .0,
@@ -99,7 +119,9 @@ same-length-6 : tie.Need-same-length-6 Inv-loop μ-loop
 same-length-6 c = c .before .loop .inv .2 .same .bch
 
 returns : tie.Need-returns Inv-loop μ-loop
-returns c = let z : c .before .loop .l ≡ c .before .before .before .before .before .before .before .before .before .args .plan .lanes = omega arith in closes-to _ _ _ _ _ z (c .before .loop .inv .2)
+returns c =
+    let s = c .before .before .before .before .before .before .before .before .before in
+    let z : c .before .loop .l ≡ s .args .plan .lanes = omega arith in closes-to _ _ _ _ _ z (c .before .loop .inv .2)
 
 pub write-held-spec : {M : Type 1} → statement M
 write-held-spec =

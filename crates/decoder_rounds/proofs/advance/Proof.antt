@@ -14,16 +14,33 @@ cast-n : tie.Need-cast-n
 cast-n c = search needs
 
 iterate-requires : tie.Need-iterate-requires
-iterate-requires c κs = c .before .before .before .before .before .before .before .before .before .before .before .before .pre .0
+iterate-requires c κs =
+    let s = c .before .before .before .before .before .before .before .before .before .before .before .before in
+    s .pre .0
 
 flags-requires : tie.Need-flags-requires
 flags-requires c κs = search needs
 
 met-requires : tie.Need-met-requires
-met-requires c κs = memory-to (c .before .before .before .iterate .kept .1 .1 .1 .1 .1 .1 .1 .0) (c .before .before .before .before .before .before .before .before .before .before .before .before .before .before .before .before .pre .0 .0 .memory)
+met-requires c κs =
+    let s = c .before .before .before .before .before .before .before .before .before .before .before .before .before .before .before .before in
+    memory-to (c .before .before .before .iterate .kept .1 .1 .1 .1 .1 .1 .1 .0) (s .pre .0 .0 .memory)
 
 retire-requires : tie.Need-retire-requires
-retire-requires c κs = (working-to _ _ _ _ (c .before .before .before .before .before .before .before .before .before .before .before .iterate .kept .1 .1 .1 .1 .1 .1 .1 .0) (c .before .before .before .before .before .before .before .before .before .before .before .before .before .before .before .before .before .before .before .before .before .before .before .before .pre .0 .0), (c .before .before .before .before .before .before .before .before .before .before .before .before .before .before .before .before .before .before .before .before .before .before .before .before .pre .1 .0, (c .before .before .before .before .before .before .before .before .before .before .before .before .before .before .before .before .before .before .before .before .before .before .before .before .pre .1 .1, judged (c .before .before .before .before .before .before .before .before .before .before .before .before .before .before .before .before .before .before .before .before .before .before .before .before .args .plan) (c .before .before .before .before .before .before .before .before .before .before .before .before .before .before .before .before .before .before .before .before .before .before .before .before .args .index .now) _ (c .before .before .before .before .before .before .before .before .before .before .before .before .before .before .before .before .before .before .before .before .before .before .before .before .args .at .held) _ _ (c .before .before .before .before .before .before .before .before .before .before .before .before .before .before .before .before .before .before .before .before .before .before .before .before .pre .0 .0 .memory .few-lanes) (c .before .before .before .before .before .before .before .before .flags .ensures) (c .before .before .before .before .before .before .before .met .ensures))))
+retire-requires c κs =
+    let at-met = c .before .before .before .before .before .before .before in
+    let at-flags = at-met .before in
+    let at-iterate = at-flags .before .before .before in
+    let s = at-iterate .before .before .before .before .before .before .before .before .before .before .before .before .before in (
+      working-to _ _ _ _ (at-iterate .iterate .kept .1 .1 .1 .1 .1 .1 .1 .0) (s .pre .0 .0),
+      (
+        s .pre .1 .0,
+        (
+          s .pre .1 .1,
+          judged (s .args .plan) (s .args .index .now) _ (s .args .at .held) _ _ (s .pre .0 .0 .memory .few-lanes) (at-flags .flags .ensures) (at-met .met .ensures),
+        ),
+      ),
+    )
 
 same-length : tie.Need-same-length
 same-length c = search needs
@@ -47,7 +64,11 @@ same-length-7 : tie.Need-same-length-7
 same-length-7 c = search needs
 
 returns : tie.Need-returns
-returns c = (record { turned = λ l h. c .before .before .before .before .before .before .before .before .before .before .before .before .before .before .before .before .before .before .before .before .before .before .before .before .iterate .ensures l h ∙ ap (λ o. iterationOf (c .before .before .before .before .before .before .before .before .before .before .before .before .before .before .before .before .before .before .before .before .before .before .before .before .before .before .before .before .before .before .before .before .before .before .before .before .before .args .layered) (c .before .before .before .before .before .before .before .before .before .before .before .before .before .before .before .before .before .before .before .before .before .before .before .before .before .before .before .before .before .before .before .before .before .before .before .before .before .args .step) o (laneCode (c .before .before .before .before .before .before .before .before .before .before .before .before .before .before .before .before .before .before .before .before .before .before .before .before .before .before .before .before .before .before .before .before .before .before .before .before .before .args .plan) (c .before .before .before .before .before .before .before .before .before .before .before .before .before .before .before .before .before .before .before .before .before .before .before .before .before .before .before .before .before .before .before .before .before .before .before .before .before .args .index .now)) (c .before .before .before .before .before .before .before .before .before .before .before .before .before .before .before .before .before .before .before .before .before .before .before .before .before .before .before .before .before .before .before .before .before .before .before .before .before .args .plan .p) (laneWord (c .before .before .before .before .before .before .before .before .before .before .before .before .before .before .before .before .before .before .before .before .before .before .before .before .before .before .before .before .before .before .before .before .before .before .before .before .before .args .plan) (c .before .before .before .before .before .before .before .before .before .before .before .before .before .before .before .before .before .before .before .before .before .before .before .before .before .before .before .before .before .before .before .before .before .before .before .before .before .args .index .now) (c .before .before .before .before .before .before .before .before .before .before .before .before .before .before .before .before .before .before .before .before .before .before .before .before .before .before .before .before .before .before .before .before .before .before .before .before .before .args .work .now) l)) (plain (c .before .before .before .before .before .before .before .before .before .before .before .before .before .before .before .before .before .before .before .before .before .before .before .before .before .before .before .before .before .before .before .before .before .before .before .before .before .args .offset) (c .before .before .before .before .before .before .before .before .before .before .before .before .before .before .before .before .before .before .before .before .before .before .before .before .before .before .before .before .before .before .before .before .before .before .before .before .before .fits .offset)); retires = c .before .before .before .before .before .before .before .before .before .before .before .before .retire .ensures .0 }, c .before .before .before .before .before .before .before .before .before .before .before .before .retire .ensures .1 .0)
+returns c =
+    let at-retire = c .before .before .before .before .before .before .before .before .before .before .before .before in
+    let at-iterate = at-retire .before .before .before .before .before .before .before .before .before .before .before .before in
+    let s = at-iterate .before .before .before .before .before .before .before .before .before .before .before .before .before in
+    (record { turned = λ l h. at-iterate .iterate .ensures l h ∙ ap (λ o. iterationOf (s .args .layered) (s .args .step) o (laneCode (s .args .plan) (s .args .index .now)) (s .args .plan .p) (laneWord (s .args .plan) (s .args .index .now) (s .args .work .now) l)) (plain (s .args .offset) (s .fits .offset)); retires = at-retire .retire .ensures .0 }, at-retire .retire .ensures .1 .0)
 
 pub advance-spec : {M : Type 1} → statement M
 advance-spec =

@@ -30,7 +30,10 @@ loop-less : tie.Need-loop-less Inv-loop μ-loop
 loop-less c = omega (arith, c .before .loop .inv .1 .long)
 
 loop-again : tie.Need-loop-again Inv-loop μ-loop
-loop-again c = (omega (arith, c .loop-test .taken, c .before .loop .inv .1 .long), filled-again _ _ _ (c .before .loop .index) (c .before .loop .k) (omega (arith, c .loop-test .taken, c .before .loop .inv .1 .long)) (c .before .loop .inv .1))
+loop-again c = (
+  omega (arith, c .loop-test .taken, c .before .loop .inv .1 .long),
+  filled-again _ _ _ (c .before .loop .index) (c .before .loop .k) (omega (arith, c .loop-test .taken, c .before .loop .inv .1 .long)) (c .before .loop .inv .1),
+)
 
 same-length : tie.Need-same-length Inv-loop μ-loop
 same-length c = c .before .loop .inv .1 .long

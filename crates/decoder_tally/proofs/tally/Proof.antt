@@ -24,7 +24,10 @@ shared-slice-read-given : tie.Need-shared-slice-read-given Inv-loop μ-loop
 shared-slice-read-given c = search needs
 
 add-given : tie.Need-add-given Inv-loop μ-loop
-add-given c = omega (arith, c .before .before .loop .inv .1 .given-le, c .before .loop-test .taken, c .before .before .before .before .before .before .pre .0 .0, c .before .before .before .before .before .before .pre .1 (c .before .before .loop .w))
+add-given c =
+    let at-loop = c .before .before in
+    let s = at-loop .before .before .before .before in
+    omega (arith, at-loop .loop .inv .1 .given-le, c .before .loop-test .taken, s .pre .0 .0, s .pre .1 (at-loop .loop .w))
 
 mul-kept-of : tie.Need-mul-kept-of Inv-loop μ-loop
 mul-kept-of c = search needs
@@ -42,7 +45,14 @@ kept-of-requires : tie.Need-kept-of-requires Inv-loop μ-loop
 kept-of-requires c κs = search needs
 
 add-kept : tie.Need-add-kept Inv-loop μ-loop
-add-kept c = let t = tallying-again _ _ _ (c .before .before .before .before .before .loop .w) (c .before .before .before .before .before .loop .given) (c .before .before .before .before .before .loop .kept) (c .before .before .before .before .before .loop .lost) _ _ (c .kept-of .ensures) refl (c .before .before .before .before .before .before .before .before .before .pre .1 (c .before .before .before .before .before .loop .w)) (c .before .before .before .before .before .loop .inv .1) in omega (arith, t .kept-le, c .before .before .before .before .loop-test .taken, c .before .before .before .before .before .before .before .before .before .pre .0 .0)
+add-kept c =
+    let at-loop-test = c .before .before .before .before in
+    let at-loop = at-loop-test .before in
+    let s = at-loop .before .before .before .before in
+    let t =
+    tallying-again _ _ _ (at-loop .loop .w) (at-loop .loop .given) (at-loop .loop .kept) (at-loop .loop .lost) _ _ (c .kept-of .ensures) refl
+    (s .pre .1 (at-loop .loop .w)) (at-loop .loop .inv .1) in
+    omega (arith, t .kept-le, at-loop-test .loop-test .taken, s .pre .0 .0)
 
 mul-lost-of : tie.Need-mul-lost-of Inv-loop μ-loop
 mul-lost-of c = search needs
@@ -60,7 +70,14 @@ lost-of-requires : tie.Need-lost-of-requires Inv-loop μ-loop
 lost-of-requires c κs = search needs
 
 add-lost : tie.Need-add-lost Inv-loop μ-loop
-add-lost c = let t = tallying-again _ _ _ (c .before .before .before .before .before .before .before .before .loop .w) (c .before .before .before .before .before .before .before .before .loop .given) (c .before .before .before .before .before .before .before .before .loop .kept) (c .before .before .before .before .before .before .before .before .loop .lost) _ _ (c .before .before .before .kept-of .ensures) (c .lost-of .ensures) (c .before .before .before .before .before .before .before .before .before .before .before .before .pre .1 (c .before .before .before .before .before .before .before .before .loop .w)) (c .before .before .before .before .before .before .before .before .loop .inv .1) in omega (arith, t .lost-le, c .before .before .before .before .before .before .before .loop-test .taken, c .before .before .before .before .before .before .before .before .before .before .before .before .pre .0 .0)
+add-lost c =
+    let at-loop-test = c .before .before .before .before .before .before .before in
+    let at-loop = at-loop-test .before in
+    let s = at-loop .before .before .before .before in
+    let t =
+    tallying-again _ _ _ (at-loop .loop .w) (at-loop .loop .given) (at-loop .loop .kept) (at-loop .loop .lost) _ _ (c .before .before .before .kept-of .ensures)
+    (c .lost-of .ensures) (s .pre .1 (at-loop .loop .w)) (at-loop .loop .inv .1) in
+    omega (arith, t .lost-le, at-loop-test .loop-test .taken, s .pre .0 .0)
 
 add-w : tie.Need-add-w Inv-loop μ-loop
 add-w c = search needs
@@ -69,11 +86,22 @@ loop-less : tie.Need-loop-less Inv-loop μ-loop
 loop-less c = search needs
 
 loop-again : tie.Need-loop-again Inv-loop μ-loop
-loop-again c = (omega arith, tallying-again _ _ _ (c .before .before .before .before .before .before .before .before .loop .w) (c .before .before .before .before .before .before .before .before .loop .given) (c .before .before .before .before .before .before .before .before .loop .kept) (c .before .before .before .before .before .before .before .before .loop .lost) _ _ (c .before .before .before .kept-of .ensures) (c .lost-of .ensures) (c .before .before .before .before .before .before .before .before .before .before .before .before .pre .1 (c .before .before .before .before .before .before .before .before .loop .w)) (c .before .before .before .before .before .before .before .before .loop .inv .1))
+loop-again c =
+    let at-loop = c .before .before .before .before .before .before .before .before in
+    let s = at-loop .before .before .before .before in (
+      omega arith,
+      tallying-again _ _ _ (at-loop .loop .w) (at-loop .loop .given) (at-loop .loop .kept) (at-loop .loop .lost) _ _ (c .before .before .before .kept-of .ensures)
+          (c .lost-of .ensures) (s .pre .1 (at-loop .loop .w)) (at-loop .loop .inv .1),
+    )
 
 returns : tie.Need-returns Inv-loop μ-loop
-returns c = let e : c .before .loop .w ≡ c .before .before .before .before .before .args .words = omega arith in
-    (c .before .loop .inv .1 .given-is ∙ ap (givenIn (c .before .before .before .before .before .args .iterations .now)) e, c .before .loop .inv .1 .kept-is ∙ ap (keptIn (c .before .before .before .before .before .args .state .now) (c .before .before .before .before .before .args .bch .now)) e, c .before .loop .inv .1 .lost-is ∙ ap (lostIn (c .before .before .before .before .before .args .state .now) (c .before .before .before .before .before .args .bch .now)) e)
+returns c =
+    let s = c .before .before .before .before .before in
+    let e : c .before .loop .w ≡ s .args .words = omega arith in (
+      c .before .loop .inv .1 .given-is ∙ ap (givenIn (s .args .iterations .now)) e,
+      c .before .loop .inv .1 .kept-is ∙ ap (keptIn (s .args .state .now) (s .args .bch .now)) e,
+      c .before .loop .inv .1 .lost-is ∙ ap (lostIn (s .args .state .now) (s .args .bch .now)) e,
+    )
 
 pub tally-spec : {M : Type 1} → statement M
 tally-spec =

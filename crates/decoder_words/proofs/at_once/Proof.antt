@@ -19,10 +19,14 @@ cast-n : tie.Need-cast-n
 cast-n c = search needs
 
 mul-a : tie.Need-mul-a
-mul-a c = omega (arith, word-ends (c .before .before .before .before .args .plan .n) (c .before .before .before .before .args .w) (c .before .before .before .before .args .plan .words) (c .before .before .before .before .pre .1), all-le _ (c .before .before .before .before .pre .0 .fair))
+mul-a c =
+    let s = c .before .before .before .before in
+    omega (arith, word-ends (s .args .plan .n) (s .args .w) (s .args .plan .words) (s .pre .1), all-le _ (s .pre .0 .fair))
 
 add-b : tie.Need-add-b
-add-b c = omega (arith, word-ends (c .before .before .before .before .args .plan .n) (c .before .before .before .before .args .w) (c .before .before .before .before .args .plan .words) (c .before .before .before .before .pre .1), all-le _ (c .before .before .before .before .pre .0 .fair))
+add-b c =
+    let s = c .before .before .before .before in
+    omega (arith, word-ends (s .args .plan .n) (s .args .w) (s .args .plan .words) (s .pre .1), all-le _ (s .pre .0 .fair))
 
 sub-soft-met : tie.Need-sub-soft-met
 sub-soft-met c = search needs
@@ -31,18 +35,34 @@ part-soft-met-start : tie.Need-part-soft-met-start
 part-soft-met-start c = search needs
 
 part-soft-met-end : tie.Need-part-soft-met-end
-part-soft-met-end c = omega (arith, word-ends (c .before .before .before .before .args .plan .n) (c .before .before .before .before .args .w) (c .before .before .before .before .args .plan .words) (c .before .before .before .before .pre .1), c .before .before .before .before .pre .0 .soft-long)
+part-soft-met-end c =
+    let s = c .before .before .before .before in
+    omega (arith, word-ends (s .args .plan .n) (s .args .w) (s .args .plan .words) (s .pre .1), s .pre .0 .soft-long)
 
 soft-met-requires : tie.Need-soft-met-requires
-soft-met-requires c κs = own-lent _ _ _ _ _ (c .before .before .before .before .before .pre .0) (c .before .before .before .before .before .args .w) (c .before .before .before .before .before .pre .1)
+soft-met-requires c κs =
+    let s = c .before .before .before .before .before in
+    own-lent _ _ _ _ _ (s .pre .0) (s .args .w) (s .pre .1)
 
 returns : tie.Need-returns
-returns c = let e = ap₂ (λ (q : ℕ) (s : List ℤ). metOf (codeOf (c .before .before .before .before .before .before .before .args .plan .n) (c .before .before .before .before .before .before .before .args .lens .now) (c .before .before .before .before .before .before .before .args .addrs .now)) q (begin (c .before .before .before .before .before .before .before .args .plan .n) s)) (c .before .before .before .before .before .before .before .pre .0 .coded .checks) (sym (own (c .before .before .before .before .before .before .before .args .plan .n) (c .before .before .before .before .before .before .before .args .w) (c .before .before .before .before .before .before .before .args .soft .now))) ∙ sym (c .before .soft-met .ensures) ∙ c .if1 .taken in
-    sym (λ i. e i || eqb 0 (c .before .before .before .before .before .before .before .args .plan .limit))
+returns c =
+    let s′ = c .before .before .before .before .before .before .before in
+    let e =
+    ap₂ (λ (q : ℕ) (s : List ℤ). metOf (codeOf (s′ .args .plan .n) (s′ .args .lens .now) (s′ .args .addrs .now)) q (begin (s′ .args .plan .n) s))
+    (s′ .pre .0 .coded .checks) (sym (own (s′ .args .plan .n) (s′ .args .w) (s′ .args .soft .now)))
+    ∙ sym (c .before .soft-met .ensures)
+    ∙ c .if1 .taken in
+    sym (λ i. e i || eqb 0 (s′ .args .plan .limit))
 
 returns-2 : tie.Need-returns-2
-returns-2 c = let e = ap₂ (λ (q : ℕ) (s : List ℤ). metOf (codeOf (c .before .before .before .before .before .before .before .before .args .plan .n) (c .before .before .before .before .before .before .before .before .args .lens .now) (c .before .before .before .before .before .before .before .before .args .addrs .now)) q (begin (c .before .before .before .before .before .before .before .before .args .plan .n) s)) (c .before .before .before .before .before .before .before .before .pre .0 .coded .checks) (sym (own (c .before .before .before .before .before .before .before .before .args .plan .n) (c .before .before .before .before .before .before .before .before .args .w) (c .before .before .before .before .before .before .before .before .args .soft .now))) ∙ sym (c .before .before .soft-met .ensures) ∙ c .before .if1 .left in
-    sym (λ i. e i || eqb 0 (c .before .before .before .before .before .before .before .before .args .plan .limit))
+returns-2 c =
+    let s′ = c .before .before .before .before .before .before .before .before in
+    let e =
+    ap₂ (λ (q : ℕ) (s : List ℤ). metOf (codeOf (s′ .args .plan .n) (s′ .args .lens .now) (s′ .args .addrs .now)) q (begin (s′ .args .plan .n) s))
+    (s′ .pre .0 .coded .checks) (sym (own (s′ .args .plan .n) (s′ .args .w) (s′ .args .soft .now)))
+    ∙ sym (c .before .before .soft-met .ensures)
+    ∙ c .before .if1 .left in
+    sym (λ i. e i || eqb 0 (s′ .args .plan .limit))
 
 pub at-once-spec : {M : Type 1} → statement M
 at-once-spec =

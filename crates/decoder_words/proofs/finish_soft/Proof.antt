@@ -21,10 +21,14 @@ cast-n : tie.Need-cast-n
 cast-n c = search needs
 
 mul-a : tie.Need-mul-a
-mul-a c = omega (arith, word-ends (c .before .before .before .before .before .before .before .before .before .before .args .plan .n) (c .before .before .before .before .before .before .before .before .before .before .args .w) (c .before .before .before .before .before .before .before .before .before .before .args .plan .words) (c .before .before .before .before .before .before .before .before .before .before .pre .0 .1), all-le _ (c .before .before .before .before .before .before .before .before .before .before .pre .0 .0 .fair))
+mul-a c =
+    let s = c .before .before .before .before .before .before .before .before .before .before in
+    omega (arith, word-ends (s .args .plan .n) (s .args .w) (s .args .plan .words) (s .pre .0 .1), all-le _ (s .pre .0 .0 .fair))
 
 add-b : tie.Need-add-b
-add-b c = omega (arith, word-ends (c .before .before .before .before .before .before .before .before .before .before .args .plan .n) (c .before .before .before .before .before .before .before .before .before .before .args .w) (c .before .before .before .before .before .before .before .before .before .before .args .plan .words) (c .before .before .before .before .before .before .before .before .before .before .pre .0 .1), all-le _ (c .before .before .before .before .before .before .before .before .before .before .pre .0 .0 .fair))
+add-b c =
+    let s = c .before .before .before .before .before .before .before .before .before .before in
+    omega (arith, word-ends (s .args .plan .n) (s .args .w) (s .args .plan .words) (s .pre .0 .1), all-le _ (s .pre .0 .0 .fair))
 
 sub-soft-unmet : tie.Need-sub-soft-unmet
 sub-soft-unmet c = search needs
@@ -33,10 +37,14 @@ part-soft-unmet-start : tie.Need-part-soft-unmet-start
 part-soft-unmet-start c = search needs
 
 part-soft-unmet-end : tie.Need-part-soft-unmet-end
-part-soft-unmet-end c = omega (arith, word-ends (c .before .before .before .before .before .before .before .before .before .before .args .plan .n) (c .before .before .before .before .before .before .before .before .before .before .args .w) (c .before .before .before .before .before .before .before .before .before .before .args .plan .words) (c .before .before .before .before .before .before .before .before .before .before .pre .0 .1), c .before .before .before .before .before .before .before .before .before .before .pre .0 .0 .soft-long)
+part-soft-unmet-end c =
+    let s = c .before .before .before .before .before .before .before .before .before .before in
+    omega (arith, word-ends (s .args .plan .n) (s .args .w) (s .args .plan .words) (s .pre .0 .1), s .pre .0 .0 .soft-long)
 
 soft-unmet-requires : tie.Need-soft-unmet-requires
-soft-unmet-requires c κs = own-lent _ _ _ _ _ (c .before .before .before .before .before .before .before .before .before .before .before .pre .0 .0) (c .before .before .before .before .before .before .before .before .before .before .before .args .w) (c .before .before .before .before .before .before .before .before .before .before .before .pre .0 .1)
+soft-unmet-requires c κs =
+    let s = c .before .before .before .before .before .before .before .before .before .before .before in
+    own-lent _ _ _ _ _ (s .pre .0 .0) (s .args .w) (s .pre .0 .1)
 
 sub-soft-part : tie.Need-sub-soft-part
 sub-soft-part c = search needs
@@ -45,7 +53,9 @@ part-soft-part-start : tie.Need-part-soft-part-start
 part-soft-part-start c = search needs
 
 part-soft-part-end : tie.Need-part-soft-part-end
-part-soft-part-end c = omega (arith, word-ends (c .before .before .before .before .before .before .before .before .before .before .before .before .args .plan .n) (c .before .before .before .before .before .before .before .before .before .before .before .before .args .w) (c .before .before .before .before .before .before .before .before .before .before .before .before .args .plan .words) (c .before .before .before .before .before .before .before .before .before .before .before .before .pre .0 .1), c .before .before .before .before .before .before .before .before .before .before .before .before .pre .0 .0 .soft-long)
+part-soft-part-end c =
+    let s = c .before .before .before .before .before .before .before .before .before .before .before .before in
+    omega (arith, word-ends (s .args .plan .n) (s .args .w) (s .args .plan .words) (s .pre .0 .1), s .pre .0 .0 .soft-long)
 
 sub-soft-part-2 : tie.Need-sub-soft-part-2
 sub-soft-part-2 c = search needs
@@ -54,16 +64,33 @@ part-soft-part-start-2 : tie.Need-part-soft-part-start-2
 part-soft-part-start-2 c = search needs
 
 part-soft-part-end-2 : tie.Need-part-soft-part-end-2
-part-soft-part-end-2 c = omega (arith, word-ends (c .before .before .before .before .before .before .before .before .before .before .before .before .before .args .plan .n) (c .before .before .before .before .before .before .before .before .before .before .before .before .before .args .w) (c .before .before .before .before .before .before .before .before .before .before .before .before .before .args .plan .words) (c .before .before .before .before .before .before .before .before .before .before .before .before .before .pre .0 .1), c .before .before .before .before .before .before .before .before .before .before .before .before .before .pre .1 .out)
+part-soft-part-end-2 c =
+    let s = c .before .before .before .before .before .before .before .before .before .before .before .before .before in
+    omega (arith, word-ends (s .args .plan .n) (s .args .w) (s .args .plan .words) (s .pre .0 .1), s .pre .1 .out)
 
 soft-part-requires : tie.Need-soft-part-requires
-soft-part-requires c κs = (own-lent _ _ _ _ _ (c .before .before .before .before .before .before .before .before .before .before .before .before .before .before .pre .0 .0) (c .before .before .before .before .before .before .before .before .before .before .before .before .before .before .args .w) (c .before .before .before .before .before .before .before .before .before .before .before .before .before .before .pre .0 .1) .word, middle (c .before .before .before .before .before .before .before .before .before .before .before .before .before .before .args .plan .n) (c .before .before .before .before .before .before .before .before .before .before .before .before .before .before .args .w) (c .before .before .before .before .before .before .before .before .before .before .before .before .before .before .args .out .now) (c .before .before .before .before .before .before .before .before .before .before .before .before .before .before .args .plan .words) (c .before .before .before .before .before .before .before .before .before .before .before .before .before .before .pre .0 .1) (c .before .before .before .before .before .before .before .before .before .before .before .before .before .before .pre .1 .out), c .before .before .before .before .before .before .before .before .before .before .before .before .before .before .pre .0 .0 .fair .part-within, c .before .before .before .before .before .before .before .before .before .before .before .before .before .before .pre .0 .0 .fair .part-long, c .before .before .before .before .before .before .before .before .before .before .before .before .before .before .pre .0 .0 .fair .part-short)
+soft-part-requires c κs =
+    let s = c .before .before .before .before .before .before .before .before .before .before .before .before .before .before in (
+      own-lent _ _ _ _ _ (s .pre .0 .0) (s .args .w) (s .pre .0 .1) .word,
+      middle (s .args .plan .n) (s .args .w) (s .args .out .now) (s .args .plan .words) (s .pre .0 .1) (s .pre .1 .out),
+      s .pre .0 .0 .fair .part-within,
+      s .pre .0 .0 .fair .part-long,
+      s .pre .0 .0 .fair .part-short,
+    )
 
 state-of-requires : tie.Need-state-of-requires
 state-of-requires c κs = search needs
 
 note-requires : tie.Need-note-requires
-note-requires c κs = (omega (arith, c .before .before .before .before .before .before .before .before .before .before .before .before .before .before .before .before .before .before .before .before .before .before .before .before .pre .1 .state, c .before .before .before .before .before .before .before .before .before .before .before .before .before .before .before .before .before .before .before .before .before .before .before .before .pre .0 .0 .fair .few-words, c .before .before .before .before .before .before .before .before .before .before .before .before .before .before .before .before .before .before .before .before .before .before .before .before .pre .0 .1), omega (arith, c .before .before .before .before .before .before .before .before .before .before .before .before .before .before .before .before .before .before .before .before .before .before .before .before .pre .1 .iterations, c .before .before .before .before .before .before .before .before .before .before .before .before .before .before .before .before .before .before .before .before .before .before .before .before .pre .0 .0 .fair .few-words, c .before .before .before .before .before .before .before .before .before .before .before .before .before .before .before .before .before .before .before .before .before .before .before .before .pre .0 .1), omega (arith, c .before .before .before .before .before .before .before .before .before .before .before .before .before .before .before .before .before .before .before .before .before .before .before .before .pre .1 .unsatisfied, c .before .before .before .before .before .before .before .before .before .before .before .before .before .before .before .before .before .before .before .before .before .before .before .before .pre .0 .0 .fair .few-words, c .before .before .before .before .before .before .before .before .before .before .before .before .before .before .before .before .before .before .before .before .before .before .before .before .pre .0 .1), omega (arith, c .before .before .before .before .before .before .before .before .before .before .before .before .before .before .before .before .before .before .before .before .before .before .before .before .pre .1 .check, c .before .before .before .before .before .before .before .before .before .before .before .before .before .before .before .before .before .before .before .before .before .before .before .before .pre .0 .0 .fair .few-words, c .before .before .before .before .before .before .before .before .before .before .before .before .before .before .before .before .before .before .before .before .before .before .before .before .pre .0 .1), omega (arith, c .before .before .before .before .before .before .before .before .before .before .before .before .before .before .before .before .before .before .before .before .before .before .before .before .pre .1 .bch, c .before .before .before .before .before .before .before .before .before .before .before .before .before .before .before .before .before .before .before .before .before .before .before .before .pre .0 .0 .fair .few-words, c .before .before .before .before .before .before .before .before .before .before .before .before .before .before .before .before .before .before .before .before .before .before .before .before .pre .0 .1))
+note-requires c κs =
+    let s =
+    c .before .before .before .before .before .before .before .before .before .before .before .before .before .before .before .before .before .before .before .before .before .before .before .before in (
+      omega (arith, s .pre .1 .state, s .pre .0 .0 .fair .few-words, s .pre .0 .1),
+      omega (arith, s .pre .1 .iterations, s .pre .0 .0 .fair .few-words, s .pre .0 .1),
+      omega (arith, s .pre .1 .unsatisfied, s .pre .0 .0 .fair .few-words, s .pre .0 .1),
+      omega (arith, s .pre .1 .check, s .pre .0 .0 .fair .few-words, s .pre .0 .1),
+      omega (arith, s .pre .1 .bch, s .pre .0 .0 .fair .few-words, s .pre .0 .1),
+    )
 
 same-length : tie.Need-same-length
 same-length c = search needs
@@ -84,23 +111,29 @@ same-length-6 : tie.Need-same-length-6
 same-length-6 c = search needs
 
 returns : tie.Need-returns
-returns c = let G = c .before .before .before .before .before .before .before .before .before .before .before .before .before .before .before .before .before .before .before .before .before .before .before .before .before .before .before .before .before .before .before .before .before .before .before .pre .0 .0 in
-    let n = c .before .before .before .before .before .before .before .before .before .before .before .before .before .before .before .before .before .before .before .before .before .before .before .before .before .before .before .before .before .before .before .before .before .before .before .args .plan .n in
-    let w = c .before .before .before .before .before .before .before .before .before .before .before .before .before .before .before .before .before .before .before .before .before .before .before .before .before .before .before .before .before .before .before .before .before .before .before .args .w in
-    let u = c .before .before .before .before .before .before .before .before .before .before .before .before .before .before .before .before .before .before .before .before .before .before .before .soft-unmet .result in
-    let own-is = own n w (c .before .before .before .before .before .before .before .before .before .before .before .before .before .before .before .before .before .before .before .before .before .before .before .before .before .before .before .before .before .before .before .before .before .before .before .args .soft .now) in
-    let x : View = record { state = c .before .before .before .before .before .before .before .before .before .before .before .before .before .before .before .before .state-of .result; iterations = 0; unsatisfied = u .count; check = u .check; bch = c .before .before .before .before .before .before .before .before .before .before .before .before .before .before .before .before .before .before .before .before .soft-part .result; bits = c .before .before .before .before .before .before .before .before .before .before .before .before .before .before .before .before .before .before .before .before .soft-part .last .1 .1 .0 } in
-    let bits-are = c .before .before .before .before .before .before .before .before .before .before .before .before .before .before .before .before .before .before .before .before .soft-part .ensures .1 ∙ ap (λ (s : List ℤ). corrected (c .before .before .before .before .before .before .before .before .before .before .before .before .before .before .before .before .before .before .before .before .before .before .before .before .before .before .before .before .before .before .before .before .before .before .before .args .plan .first) (c .before .before .before .before .before .before .before .before .before .before .before .before .before .before .before .before .before .before .before .before .before .before .before .before .before .before .before .before .before .before .before .before .before .before .before .args .plan .size) (bitsOf n (begin n s))) own-is in
+returns c =
+    let at-note = c .before .before .before .before .before .before .before .before .before .before in
+    let at-state-of = at-note .before .before .before .before .before .before in
+    let at-soft-part = at-state-of .before .before .before .before in
+    let at-soft-unmet = at-soft-part .before .before .before in
+    let s′ = at-soft-unmet .before .before .before .before .before .before .before .before .before .before .before .before in
+    let G = s′ .pre .0 .0 in
+    let n = s′ .args .plan .n in
+    let w = s′ .args .w in
+    let u = at-soft-unmet .soft-unmet .result in
+    let own-is = own n w (s′ .args .soft .now) in
+    let x : View = record { state = at-state-of .state-of .result; iterations = 0; unsatisfied = u .count; check = u .check; bch = at-soft-part .soft-part .result; bits = at-soft-part .soft-part .last .1 .1 .0 } in
+    let bits-are = at-soft-part .soft-part .ensures .1 ∙ ap (λ (s : List ℤ). corrected (s′ .args .plan .first) (s′ .args .plan .size) (bitsOf n (begin n s))) own-is in
     let long : length (x .bits) ≡ n = ap length bits-are ∙ corrected-length _ _ _ ∙ bits-length n _ in
-    let room = c .before .before .before .before .before .before .before .before .before .before .before .before .before .before .before .before .before .before .before .before .before .before .before .before .before .before .before .before .before .before .before .before .before .before .before .pre .1 in
-    let few : w < 4096 = omega (arith, G .fair .few-words, c .before .before .before .before .before .before .before .before .before .before .before .before .before .before .before .before .before .before .before .before .before .before .before .before .before .before .before .before .before .before .before .before .before .before .before .pre .0 .1) in
-    let fits : w * n + n ≤ length (c .before .before .before .before .before .before .before .before .before .before .before .before .before .before .before .before .before .before .before .before .before .before .before .before .before .before .before .before .before .before .before .before .before .before .before .args .out .now) = omega (arith, word-ends n w _ (c .before .before .before .before .before .before .before .before .before .before .before .before .before .before .before .before .before .before .before .before .before .before .before .before .before .before .before .before .before .before .before .before .before .before .before .pre .0 .1), room .out) in
+    let room = s′ .pre .1 in
+    let few : w < 4096 = omega (arith, G .fair .few-words, s′ .pre .0 .1) in
+    let fits : w * n + n ≤ length (s′ .args .out .now) = omega (arith, word-ends n w _ (s′ .pre .0 .1), room .out) in
     let k-is : w * n + n - w * n ≡ n = omega arith in
-    let e = c .before .before .before .before .before .before .before .before .before .before .note .ensures in (
+    let e = at-note .note .ensures in (
       written-only _ _ w _ _ x room few fits _ (e .0) (e .1) (e .2) (e .3) (e .4) refl k-is long,
       subst (Ends _ n _ _ _ _ 0) (sym (written-view _ _ w _ _ x room few fits _ (e .0) (e .1) (e .2) (e .3) (e .4) refl k-is long))
-          (ended _ n _ _ _ _ 0 x (counted-to (sym (G .coded .checks)) (ap (begin n) own-is) (c .before .before .before .before .before .before .before .before .before .before .before .before .before .before .before .before .before .before .before .before .before .before .before .soft-unmet .ensures)) refl (c .before .before .before .before .before .before .before .before .before .before .before .before .before .before .before .before .state-of .ensures)
-          (c .before .before .before .before .before .before .before .before .before .before .before .before .before .before .before .before .before .before .before .before .soft-part .ensures .0 ∙ ap (λ (s : List ℤ). bchOf (c .before .before .before .before .before .before .before .before .before .before .before .before .before .before .before .before .before .before .before .before .before .before .before .before .before .before .before .before .before .before .before .before .before .before .before .args .plan .first) (c .before .before .before .before .before .before .before .before .before .before .before .before .before .before .before .before .before .before .before .before .before .before .before .before .before .before .before .before .before .before .before .before .before .before .before .args .plan .size) (bitsOf n (begin n s))) own-is) bits-are),
+          (ended _ n _ _ _ _ 0 x (counted-to (sym (G .coded .checks)) (ap (begin n) own-is) (at-soft-unmet .soft-unmet .ensures)) refl (at-state-of .state-of .ensures)
+          (at-soft-part .soft-part .ensures .0 ∙ ap (λ (s : List ℤ). bchOf (s′ .args .plan .first) (s′ .args .plan .size) (bitsOf n (begin n s))) own-is) bits-are),
     )
 
 pub finish-soft-spec : {M : Type 1} → statement M

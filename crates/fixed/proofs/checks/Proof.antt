@@ -40,13 +40,15 @@ degree-requires c κs = let s = c .before .before .before .before .before in (s 
 
 check-node-requires : tie.Need-check-node-requires Inv-loop μ-loop
 check-node-requires c κs =
+    let loop-test = c .before .before .before .before .before .loop-test in
     let s = c .before .before .before .before .before .before .before .before .before in
     let h = c .before .before .before .before .before .before in
-    let inside = s .pre .1 .0 (h .loop .x) (c .before .before .before .before .before .loop-test .taken) in
+    let inside = s .pre .1 .0 (h .loop .x) (loop-test .taken) in
     let r = c .before .before .before .before .start in
     let d = c .before .before .before .degree in (
       subst (λ (l : List ℕ). Room l (r .result) (d .result) (s .args .n) (s .args .lanes) (h .loop .work)) (sym (s .pre .0 .1))
-          (room (stepped (s .args .first) (s .args .q) (h .loop .x)) (r .result) (d .result) (memory-to (h .loop .inv .1 .0) (s .pre .0 .0)) inside (r .ensures) (omega (arith, r .ensures, d .ensures))),
+          (room (stepped (s .args .first) (s .args .q) (h .loop .x)) (r .result) (d .result) (memory-to (h .loop .inv .1 .0) (s .pre .0 .0)) inside (r .ensures)
+          (omega (arith, r .ensures, d .ensures))),
       (omega (arith, h .loop .inv .1 .1 .0 .0, s .pre .1 .1 .0), omega (arith, h .loop .inv .1 .1 .0 .1, s .pre .1 .1 .1)),
     )
 
@@ -58,9 +60,10 @@ loop-less c = search needs
 
 loop-again : tie.Need-loop-again Inv-loop μ-loop
 loop-again c =
+    let loop-test = c .before .before .before .before .before .before .before .before .before .loop-test in
     let s = c .before .before .before .before .before .before .before .before .before .before .before .before .before in
     let h = c .before .before .before .before .before .before .before .before .before .before in
-    let y = c .before .before .before .before .before .before .before .before .before .loop-test .taken in
+    let y = loop-test .taken in
     let r = c .before .before .before .before .before .before .before .before .start in
     let d = c .before .before .before .before .before .before .before .degree in
     let k = c .before .before .before .check-node in (
@@ -70,7 +73,9 @@ loop-again c =
         (
           (omega (arith, k .kept, h .loop .inv .1 .1 .0 .0), omega (arith, k .kept, h .loop .inv .1 .1 .0 .1)),
           turn-again (s .pre .1 .0 (h .loop .x) y) (r .ensures) (omega (arith, r .ensures, d .ensures)) (h .loop .inv .1 .1 .1)
-              (subst (λ (l : List ℕ). CheckNode l (r .result) (d .result) (s .args .n) (s .args .lanes) (toZ w8 (ofZ w8 (s .args .offset))) (h .loop .work) (k .last .1 .1 .1 .0)) (s .pre .0 .1) (k .ensures)),
+              (subst
+              (λ (l : List ℕ). CheckNode l (r .result) (d .result) (s .args .n) (s .args .lanes) (toZ w8 (ofZ w8 (s .args .offset))) (h .loop .work) (k .last .1 .1 .1 .0))
+              (s .pre .0 .1) (k .ensures)),
         ),
       ),
     )

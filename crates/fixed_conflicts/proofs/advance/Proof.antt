@@ -64,8 +64,11 @@ loop-again : tie.Need-loop-again Inv-loop μ-loop
 loop-again c =
     let s = c .before .before .before .before .before .before in
     let h = c .before .before .before .before in
-    let q = c .before .before .before .loop-test .taken in
-    (omega (arith, q), advanced-again (h .loop .inv .1) (omega (arith, q, s .pre .0 .1 .1)) (omega (arith, q, s .pre .0)) (ap (λ (z : ℕ). z + getD (s .args .counts .now) (h .loop .l) 0) (c .before .span .ensures .0)))
+    let q = c .before .before .before .loop-test .taken in (
+      omega (arith, q),
+      advanced-again (h .loop .inv .1) (omega (arith, q, s .pre .0 .1 .1)) (omega (arith, q, s .pre .0))
+          (ap (λ (z : ℕ). z + getD (s .args .counts .now) (h .loop .l) 0) (c .before .span .ensures .0)),
+    )
 
 same-length : tie.Need-same-length Inv-loop μ-loop
 same-length c = search needs

@@ -19,7 +19,11 @@ array-write-flags : tie.Need-array-write-flags Inv-loop μ-loop
 array-write-flags c = search needs
 
 loop-holds : tie.Need-loop-holds Inv-loop μ-loop
-loop-holds c = let a = c .before .args in (search needs, flagged-start (a .table .now) (a .rows) (a .q) (a .l) (replicate 120 false) _ (length-replicate 120 false) (omega (arith, c .before .pre .1 .0)) (zeros 120) refl)
+loop-holds c =
+    let a = c .before .args in (
+      search needs,
+      flagged-start (a .table .now) (a .rows) (a .q) (a .l) (replicate 120 false) _ (length-replicate 120 false) (omega (arith, c .before .pre .1 .0)) (zeros 120) refl,
+    )
 
 span-requires : tie.Need-span-requires Inv-loop μ-loop
 span-requires c κs = search needs

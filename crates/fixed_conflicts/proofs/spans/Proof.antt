@@ -113,22 +113,34 @@ counts-requires c κs =
     let v = c .before .wide2 in (
       q-pos (a .n) (a .lens .now) (a .addrs .now) A,
       q-le (a .n) (a .lens .now) (a .addrs .now) A,
-      omega (arith, total-next (a .lens .now) g q, total-within (a .lens .now) (suc g), A .adds, addrs-le (a .n) (a .lens .now) (a .addrs .now) A, w .at-is, v .ensures, length-take (h .loop .at + v .result - h .loop .at) (drop (h .loop .at) (a .addrs .now)), length-drop (h .loop .at) (a .addrs .now)),
+      omega (
+        arith,
+        total-next (a .lens .now) g q,
+        total-within (a .lens .now) (suc g),
+        A .adds,
+        addrs-le (a .n) (a .lens .now) (a .addrs .now) A,
+        w .at-is,
+        v .ensures,
+        length-take (h .loop .at + v .result - h .loop .at) (drop (h .loop .at) (a .addrs .now)),
+        length-drop (h .loop .at) (a .addrs .now),
+      ),
     )
 
 advance-requires : tie.Need-advance-requires Inv-loop μ-loop
 unfolding qOf pOf kOf
 advance-requires c κs =
+    let at-loop-test = c .before .before .before .before .before .before in
+    let at-wide = at-loop-test .before .before in
     let s = c .before .before .before .before .before .before .before .before .before .before .before .before in
     let a = s .args in
     let A = accepted (a .n) (a .lens .now) (a .addrs .now) (s .pre .0) in
     let h = c .before .before .before .before .before .before .before in
     let g = h .loop .g in
     let w = h .loop .inv .1 in
-    let q : g < length (a .lens .now) = c .before .before .before .before .before .before .loop-test .taken in
+    let q : g < length (a .lens .now) = at-loop-test .loop-test .taken in
     let v = c .before .before .before .before .wide2 in
     let k = c .before .before .counts in
-    let few-is = c .before .before .before .before .before .before .before .before .wide .ensures in (
+    let few-is = at-wide .wide .ensures in (
       (w .long, (omega (arith, rows-le (a .n) (a .lens .now) (a .addrs .now) A, q), omega (arith, few-is, q-le (a .n) (a .lens .now) (a .addrs .now) A))),
       λ l i. working-small A w (h .loop .at + v .result) (k .result) q (ap (λ (z : ℕ). h .loop .at + z) (v .ensures)) (k .ensures .below) l (omega (arith, i, few-is)),
     )
@@ -142,30 +154,34 @@ loop-less c = search needs
 loop-again : tie.Need-loop-again Inv-loop μ-loop
 unfolding qOf pOf kOf
 loop-again c =
+    let at-advance = c .before .before in
+    let at-loop-test = at-advance .before .before .before .before .before .before .before in
+    let at-wide = at-loop-test .before .before in
     let s = c .before .before .before .before .before .before .before .before .before .before .before .before .before .before .before in
     let a = s .args in
     let A = accepted (a .n) (a .lens .now) (a .addrs .now) (s .pre .0) in
     let h = c .before .before .before .before .before .before .before .before .before .before in
     let g = h .loop .g in
     let w = h .loop .inv .1 in
-    let q : g < length (a .lens .now) = c .before .before .before .before .before .before .before .before .before .loop-test .taken in
+    let q : g < length (a .lens .now) = at-loop-test .loop-test .taken in
     let v = c .before .before .before .before .before .before .before .wide2 in
     let k = c .before .before .before .before .before .counts in
-    let few-is = c .before .before .before .before .before .before .before .before .before .before .before .wide .ensures in (
+    let few-is = at-wide .wide .ensures in (
       omega (arith, q),
       working-again (h .loop .at + v .result) (k .result) w (q-le (a .n) (a .lens .now) (a .addrs .now) A) q (ap (λ (z : ℕ). h .loop .at + z) (v .ensures)) (k .ensures .below)
-          (subst (λ (z : ℕ). Advanced (h .loop .table) (k .result) g z (c .before .before .advance .last .0)) few-is (c .before .before .advance .ensures)),
+          (subst (λ (z : ℕ). Advanced (h .loop .table) (k .result) g z (at-advance .advance .last .0)) few-is (at-advance .advance .ensures)),
     )
 
 advance-requires-2 : tie.Need-advance-requires-2 Inv-loop μ-loop
 unfolding qOf pOf kOf
 advance-requires-2 c κs =
+    let wide = c .before .before .before .before .wide in
     let s = c .before .before .before .before .before .before .before .before in
     let a = s .args in
     let A = accepted (a .n) (a .lens .now) (a .addrs .now) (s .pre .0) in
     let h = c .before .before .before in
     let w = h .loop .inv .1 in
-    let few-is = c .before .before .before .before .wide .ensures in (
+    let few-is = wide .ensures in (
       (w .long, (omega (arith, rows-le (a .n) (a .lens .now) (a .addrs .now) A, h .loop .inv .0), omega (arith, few-is, q-le (a .n) (a .lens .now) (a .addrs .now) A))),
       λ l i. omega (arith, working-few A w l (omega (arith, i, few-is)), getD-replicate {A = ℕ} 120 l 2 0 (omega (arith, i, few-is, q-le (a .n) (a .lens .now) (a .addrs .now) A))),
     )
@@ -176,14 +192,17 @@ same-length c = search needs
 returns : tie.Need-returns Inv-loop μ-loop
 unfolding qOf pOf kOf
 returns c =
+    let at-advance2 = c .before .before in
+    let at-loop-test = at-advance2 .before .before .before in
+    let at-wide = at-loop-test .before .before in
     let s = c .before .before .before .before .before .before .before .before .before .before .before in
     let a = s .args in
     let A = accepted (a .n) (a .lens .now) (a .addrs .now) (s .pre .0) in
     let h = c .before .before .before .before .before .before in
-    let few-is = c .before .before .before .before .before .before .before .wide .ensures in
-    working-end (omega (arith, h .loop .inv .0, c .before .before .before .before .before .loop-test .left)) (q-le (a .n) (a .lens .now) (a .addrs .now) A) (h .loop .inv .1)
+    let few-is = at-wide .wide .ensures in
+    working-end (omega (arith, h .loop .inv .0, at-loop-test .loop-test .left)) (q-le (a .n) (a .lens .now) (a .addrs .now) A) (h .loop .inv .1)
     (λ l i. getD-replicate 120 l 2 0 (omega (arith, i, q-le (a .n) (a .lens .now) (a .addrs .now) A)))
-    (subst (λ (z : ℕ). Advanced (h .loop .table) (replicate 120 2) (h .loop .g) z (c .before .before .advance2 .last .0)) few-is (c .before .before .advance2 .ensures))
+    (subst (λ (z : ℕ). Advanced (h .loop .table) (replicate 120 2) (h .loop .g) z (at-advance2 .advance2 .last .0)) few-is (at-advance2 .advance2 .ensures))
 
 pub spans-spec : {M : Type 1} → statement M
 spans-spec =

@@ -47,13 +47,16 @@ mul-s : tie.Need-mul-s Inv-loop μ-loop
 mul-s c = search needs
 
 slice-copy-out-s : tie.Need-slice-copy-out-s Inv-loop μ-loop
-slice-copy-out-s c = let s = c .before .before .before .before .before in omega (arith, s .pre .1 .0, c .before .before .before .loop-test .taken, c .before .before .before .before .loop .inv .1 .0 .long)
+slice-copy-out-s c =
+    let loop = c .before .before .before .before .loop in
+    let s = c .before .before .before .before .before in omega (arith, s .pre .1 .0, c .before .before .before .loop-test .taken, loop .inv .1 .0 .long)
 
 gathered-requires : tie.Need-gathered-requires Inv-loop μ-loop
 gathered-requires c κs =
+    let loop-test = c .before .before .before .before .loop-test in
     let s = c .before .before .before .before .before .before in
     let h = c .before .before .before .before .before in
-    let q = c .before .before .before .before .loop-test .taken in
+    let q = loop-test .taken in
     rw (toZ-ofZ w32 (z (h .loop .sums) (s .args .at + h .loop .i)) (sfits-of (c .s .given))) (λ b. omega (arith, h .loop .inv .1 .1 .still b (h .loop .i) (omega arith) q, s .pre .1 .1 .0))
 
 add-t16 : tie.Need-add-t16 Inv-loop μ-loop
@@ -63,7 +66,10 @@ mul-t17 : tie.Need-mul-t17 Inv-loop μ-loop
 mul-t17 c = search needs
 
 slice-set-from-sums : tie.Need-slice-set-from-sums Inv-loop μ-loop
-slice-set-from-sums c = let s = c .before .before .before .before .before .before .before in omega (arith, s .pre .1 .0, c .before .before .before .before .before .loop-test .taken, c .before .before .before .before .before .before .loop .inv .1 .0 .long)
+slice-set-from-sums c =
+    let at-loop-test = c .before .before .before .before .before in
+    let at-loop = at-loop-test .before in
+    let s = c .before .before .before .before .before .before .before in omega (arith, s .pre .1 .0, at-loop-test .loop-test .taken, at-loop .loop .inv .1 .0 .long)
 
 add-i : tie.Need-add-i Inv-loop μ-loop
 add-i c = search needs
@@ -73,10 +79,11 @@ loop-less c = search needs
 
 loop-again : tie.Need-loop-again Inv-loop μ-loop
 loop-again c =
+    let loop-test = c .before .before .before .before .before .loop-test in
     let s = c .before .before .before .before .before .before .before in
     let h = c .before .before .before .before .before .before in
     let a = s .args in
-    let q = c .before .before .before .before .before .loop-test .taken in
+    let q = loop-test .taken in
     let t = c .before .before .before .before .value in
     let n = c .before .before .before .value2 in
     let o = c .before .before .value3 in
@@ -86,14 +93,16 @@ loop-again c =
     let is : toZ w32 (ofZ w32 (g .result)) ≡ plus (a .seen) f (a .tu) (a .ru) (a .ou) (z (h .loop .sums) (s .args .at + h .loop .i)) =
     toZ-ofZ w32 (g .result) (sfits-of (g .ok))
     ∙ g .ensures
-    ∙ (λ j. cond (a .seen)
-    (toZ-ofZ w32 (z (h .loop .sums) (s .args .at + h .loop .i)) (sfits-of (c .before .s .given)) j +ℤ ((plain (n .result) (sfits-of (n .ok)) ∙ n .ensures) j -ℤ (plain (o .result) (sfits-of (o .ok)) ∙ o .ensures) j))
+    ∙ (λ j.
+    cond (a .seen)
+    (toZ-ofZ w32 (z (h .loop .sums) (s .args .at + h .loop .i)) (sfits-of (c .before .s .given)) j +ℤ
+    ((plain (n .result) (sfits-of (n .ok)) ∙ n .ensures) j -ℤ (plain (o .result) (sfits-of (o .ok)) ∙ o .ensures) j))
     ((plain (t .result) (sfits-of (t .ok)) ∙ t .ensures) j +ℤ (plain (n .result) (sfits-of (n .ok)) ∙ n .ensures) j)) in (
       search needs,
       (
         edge-again _ (h .loop .inv .1 .0) room is,
-        growing-again (a .seen) f (a .tu) (a .ru) (a .ou) _ (h .loop .inv .1 .1) q (omega (arith, h .loop .inv .1 .0 .long, room))
-            (byte (t .result) (t .ok) (t .ensures)) (byte (n .result) (n .ok) (n .ensures)) (byte (o .result) (o .ok) (o .ensures)) is,
+        growing-again (a .seen) f (a .tu) (a .ru) (a .ou) _ (h .loop .inv .1 .1) q (omega (arith, h .loop .inv .1 .0 .long, room)) (byte (t .result) (t .ok) (t .ensures))
+            (byte (n .result) (n .ok) (n .ensures)) (byte (o .result) (o .ok) (o .ensures)) is,
       ),
     )
 

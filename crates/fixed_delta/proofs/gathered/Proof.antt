@@ -20,7 +20,12 @@ sub-result c = let s = c .before in rw (wide32 (s .args .new) (s .fits .new), wi
 add-result : tie.Need-add-result
 add-result c =
     let s = c .before in
-    rw (toZ-ofZ w32 (s .args .sum) (s .fits .sum), wide32 (s .args .new) (s .fits .new), wide32 (s .args .old) (s .fits .old), toZ-ofZ w32 (s .args .new -ℤ s .args .old) (diff-fits32 _ _ (s .fits .new) (s .fits .old)))
+    rw (
+      toZ-ofZ w32 (s .args .sum) (s .fits .sum),
+      wide32 (s .args .new) (s .fits .new),
+      wide32 (s .args .old) (s .fits .old),
+      toZ-ofZ w32 (s .args .new -ℤ s .args .old) (diff-fits32 _ _ (s .fits .new) (s .fits .old)),
+    )
     (more-fits32 _ _ (s .fits .new) (s .fits .old) (s .args .sum) (s .pre (c .if1 .taken)))
 
 returns : tie.Need-returns

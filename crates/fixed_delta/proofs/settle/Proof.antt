@@ -49,16 +49,18 @@ loop-less c = search needs
 
 loop-again : tie.Need-loop-again Inv-loop μ-loop
 loop-again c =
+    let at-s = c .before .before .before .before in
+    let at-loop-test = at-s .before in
     let s = c .before .before .before .before .before .before .before in
     let h = c .before .before .before .before .before .before in
-    let q = c .before .before .before .before .before .loop-test .taken in
+    let q = at-loop-test .loop-test .taken in
     let x = c .before .before .before .sat in
     let k = c .before .place in (
       search needs,
       (
         omega (arith, k .kept, h .loop .inv .1 .0),
         settled-again (h .loop .inv .1 .1) q
-            (plain (x .result) (sfits-of (x .ok)) ∙ x .ensures ∙ ap satZ (toZ-ofZ w32 (getD (s .args .sums .now) (s .args .at + h .loop .i) (pos 0)) (sfits-of (c .before .before .before .before .s .given)))) (k .ensures),
+            (plain (x .result) (sfits-of (x .ok)) ∙ x .ensures ∙ ap satZ (toZ-ofZ w32 (getD (s .args .sums .now) (s .args .at + h .loop .i) (pos 0)) (sfits-of (at-s .s .given)))) (k .ensures),
       ),
     )
 

@@ -46,9 +46,10 @@ loop-less c = search needs
 
 loop-again : tie.Need-loop-again Inv-loop μ-loop
 loop-again c =
+    let loop-test = c .before .before .before .before .before .before .before .loop-test in
     let s = c .before .before .before .before .before .before .before .before .before in
     let h = c .before .before .before .before .before .before .before .before in
-    let q = c .before .before .before .before .before .before .before .loop-test .taken in
+    let q = loop-test .taken in
     let v = c .before .before .before .before .before .value in
     let y = c .before .before .before .pick in
     let k = c .before .place in (

@@ -30,7 +30,9 @@ loop-less : tie.Need-loop-less Inv-loop μ-loop
 loop-less c = search needs
 
 loop-again : tie.Need-loop-again Inv-loop μ-loop
-loop-again c = (search needs, none-again _ (c .before .before .before .loop .i) (c .if1 .left) (c .before .before .before .loop .inv .1))
+loop-again c =
+    let loop = c .before .before .before .loop in
+    (search needs, none-again _ (loop .i) (c .if1 .left) (loop .inv .1))
 
 returns-2 : tie.Need-returns-2 Inv-loop μ-loop
 returns-2 c =

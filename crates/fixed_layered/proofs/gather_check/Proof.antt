@@ -10,15 +10,28 @@ use Rattle.fixed_layered.proofs.gather_check.Statement.{statement}
 use Rattle.fixed_layered.proofs.gather_check.Tie as tie
 
 abbrev Inv-loop : tie.InvT-loop
-Inv-loop sums₀ seen₀ rows work base s d place n lanes k₀ sums seen k = (k ≤ d) × ((length sums ≡ length sums₀) × ((length seen ≡ length seen₀) × Gathers lanes (place + k) (after n (length rows) lanes (var rows) base s place work (sumAt lanes seen₀ sums₀) k) seen sums))
+Inv-loop sums₀ seen₀ rows work base s d place n lanes k₀ sums seen k =
+    (k ≤ d) ×
+    ((length sums ≡ length sums₀) ×
+    ((length seen ≡ length seen₀) × Gathers lanes (place + k) (after n (length rows) lanes (var rows) base s place work (sumAt lanes seen₀ sums₀) k) seen sums))
 
 abbrev μ-loop : tie.MeasureT-loop
 μ-loop sums₀ seen₀ rows work base s d place n lanes k₀ sums seen k = d - k
 
 loop-holds : tie.Need-loop-holds Inv-loop μ-loop
-loop-holds c = let s = c .before .before in
-    let a = s .args in
-    (search needs, (refl, (refl, gathers-start (a .n) (length (a .rows .now)) (a .lanes) (var (a .rows .now)) (a .base) (a .s) (a .place) (a .work .now) (sumAt (a .lanes) (a .seen .now) (a .sums .now)) (λ i j. refl) (s .pre .1 .1))))
+loop-holds c =
+    let s = c .before .before in
+    let a = s .args in (
+      search needs,
+      (
+        refl,
+        (
+          refl,
+          gathers-start (a .n) (length (a .rows .now)) (a .lanes) (var (a .rows .now)) (a .base) (a .s) (a .place) (a .work .now)
+              (sumAt (a .lanes) (a .seen .now) (a .sums .now)) (λ i j. refl) (s .pre .1 .1),
+        ),
+      ),
+    )
 
 add-gather-edge : tie.Need-add-gather-edge Inv-loop μ-loop
 add-gather-edge c = search needs
@@ -45,10 +58,12 @@ loop-less : tie.Need-loop-less Inv-loop μ-loop
 loop-less c = search needs
 
 loop-again : tie.Need-loop-again Inv-loop μ-loop
-loop-again c = let s = c .before .before .before .before .before .before .before .before .before .before in
+loop-again c =
+    let loop-test = c .before .before .before .before .before .before .loop-test in
+    let s = c .before .before .before .before .before .before .before .before .before .before in
     let a = s .args in
     let h = c .before .before .before .before .before .before .before in
-    let q = c .before .before .before .before .before .before .loop-test .taken in
+    let q = loop-test .taken in
     let w = s .pre .1 .0 .1 .1 (h .loop .k) q in
     let e = c .before .before .before .gather-edge in (
       omega (arith, q),
@@ -56,8 +71,9 @@ loop-again c = let s = c .before .before .before .before .before .before .before
         omega (arith, e .kept, h .loop .inv .1 .0),
         (
           omega (arith, e .kept, h .loop .inv .1 .1 .0),
-          gathers-again (a .n) (length (a .rows .now)) (a .lanes) (var (a .rows .now)) (a .base) (a .s) (a .place) (a .work .now) (sumAt (a .lanes) (a .seen .now) (a .sums .now)) (h .loop .k) (var (a .rows .now) (a .s + h .loop .k) - a .base)
-              (omega (arith, w .0)) (omega (arith, w)) (omega (arith, h .loop .inv .1 .1 .0, s .pre .1 .0 .1 .0)) (h .loop .inv .1 .1 .1) (e .ensures),
+          gathers-again (a .n) (length (a .rows .now)) (a .lanes) (var (a .rows .now)) (a .base) (a .s) (a .place) (a .work .now)
+              (sumAt (a .lanes) (a .seen .now) (a .sums .now)) (h .loop .k) (var (a .rows .now) (a .s + h .loop .k) - a .base) (omega (arith, w .0)) (omega (arith, w))
+              (omega (arith, h .loop .inv .1 .1 .0, s .pre .1 .0 .1 .0)) (h .loop .inv .1 .1 .1) (e .ensures),
         ),
       ),
     )
@@ -69,8 +85,11 @@ same-length-2 : tie.Need-same-length-2 Inv-loop μ-loop
 same-length-2 c = search needs
 
 returns : tie.Need-returns Inv-loop μ-loop
-returns c = let a = c .before .before .before .before .args in
-    gathers-end (a .n) (length (a .rows .now)) (a .lanes) (var (a .rows .now)) (a .base) (a .s) (a .place) (a .work .now) (sumAt (a .lanes) (a .seen .now) (a .sums .now)) (omega (arith, c .before .loop .inv .0, c .loop-test .left)) (c .before .loop .inv .1 .1 .1)
+returns c =
+    let s = c .before .before .before .before in
+    let a = c .before .before .before .before .args in
+    gathers-end (a .n) (length (a .rows .now)) (a .lanes) (var (a .rows .now)) (a .base) (a .s) (a .place) (a .work .now) (sumAt (a .lanes) (a .seen .now) (a .sums .now))
+    (omega (arith, c .before .loop .inv .0, c .loop-test .left)) (c .before .loop .inv .1 .1 .1)
 
 pub gather-check-spec : {M : Type 1} → statement M
 gather-check-spec =

@@ -17,22 +17,34 @@ sub-j : tie.Need-sub-j
 sub-j c = let s = c .before .before .before in omega (arith, c .variable .ensures, s .pre .1 .0 .1 .1 .0)
 
 add-tu : tie.Need-add-tu
-add-tu c = let s = c .before .before .before in record { fits = omega (arith, row-fits (s .pre .0 .0) (s .args .n + 3 * length (s .args .rows .now)) (omega arith), s .pre .0 .0 .edges, s .pre .0 .1 .0, s .good) }
+add-tu c =
+    let s = c .before .before .before in
+    record { fits = omega (arith, row-fits (s .pre .0 .0) (s .args .n + 3 * length (s .args .rows .now)) (omega arith), s .pre .0 .0 .edges, s .pre .0 .1 .0, s .good) }
 
 add-tu-2 : tie.Need-add-tu-2
-add-tu-2 c = let s = c .before .before .before in record { fits = omega (arith, row-fits (s .pre .0 .0) (s .args .n + 3 * length (s .args .rows .now)) (omega arith), s .pre .0 .0 .edges, s .pre .0 .1 .0, s .good) }
+add-tu-2 c =
+    let s = c .before .before .before in
+    record { fits = omega (arith, row-fits (s .pre .0 .0) (s .args .n + 3 * length (s .args .rows .now)) (omega arith), s .pre .0 .0 .edges, s .pre .0 .1 .0, s .good) }
 
 add-ru : tie.Need-add-ru
-add-ru c = let s = c .before .before .before in record { fits = omega (arith, row-fits (s .pre .0 .0) (s .args .n + 3 * length (s .args .rows .now)) (omega arith), s .pre .0 .0 .edges, s .pre .0 .1 .0, s .good) }
+add-ru c =
+    let s = c .before .before .before in
+    record { fits = omega (arith, row-fits (s .pre .0 .0) (s .args .n + 3 * length (s .args .rows .now)) (omega arith), s .pre .0 .0 .edges, s .pre .0 .1 .0, s .good) }
 
 mul-ou : tie.Need-mul-ou
-mul-ou c = let s = c .before .before .before in record { fits = omega (arith, row-fits (s .pre .0 .0) (s .args .n + 3 * length (s .args .rows .now)) (omega arith), s .pre .0 .0 .edges, s .pre .0 .1 .0, s .good) }
+mul-ou c =
+    let s = c .before .before .before in
+    record { fits = omega (arith, row-fits (s .pre .0 .0) (s .args .n + 3 * length (s .args .rows .now)) (omega arith), s .pre .0 .0 .edges, s .pre .0 .1 .0, s .good) }
 
 add-ou : tie.Need-add-ou
-add-ou c = let s = c .before .before .before in record { fits = omega (arith, row-fits (s .pre .0 .0) (s .args .n + 3 * length (s .args .rows .now)) (omega arith), s .pre .0 .0 .edges, s .pre .0 .1 .0, s .good) }
+add-ou c =
+    let s = c .before .before .before in
+    record { fits = omega (arith, row-fits (s .pre .0 .0) (s .args .n + 3 * length (s .args .rows .now)) (omega arith), s .pre .0 .0 .edges, s .pre .0 .1 .0, s .good) }
 
 add-ou-2 : tie.Need-add-ou-2
-add-ou-2 c = let s = c .before .before .before in record { fits = omega (arith, row-fits (s .pre .0 .0) (s .args .n + 3 * length (s .args .rows .now)) (omega arith), s .pre .0 .0 .edges, s .pre .0 .1 .0, s .good) }
+add-ou-2 c =
+    let s = c .before .before .before in
+    record { fits = omega (arith, row-fits (s .pre .0 .0) (s .args .n + 3 * length (s .args .rows .now)) (omega arith), s .pre .0 .0 .edges, s .pre .0 .1 .0, s .good) }
 
 slice-read-was : tie.Need-slice-read-was
 slice-read-was c = let s = c .before .before .before .before in omega (arith, c .before .variable .ensures, s .pre .1 .0 .1 .0, s .pre .1 .0 .1 .1)
@@ -61,7 +73,9 @@ gather-requires c κs = let s = c .before .before .before .before .before in
     )
 
 slice-write-seen : tie.Need-slice-write-seen
-slice-write-seen c = let s = c .before .before .before .before .before .before .before in omega (arith, c .before .before .before .before .variable .ensures, s .pre .1 .0 .1 .0, s .pre .1 .0 .1 .1)
+slice-write-seen c =
+    let variable = c .before .before .before .before .variable in
+    let s = c .before .before .before .before .before .before .before in omega (arith, variable .ensures, s .pre .1 .0 .1 .0, s .pre .1 .0 .1 .1)
 
 same-length : tie.Need-same-length
 same-length c = search needs

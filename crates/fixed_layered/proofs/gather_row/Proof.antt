@@ -17,13 +17,19 @@ use Rattle.fixed_layered.proofs.gather_row.Statement.{statement}
 use Rattle.fixed_layered.proofs.gather_row.Tie as tie
 
 abbrev Inv-loop : tie.InvT-loop
-Inv-loop sums₀ seen₀ index rows work base from upto n p lanes first q m place₀ x₀ sums seen place x = (x ≤ m) × ((length sums ≡ length sums₀) × ((length seen ≡ length seen₀) × ((place ≡ placeOf (codeIn p index) (stepped first q) x) × Gathers lanes (placeOf (codeIn p index) (stepped first q) x) (runSum n (edgesIn p index) (codeIn p index) (stepped first q) base lanes work x) seen sums)))
+Inv-loop sums₀ seen₀ index rows work base from upto n p lanes first q m place₀ x₀ sums seen place x =
+    (x ≤ m) ×
+    ((length sums ≡ length sums₀) ×
+    ((length seen ≡ length seen₀) ×
+    ((place ≡ placeOf (codeIn p index) (stepped first q) x) × Gathers lanes (placeOf (codeIn p index) (stepped first q) x)
+    (runSum n (edgesIn p index) (codeIn p index) (stepped first q) base lanes work x) seen sums)))
 
 abbrev μ-loop : tie.MeasureT-loop
 μ-loop sums₀ seen₀ index rows work base from upto n p lanes first q m place₀ x₀ sums seen place x = m - x
 
 loop-holds : tie.Need-loop-holds Inv-loop μ-loop
-loop-holds c = let s = c .before .before .before in
+loop-holds c =
+    let s = c .before .before .before in
     let a = s .args in (
       search needs,
       (
@@ -32,7 +38,8 @@ loop-holds c = let s = c .before .before .before in
           refl,
           (
             place-first (a .p) (a .index .now) (a .first) (a .q),
-            row-start (a .n) (edgesIn (a .p) (a .index .now)) (codeIn (a .p) (a .index .now)) (stepped (a .first) (a .q)) (a .base) (a .lanes) (a .work .now) (a .seen .now) (a .sums .now) (s .pre .1 .1 .1 .1),
+            row-start (a .n) (edgesIn (a .p) (a .index .now)) (codeIn (a .p) (a .index .now)) (stepped (a .first) (a .q)) (a .base) (a .lanes) (a .work .now)
+                (a .seen .now) (a .sums .now) (s .pre .1 .1 .1 .1),
           ),
         ),
       ),
@@ -74,10 +81,12 @@ least-requires : tie.Need-least-requires Inv-loop μ-loop
 least-requires c κs = search needs
 
 add-gather-check : tie.Need-add-gather-check Inv-loop μ-loop
-add-gather-check c = let s = c .before .before .before .before .before .before .before .before .before .before in
+add-gather-check c =
+    let loop-test = c .before .before .before .before .before .loop-test in
+    let s = c .before .before .before .before .before .before .before .before .before .before in
     let a = s .args in
     let h = c .before .before .before .before .before .before in
-    let y = c .before .before .before .before .before .loop-test .taken in
+    let y = loop-test .taken in
     let inside = s .pre .0 .0 .inside (h .loop .x) y in
     let r = c .before .before .before .before .start in
     let d = c .before .before .before .degree in
@@ -87,10 +96,12 @@ add-gather-check c = let s = c .before .before .before .before .before .before .
     record { fits = omega (arith, w .part-room .edges, w .least, ap length (s .pre .0 .1), s .pre .0 .0 .few-edges) }
 
 sub-gather-check : tie.Need-sub-gather-check Inv-loop μ-loop
-sub-gather-check c = let s = c .before .before .before .before .before .before .before .before .before .before in
+sub-gather-check c =
+    let loop-test = c .before .before .before .before .before .loop-test in
+    let s = c .before .before .before .before .before .before .before .before .before .before in
     let a = s .args in
     let h = c .before .before .before .before .before .before in
-    let y = c .before .before .before .before .before .loop-test .taken in
+    let y = loop-test .taken in
     let inside = s .pre .0 .0 .inside (h .loop .x) y in
     let r = c .before .before .before .before .start in
     let d = c .before .before .before .degree in
@@ -100,10 +111,12 @@ sub-gather-check c = let s = c .before .before .before .before .before .before .
     w .least
 
 add-gather-check-2 : tie.Need-add-gather-check-2 Inv-loop μ-loop
-add-gather-check-2 c = let s = c .before .before .before .before .before .before .before .before .before .before in
+add-gather-check-2 c =
+    let loop-test = c .before .before .before .before .before .loop-test in
+    let s = c .before .before .before .before .before .before .before .before .before .before in
     let a = s .args in
     let h = c .before .before .before .before .before .before in
-    let y = c .before .before .before .before .before .loop-test .taken in
+    let y = loop-test .taken in
     let inside = s .pre .0 .0 .inside (h .loop .x) y in
     let r = c .before .before .before .before .start in
     let d = c .before .before .before .degree in
@@ -113,10 +126,12 @@ add-gather-check-2 c = let s = c .before .before .before .before .before .before
     record { fits = omega (arith, w .least, w .below, place-room (h .loop .x) (h .loop .place) (r .result) (d .result) (s .pre .0 .0) y (r .ensures) f (h .loop .inv .1 .1 .1 .0), s .pre .0 .0 .few-edges) }
 
 gather-check-requires : tie.Need-gather-check-requires Inv-loop μ-loop
-gather-check-requires c κs = let s = c .before .before .before .before .before .before .before .before .before .before in
+gather-check-requires c κs =
+    let loop-test = c .before .before .before .before .before .loop-test in
+    let s = c .before .before .before .before .before .before .before .before .before .before in
     let a = s .args in
     let h = c .before .before .before .before .before .before in
-    let y = c .before .before .before .before .before .loop-test .taken in
+    let y = loop-test .taken in
     let inside = s .pre .0 .0 .inside (h .loop .x) y in
     let r = c .before .before .before .before .start in
     let d = c .before .before .before .degree in
@@ -133,10 +148,12 @@ gather-check-requires c κs = let s = c .before .before .before .before .before 
     )
 
 add-place : tie.Need-add-place Inv-loop μ-loop
-add-place c = let s = c .before .before .before .before .before .before .before .before .before .before .before .before .before .before in
+add-place c =
+    let loop-test = c .before .before .before .before .before .before .before .before .before .loop-test in
+    let s = c .before .before .before .before .before .before .before .before .before .before .before .before .before .before in
     let a = s .args in
     let h = c .before .before .before .before .before .before .before .before .before .before in
-    let y = c .before .before .before .before .before .before .before .before .before .loop-test .taken in
+    let y = loop-test .taken in
     let inside = s .pre .0 .0 .inside (h .loop .x) y in
     let r = c .before .before .before .before .before .before .before .before .start in
     let d = c .before .before .before .before .before .before .before .degree in
@@ -144,26 +161,32 @@ add-place c = let s = c .before .before .before .before .before .before .before 
     record { fits = omega (arith, place-room (h .loop .x) (h .loop .place) (r .result) (d .result) (s .pre .0 .0) y (r .ensures) f (h .loop .inv .1 .1 .1 .0), s .pre .0 .0 .few-edges) }
 
 add-x : tie.Need-add-x Inv-loop μ-loop
-add-x c = let s = c .before .before .before .before .before .before .before .before .before .before .before .before .before .before in
+add-x c =
+    let loop-test = c .before .before .before .before .before .before .before .before .before .loop-test in
+    let s = c .before .before .before .before .before .before .before .before .before .before .before .before .before .before in
     let a = s .args in
     let h = c .before .before .before .before .before .before .before .before .before .before in
-    let y = c .before .before .before .before .before .before .before .before .before .loop-test .taken in
+    let y = loop-test .taken in
     let inside = s .pre .0 .0 .inside (h .loop .x) y in
     record { fits = omega (arith, y, s .fits .m .fits) }
 
 loop-less : tie.Need-loop-less Inv-loop μ-loop
-loop-less c = let s = c .before .before .before .before .before .before .before .before .before .before .before .before .before .before in
+loop-less c =
+    let loop-test = c .before .before .before .before .before .before .before .before .before .loop-test in
+    let s = c .before .before .before .before .before .before .before .before .before .before .before .before .before .before in
     let a = s .args in
     let h = c .before .before .before .before .before .before .before .before .before .before in
-    let y = c .before .before .before .before .before .before .before .before .before .loop-test .taken in
+    let y = loop-test .taken in
     let inside = s .pre .0 .0 .inside (h .loop .x) y in
     omega (arith, y)
 
 loop-again : tie.Need-loop-again Inv-loop μ-loop
-loop-again c = let s = c .before .before .before .before .before .before .before .before .before .before .before .before .before .before in
+loop-again c =
+    let loop-test = c .before .before .before .before .before .before .before .before .before .loop-test in
+    let s = c .before .before .before .before .before .before .before .before .before .before .before .before .before .before in
     let a = s .args in
     let h = c .before .before .before .before .before .before .before .before .before .before in
-    let y = c .before .before .before .before .before .before .before .before .before .loop-test .taken in
+    let y = loop-test .taken in
     let inside = s .pre .0 .0 .inside (h .loop .x) y in
     let r = c .before .before .before .before .before .before .before .before .start in
     let d = c .before .before .before .before .before .before .before .degree in
@@ -179,8 +202,16 @@ loop-again c = let s = c .before .before .before .before .before .before .before
           omega (arith, k .kept, i .1 .1 .0),
           (
             place-next (a .p) (a .index .now) (a .first) (a .q) (h .loop .x) (h .loop .place) (r .result) (d .result) inside (r .ensures) f (i .1 .1 .1 .0),
-            row-again (a .n) (edgesIn (a .p) (a .index .now)) (a .work .now) (s .pre .1 .0) y (w .up) (w .most) (w .least) (w .all) (w .start-is) (i .1 .1 .1 .0) (i .1 .1 .1 .1)
-                (subst (λ (l : List ℕ). Gathers (a .lanes) (h .loop .place + a .from + (t .result - a .from)) (λ i j. gatherAt (a .n) (length l) (var l) (a .base + j) (r .result + a .from) (h .loop .place + a .from) (column (a .lanes) (a .work .now) i) (t .result - a .from) (sumAt (a .lanes) (h .loop .seen) (h .loop .sums) i j)) (k .last .1 .0) (k .last .0)) (s .pre .0 .1) (k .ensures)),
+            row-again (a .n) (edgesIn (a .p) (a .index .now)) (a .work .now) (s .pre .1 .0) y (w .up) (w .most) (w .least) (w .all) (w .start-is) (i .1 .1 .1 .0)
+                (i .1 .1 .1 .1)
+                (subst
+                (λ (l : List ℕ).
+                Gathers (a .lanes) (h .loop .place + a .from + (t .result - a .from))
+                (λ i j.
+                gatherAt (a .n) (length l) (var l) (a .base + j) (r .result + a .from) (h .loop .place + a .from) (column (a .lanes) (a .work .now) i)
+                (t .result - a .from) (sumAt (a .lanes) (h .loop .seen) (h .loop .sums) i j))
+                (k .last .1 .0) (k .last .0))
+                (s .pre .0 .1) (k .ensures)),
           ),
         ),
       ),
@@ -193,11 +224,17 @@ same-length-2 : tie.Need-same-length-2 Inv-loop μ-loop
 same-length-2 c = search needs
 
 returns : tie.Need-returns Inv-loop μ-loop
-returns c = let s = c .before .before .before .before .before in
+returns c =
+    let s = c .before .before .before .before .before in
     let a = s .args in
     let h = c .before in
     let e : h .loop .x ≡ a .m = omega (arith, h .loop .inv .0, c .loop-test .left) in
-    subst (λ (x : ℕ). Gathers (a .lanes) (placeOf (codeIn (a .p) (a .index .now)) (stepped (a .first) (a .q)) x) (runSum (a .n) (edgesIn (a .p) (a .index .now)) (codeIn (a .p) (a .index .now)) (stepped (a .first) (a .q)) (a .base) (a .lanes) (a .work .now) x) (h .loop .seen) (h .loop .sums)) e (h .loop .inv .1 .1 .1 .1)
+    subst
+    (λ (x : ℕ).
+    Gathers (a .lanes) (placeOf (codeIn (a .p) (a .index .now)) (stepped (a .first) (a .q)) x)
+    (runSum (a .n) (edgesIn (a .p) (a .index .now)) (codeIn (a .p) (a .index .now)) (stepped (a .first) (a .q)) (a .base) (a .lanes) (a .work .now) x)
+    (h .loop .seen) (h .loop .sums))
+    e (h .loop .inv .1 .1 .1 .1)
 
 pub gather-row-spec : {M : Type 1} → statement M
 gather-row-spec =

@@ -75,11 +75,14 @@ slice-aggregate-layers-4 c = search needs
 
 layers-requires : tie.Need-layers-requires
 unfolding qOf pOf kOf
-layers-requires c κs = let s = c .before .before .before .before .before .before .before .before .before .before .before .before in
+layers-requires c κs =
+    let spans = c .before .before .before .before .before .before .before .spans in
+    let s = c .before .before .before .before .before .before .before .before .before .before .before .before in
     let a = s .args in
     let A = accepted (a .n) (a .lens .now) (a .addrs .now) (s .pre .0 .0) in (
       (
-        all-layers (a .n) (a .lens .now) (a .addrs .now) A (a .index .now) (s .pre .0 .1) (s .pre .1 .0 .0) (s .pre .1 .0 .1 .0) (s .pre .1 .0 .1 .1) (s .pre .1 .1 .0) (s .pre .1 .1 .1) (c .before .before .before .before .before .before .before .spans .ensures),
+        all-layers (a .n) (a .lens .now) (a .addrs .now) A (a .index .now) (s .pre .0 .1) (s .pre .1 .0 .0) (s .pre .1 .0 .1 .0) (s .pre .1 .0 .1 .1) (s .pre .1 .1 .0)
+            (s .pre .1 .1 .1) (spans .ensures),
         rows-part (pOf (a .n) (a .lens .now)) (a .index .now),
       ),
       (omega arith, (omega arith, omega arith)),
@@ -90,11 +93,13 @@ same-length c = search needs
 
 returns : tie.Need-returns
 unfolding qOf pOf kOf
-returns c = let s = c .before .before .before .before .before .before .before .before .before .before .before .before .before .before .before .before .before in
+returns c =
+    let layers = c .before .before .before .before .layers in
+    let s = c .before .before .before .before .before .before .before .before .before .before .before .before .before .before .before .before .before in
     let a = s .args in
     let A = accepted (a .n) (a .lens .now) (a .addrs .now) (s .pre .0 .0) in
-    subst (λ (o : ℤ). Layered (a .n) (a .lens .now) (a .addrs .now) (a .lanes) o (a .step) (a .work .now) (c .before .before .before .before .layers .last .1 .1 .0)) (plain (a .offset) (s .fits .offset))
-    (layered-law (a .n) (a .lens .now) (a .addrs .now) A (a .index .now) (s .pre .0 .1) (c .before .before .before .before .layers .ensures))
+    subst (λ (o : ℤ). Layered (a .n) (a .lens .now) (a .addrs .now) (a .lanes) o (a .step) (a .work .now) (layers .last .1 .1 .0)) (plain (a .offset) (s .fits .offset))
+    (layered-law (a .n) (a .lens .now) (a .addrs .now) A (a .index .now) (s .pre .0 .1) (layers .ensures))
 
 pub layered-iteration-spec : {M : Type 1} → statement M
 layered-iteration-spec =

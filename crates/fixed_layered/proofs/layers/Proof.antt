@@ -11,22 +11,29 @@ use Rattle.fixed_layered.proofs.layers.Statement.{statement}
 use Rattle.fixed_layered.proofs.layers.Tie as tie
 
 abbrev Inv-loop : tie.InvT-loop
-Inv-loop index rows work₀ t₀ u₀ sums₀ table few offset n p lanes q step l₀ work t u sums l = (l ≤ q) × ((length work ≡ length work₀) × (((length t ≡ length t₀) × ((length u ≡ length u₀) × (length sums ≡ length sums₀))) × LayersMade n p lanes (toZ w8 offset) index q step work₀ l work))
+Inv-loop index rows work₀ t₀ u₀ sums₀ table few offset n p lanes q step l₀ work t u sums l =
+    (l ≤ q) ×
+    ((length work ≡ length work₀) ×
+    (((length t ≡ length t₀) × ((length u ≡ length u₀) × (length sums ≡ length sums₀))) × LayersMade n p lanes (toZ w8 offset) index q step work₀ l work))
 
 abbrev μ-loop : tie.MeasureT-loop
 μ-loop index rows work₀ t₀ u₀ sums₀ table few offset n p lanes q step l₀ work t u sums l = q - l
 
 loop-holds : tie.Need-loop-holds Inv-loop μ-loop
-loop-holds c = let a = c .before .before .before .args in
+loop-holds c =
+    let s = c .before .before .before in
+    let a = c .before .before .before .args in
     (search needs, (refl, ((refl, (refl, refl)), layers-start (a .n) (a .p) (a .lanes) (toZ w8 (ofZ w8 (a .offset))) (a .index .now) (a .q) (a .step) (a .work .now))))
 
 shared-requires : tie.Need-shared-requires Inv-loop μ-loop
 shared-requires c κs = let s = c .before .before .before .before .before in (s .pre .0 .0 .long, (s .pre .0 .0 .few-rows, omega (arith, c .loop-test .taken, s .pre .0 .0 .few-layers)))
 
 runs-requires : tie.Need-runs-requires Inv-loop μ-loop
-runs-requires c κs = let s = c .before .before .before .before .before .before .before .before .before .before .before .before in
+runs-requires c κs =
+    let loop-test = c .before .before .before .before .before .before .before .loop-test in
+    let s = c .before .before .before .before .before .before .before .before .before .before .before .before in
     let h = c .before .before .before .before .before .before .before .before in
-    let q = c .before .before .before .before .before .before .before .loop-test .taken in
+    let q = loop-test .taken in
     let k = c .before .before .before .before .before .before .shared in
     let long = h .loop .inv .1 .1 .0 in (
       (in-layer-to (h .loop .inv .1 .0) (s .pre .0 .0 .layer (h .loop .l) q), s .pre .0 .1),
@@ -40,13 +47,17 @@ add-l : tie.Need-add-l Inv-loop μ-loop
 add-l c = search needs
 
 loop-less : tie.Need-loop-less Inv-loop μ-loop
-loop-less c = omega (arith, c .before .before .before .before .before .before .before .before .before .before .before .before .loop-test .taken)
+loop-less c =
+    let loop-test = c .before .before .before .before .before .before .before .before .before .before .before .before .loop-test in
+    omega (arith, loop-test .taken)
 
 loop-again : tie.Need-loop-again Inv-loop μ-loop
-loop-again c = let h = c .before .before .before .before .before .before .before .before .before .before .before .before .before in
+loop-again c =
+    let loop-test = c .before .before .before .before .before .before .before .before .before .before .before .before .loop-test in
+    let h = c .before .before .before .before .before .before .before .before .before .before .before .before .before in
     let k = c .before .before .before .before .runs in
     let long = h .loop .inv .1 .1 .0 in (
-      omega (arith, c .before .before .before .before .before .before .before .before .before .before .before .before .loop-test .taken),
+      omega (arith, loop-test .taken),
       (
         omega (arith, k .kept, h .loop .inv .1 .0),
         (

@@ -22,8 +22,9 @@ same-length-3 c = search needs
 
 returns : tie.Need-returns
 returns c =
+    let if1 = c .before .before .before .before .before .before .before .if1 in
     let s = c .before .before .before .before .before .before .before .before .before .before .before in
-    let none = s .pre .1 .1 .0 (not-true (s .args .any) (c .before .before .before .before .before .before .before .if1 .taken)) in
+    let none = s .pre .1 .1 .0 (not-true (s .args .any) (if1 .taken)) in
     run-offset (plain (s .args .offset) (s .fits .offset)) (turn-made (s .pre .0 .0) (λ v. s .pre .1 .0 .0 .once v (none (v / 374))) (c .before .before .before .checks .ensures))
 
 shared-run-requires : tie.Need-shared-run-requires
@@ -47,8 +48,10 @@ same-length-7 : tie.Need-same-length-7
 same-length-7 c = search needs
 
 returns-2 : tie.Need-returns-2
-returns-2 c = let s = c .before .before .before .before .before .before .before .before .before .before .before .before .before .before .before .before in
-    run-offset (plain (s .args .offset) (s .fits .offset)) (run-law (s .pre .0 .0) (s .pre .1 .0 .0 .low) (c .before .before .before .before .before .before .before .before .shared-run .ensures) (c .before .before .write-rows .ensures))
+returns-2 c =
+    let shared-run = c .before .before .before .before .before .before .before .before .shared-run in
+    let s = c .before .before .before .before .before .before .before .before .before .before .before .before .before .before .before .before in
+    run-offset (plain (s .args .offset) (s .fits .offset)) (run-law (s .pre .0 .0) (s .pre .1 .0 .0 .low) (shared-run .ensures) (c .before .before .write-rows .ensures))
 
 pub run-spec : {M : Type 1} → statement M
 run-spec =

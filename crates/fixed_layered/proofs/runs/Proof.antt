@@ -12,13 +12,19 @@ use Rattle.fixed_layered.proofs.runs.Statement.{statement}
 use Rattle.fixed_layered.proofs.runs.Tie as tie
 
 abbrev Inv-loop : tie.InvT-loop
-Inv-loop index rows work₀ t₀ u₀ sums₀ table flags any offset n p lanes q step l at₀ j₀ work t u sums at j = (at ≡ j * step) × ((at < 374 + step) × ((length work ≡ length work₀) × (((length t ≡ length t₀) × ((length u ≡ length u₀) × (length sums ≡ length sums₀))) × RunsMade n p lanes (toZ w8 offset) index q step l work₀ j work)))
+Inv-loop index rows work₀ t₀ u₀ sums₀ table flags any offset n p lanes q step l at₀ j₀ work t u sums at j =
+    (at ≡ j * step) ×
+    ((at < 374 + step) ×
+    ((length work ≡ length work₀) ×
+    (((length t ≡ length t₀) × ((length u ≡ length u₀) × (length sums ≡ length sums₀))) × RunsMade n p lanes (toZ w8 offset) index q step l work₀ j work)))
 
 abbrev μ-loop : tie.MeasureT-loop
 μ-loop index rows work₀ t₀ u₀ sums₀ table flags any offset n p lanes q step l at₀ j₀ work t u sums at j = 374 + step - at
 
 loop-holds : tie.Need-loop-holds Inv-loop μ-loop
-loop-holds c = let a = c .before .before .before .args in
+loop-holds c =
+    let s = c .before .before .before in
+    let a = c .before .before .before .args in
     (omega arith, (omega arith, (refl, ((refl, (refl, refl)), runs-start (a .n) (a .p) (a .lanes) (toZ w8 (ofZ w8 (a .offset))) (a .index .now) (a .q) (a .step) (a .l) (a .work .now)))))
 
 sub-least : tie.Need-sub-least Inv-loop μ-loop
@@ -38,10 +44,12 @@ add-first c = let s = c .before .before .before .before .before .before in
     record { fits = omega (arith, s .pre .0 .0 .whole, s .pre .0 .0 .few-checks, s .pre .0 .0 .layer) }
 
 run-requires : tie.Need-run-requires Inv-loop μ-loop
-run-requires c κs = let s = c .before .before .before .before .before .before .before .before .before .before in
+run-requires c κs =
+    let loop-test = c .before .before .before .before .before .loop-test in
+    let s = c .before .before .before .before .before .before .before .before .before .before in
     let h = c .before .before .before .before .before .before in
     let m = c .before .before .before .before .least in
-    let q = c .before .before .before .before .before .loop-test .taken in
+    let q = loop-test .taken in
     let long = h .loop .inv .1 .1 .1 .0 in
     let w = s .pre .1 .0 in
     let room : h .loop .at + m .result ≤ 374 = omega (arith, m .ensures, q) in (
@@ -53,21 +61,29 @@ run-requires c κs = let s = c .before .before .before .before .before .before .
     )
 
 add-at : tie.Need-add-at Inv-loop μ-loop
-add-at c = let s = c .before .before .before .before .before .before .before .before .before .before .before .before .before .before .before in record { fits = omega (arith, c .before .before .before .before .before .before .before .before .before .before .loop-test .taken, s .pre .0 .0 .small-step) }
+add-at c =
+    let loop-test = c .before .before .before .before .before .before .before .before .before .before .loop-test in
+    let s = c .before .before .before .before .before .before .before .before .before .before .before .before .before .before .before in record { fits = omega (arith, loop-test .taken, s .pre .0 .0 .small-step) }
 
 add-j : tie.Need-add-j Inv-loop μ-loop
-add-j c = let s = c .before .before .before .before .before .before .before .before .before .before .before .before .before .before .before in
+add-j c =
+    let loop-test = c .before .before .before .before .before .before .before .before .before .before .loop-test in
+    let s = c .before .before .before .before .before .before .before .before .before .before .before .before .before .before .before in
     let h = c .before .before .before .before .before .before .before .before .before .before .before in
     let z : h .loop .j * 1 ≤ h .loop .j * s .args .step = mul-le-mul-left (h .loop .j) (s .pre .0 .0 .step) in
-    record { fits = omega (arith, h .loop .inv .0, c .before .before .before .before .before .before .before .before .before .before .loop-test .taken) }
+    record { fits = omega (arith, h .loop .inv .0, loop-test .taken) }
 
 loop-less : tie.Need-loop-less Inv-loop μ-loop
-loop-less c = let s = c .before .before .before .before .before .before .before .before .before .before .before .before .before .before .before in omega (arith, c .before .before .before .before .before .before .before .before .before .before .loop-test .taken, s .pre .0 .0 .step)
+loop-less c =
+    let loop-test = c .before .before .before .before .before .before .before .before .before .before .loop-test in
+    let s = c .before .before .before .before .before .before .before .before .before .before .before .before .before .before .before in omega (arith, loop-test .taken, s .pre .0 .0 .step)
 
 loop-again : tie.Need-loop-again Inv-loop μ-loop
-loop-again c = let s = c .before .before .before .before .before .before .before .before .before .before .before .before .before .before .before in
+loop-again c =
+    let loop-test = c .before .before .before .before .before .before .before .before .before .before .loop-test in
+    let s = c .before .before .before .before .before .before .before .before .before .before .before .before .before .before .before in
     let h = c .before .before .before .before .before .before .before .before .before .before .before in
-    let q = c .before .before .before .before .before .before .before .before .before .before .loop-test .taken in
+    let q = loop-test .taken in
     let m = c .before .before .before .before .before .before .before .before .before .least in
     let k = c .before .before .before .before .run in
     let e = h .loop .inv .0 in

@@ -52,9 +52,11 @@ loop-less : tie.Need-loop-less Inv-loop μ-loop
 loop-less c = search needs
 
 loop-again : tie.Need-loop-again Inv-loop μ-loop
-loop-again c = let s = c .before .before .before .before .before .before .before in
+loop-again c =
+    let loop-test = c .before .before .before .before .loop-test in
+    let s = c .before .before .before .before .before .before .before in
     let h = c .before .before .before .before .before in
-    let q = c .before .before .before .before .loop-test .taken in
+    let q = loop-test .taken in
     let k = c .before .settle in
     (omega (arith, q), (omega (arith, k .kept, h .loop .inv .1 .0), settled-check-again (c .before .before .before .variable .ensures) (h .loop .inv .1 .1) (k .ensures)))
 

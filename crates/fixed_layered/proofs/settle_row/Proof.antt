@@ -14,7 +14,8 @@ use Rattle.fixed_layered.proofs.settle_row.Statement.{statement}
 use Rattle.fixed_layered.proofs.settle_row.Tie as tie
 
 abbrev Inv-loop : tie.InvT-loop
-Inv-loop work₀ sums index rows base from upto n p lanes first q m x₀ work x = (x ≤ m) × ((length work ≡ length work₀) × RowSettled n (edgesIn p index) (codeIn p index) (stepped first q) base lanes sums work₀ x work)
+Inv-loop work₀ sums index rows base from upto n p lanes first q m x₀ work x =
+    (x ≤ m) × ((length work ≡ length work₀) × RowSettled n (edgesIn p index) (codeIn p index) (stepped first q) base lanes sums work₀ x work)
 
 abbrev μ-loop : tie.MeasureT-loop
 μ-loop work₀ sums index rows base from upto n p lanes first q m x₀ work x = m - x
@@ -59,10 +60,12 @@ least-requires : tie.Need-least-requires Inv-loop μ-loop
 least-requires c κs = search needs
 
 add-settle-check : tie.Need-add-settle-check Inv-loop μ-loop
-add-settle-check c = let s = c .before .before .before .before .before .before .before .before in
+add-settle-check c =
+    let loop-test = c .before .before .before .before .loop-test in
+    let s = c .before .before .before .before .before .before .before .before in
     let a = s .args in
     let h = c .before .before .before .before .before in
-    let y = c .before .before .before .before .loop-test .taken in
+    let y = loop-test .taken in
     let inside = s .pre .0 .0 .inside (h .loop .x) y in
     let r = c .before .before .before .start in
     let d = c .before .before .degree in
@@ -72,10 +75,12 @@ add-settle-check c = let s = c .before .before .before .before .before .before .
     record { fits = omega (arith, w .part-room .edges, w .least, ap length (s .pre .0 .1), s .pre .0 .0 .few-edges) }
 
 sub-settle-check : tie.Need-sub-settle-check Inv-loop μ-loop
-sub-settle-check c = let s = c .before .before .before .before .before .before .before .before in
+sub-settle-check c =
+    let loop-test = c .before .before .before .before .loop-test in
+    let s = c .before .before .before .before .before .before .before .before in
     let a = s .args in
     let h = c .before .before .before .before .before in
-    let y = c .before .before .before .before .loop-test .taken in
+    let y = loop-test .taken in
     let inside = s .pre .0 .0 .inside (h .loop .x) y in
     let r = c .before .before .before .start in
     let d = c .before .before .degree in
@@ -85,10 +90,12 @@ sub-settle-check c = let s = c .before .before .before .before .before .before .
     w .least
 
 settle-check-requires : tie.Need-settle-check-requires Inv-loop μ-loop
-settle-check-requires c κs = let s = c .before .before .before .before .before .before .before .before in
+settle-check-requires c κs =
+    let loop-test = c .before .before .before .before .loop-test in
+    let s = c .before .before .before .before .before .before .before .before in
     let a = s .args in
     let h = c .before .before .before .before .before in
-    let y = c .before .before .before .before .loop-test .taken in
+    let y = loop-test .taken in
     let inside = s .pre .0 .0 .inside (h .loop .x) y in
     let r = c .before .before .before .start in
     let d = c .before .before .degree in
@@ -98,26 +105,32 @@ settle-check-requires c κs = let s = c .before .before .before .before .before 
     (w .part-room, (s .pre .1 .1, w .in-row))
 
 add-x : tie.Need-add-x Inv-loop μ-loop
-add-x c = let s = c .before .before .before .before .before .before .before .before .before .before in
+add-x c =
+    let loop-test = c .before .before .before .before .before .before .loop-test in
+    let s = c .before .before .before .before .before .before .before .before .before .before in
     let a = s .args in
     let h = c .before .before .before .before .before .before .before in
-    let y = c .before .before .before .before .before .before .loop-test .taken in
+    let y = loop-test .taken in
     let inside = s .pre .0 .0 .inside (h .loop .x) y in
     record { fits = omega (arith, y, s .fits .m .fits) }
 
 loop-less : tie.Need-loop-less Inv-loop μ-loop
-loop-less c = let s = c .before .before .before .before .before .before .before .before .before .before in
+loop-less c =
+    let loop-test = c .before .before .before .before .before .before .loop-test in
+    let s = c .before .before .before .before .before .before .before .before .before .before in
     let a = s .args in
     let h = c .before .before .before .before .before .before .before in
-    let y = c .before .before .before .before .before .before .loop-test .taken in
+    let y = loop-test .taken in
     let inside = s .pre .0 .0 .inside (h .loop .x) y in
     omega (arith, y)
 
 loop-again : tie.Need-loop-again Inv-loop μ-loop
-loop-again c = let s = c .before .before .before .before .before .before .before .before .before .before in
+loop-again c =
+    let loop-test = c .before .before .before .before .before .before .loop-test in
+    let s = c .before .before .before .before .before .before .before .before .before .before in
     let a = s .args in
     let h = c .before .before .before .before .before .before .before in
-    let y = c .before .before .before .before .before .before .loop-test .taken in
+    let y = loop-test .taken in
     let inside = s .pre .0 .0 .inside (h .loop .x) y in
     let r = c .before .before .before .before .before .start in
     let d = c .before .before .before .before .degree in

@@ -19,15 +19,29 @@ use Rattle.fixed_layered.proofs.shared_run.Tie as tie
 
 abbrev Inv-loop : tie.InvT-loop
 Inv-loop index rows work₀ t₀ u₀ flags n p lanes offset first q m place₀ x₀ work t u place x =
-    (x ≤ m) × ((length work ≡ length work₀) × (((length t ≡ length t₀) × (length u ≡ length u₀)) × ((place ≡ placeOf (codeIn p index) (stepped first q) x) × ChecksMade (sharedIn flags) n p lanes (toZ w8 offset) index first q work₀ x work)))
+    (x ≤ m) ×
+    ((length work ≡ length work₀) ×
+    (((length t ≡ length t₀) × (length u ≡ length u₀)) ×
+    ((place ≡ placeOf (codeIn p index) (stepped first q) x) × ChecksMade (sharedIn flags) n p lanes (toZ w8 offset) index first q work₀ x work)))
 
 abbrev μ-loop : tie.MeasureT-loop
 μ-loop index rows work₀ t₀ u₀ flags n p lanes offset first q m place₀ x₀ work t u place x = m - x
 
 loop-holds : tie.Need-loop-holds Inv-loop μ-loop
 loop-holds c =
-    let a = c .before .before .args in
-    (search needs, (refl, ((refl, refl), (place-first (a .p) (a .index .now) (a .first) (a .q), checks-start (sharedIn (a .flags .now)) (a .n) (a .p) (a .lanes) (toZ w8 (ofZ w8 (a .offset))) (a .index .now) (a .first) (a .q) (a .work .now)))))
+    let a = c .before .before .args in (
+      search needs,
+      (
+        refl,
+        (
+          (refl, refl),
+          (
+            place-first (a .p) (a .index .now) (a .first) (a .q),
+            checks-start (sharedIn (a .flags .now)) (a .n) (a .p) (a .lanes) (toZ w8 (ofZ w8 (a .offset))) (a .index .now) (a .first) (a .q) (a .work .now),
+          ),
+        ),
+      ),
+    )
 
 mul-c : tie.Need-mul-c Inv-loop μ-loop
 mul-c c = let s = c .before .before .before .before in record { fits = omega (arith, s .pre .0 .0 .inside (c .before .loop .x) (c .loop-test .taken), s .pre .0 .0 .few-checks) }
@@ -43,41 +57,61 @@ degree-requires c κs = let s = c .before .before .before .before .before in (s 
 
 check-shared-requires : tie.Need-check-shared-requires Inv-loop μ-loop
 check-shared-requires c κs =
+    let loop-test = c .before .before .before .before .before .loop-test in
     let s = c .before .before .before .before .before .before .before .before .before in
     let h = c .before .before .before .before .before .before in
-    let y = c .before .before .before .before .before .loop-test .taken in
+    let y = loop-test .taken in
     let inside = s .pre .0 .0 .inside (h .loop .x) y in
     let r = c .before .before .before .before .start in
     let d = c .before .before .before .degree in (
       (
         subst (λ (l : List ℕ). Room l (r .result) (d .result) (s .args .n) (s .args .lanes) (h .loop .work)) (sym (s .pre .0 .1))
-            (room (stepped (s .args .first) (s .args .q) (h .loop .x)) (r .result) (d .result) (memory-to (h .loop .inv .1 .0) (s .pre .0 .0 .memory)) inside (r .ensures) (omega (arith, r .ensures, d .ensures))),
+            (room (stepped (s .args .first) (s .args .q) (h .loop .x)) (r .result) (d .result) (memory-to (h .loop .inv .1 .0) (s .pre .0 .0 .memory)) inside (r .ensures)
+            (omega (arith, r .ensures, d .ensures))),
         s .pre .0 .0 .few-bits,
       ),
-      (omega (arith, h .loop .inv .1 .1 .0 .0, s .pre .1 .1 .0), (omega (arith, h .loop .inv .1 .1 .0 .1, s .pre .1 .1 .1), omega (arith, place-room (h .loop .x) (h .loop .place) (r .result) (d .result) (s .pre .0 .0) y (r .ensures) (omega (arith, r .ensures, d .ensures)) (h .loop .inv .1 .1 .1 .0), ap length (s .pre .0 .1)))),
+      (
+        omega (arith, h .loop .inv .1 .1 .0 .0, s .pre .1 .1 .0),
+        (
+          omega (arith, h .loop .inv .1 .1 .0 .1, s .pre .1 .1 .1),
+          omega (
+            arith,
+            place-room (h .loop .x) (h .loop .place) (r .result) (d .result) (s .pre .0 .0) y (r .ensures) (omega (arith, r .ensures, d .ensures))
+                (h .loop .inv .1 .1 .1 .0),
+            ap length (s .pre .0 .1),
+          ),
+        ),
+      ),
     )
 
 add-place : tie.Need-add-place Inv-loop μ-loop
 add-place c =
+    let loop-test = c .before .before .before .before .before .before .before .before .before .loop-test in
     let s = c .before .before .before .before .before .before .before .before .before .before .before .before .before in
     let h = c .before .before .before .before .before .before .before .before .before .before in
-    let y = c .before .before .before .before .before .before .before .before .before .loop-test .taken in
+    let y = loop-test .taken in
     let inside = s .pre .0 .0 .inside (h .loop .x) y in
     let r = c .before .before .before .before .before .before .before .before .start in
     let d = c .before .before .before .before .before .before .before .degree in
     record { fits = omega (arith, place-room (h .loop .x) (h .loop .place) (r .result) (d .result) (s .pre .0 .0) y (r .ensures) (omega (arith, r .ensures, d .ensures)) (h .loop .inv .1 .1 .1 .0), s .pre .0 .0 .few-edges) }
 
 add-x : tie.Need-add-x Inv-loop μ-loop
-add-x c = record { fits = omega (arith, c .before .before .before .before .before .before .before .before .before .loop-test .taken, c .before .before .before .before .before .before .before .before .before .before .before .before .before .fits .m .fits) }
+add-x c =
+    let at-loop-test = c .before .before .before .before .before .before .before .before .before in
+    let s = at-loop-test .before .before .before .before in
+    record { fits = omega (arith, at-loop-test .loop-test .taken, s .fits .m .fits) }
 
 loop-less : tie.Need-loop-less Inv-loop μ-loop
-loop-less c = omega (arith, c .before .before .before .before .before .before .before .before .before .loop-test .taken)
+loop-less c =
+    let loop-test = c .before .before .before .before .before .before .before .before .before .loop-test in
+    omega (arith, loop-test .taken)
 
 loop-again : tie.Need-loop-again Inv-loop μ-loop
 loop-again c =
+    let loop-test = c .before .before .before .before .before .before .before .before .before .loop-test in
     let s = c .before .before .before .before .before .before .before .before .before .before .before .before .before in
     let h = c .before .before .before .before .before .before .before .before .before .before in
-    let y = c .before .before .before .before .before .before .before .before .before .loop-test .taken in
+    let y = loop-test .taken in
     let inside = s .pre .0 .0 .inside (h .loop .x) y in
     let r = c .before .before .before .before .before .before .before .before .start in
     let d = c .before .before .before .before .before .before .before .degree in
@@ -94,7 +128,11 @@ loop-again c =
           (
             place-next (a .p) (a .index .now) (a .first) (a .q) (h .loop .x) (h .loop .place) (r .result) (d .result) inside e f g,
             checks-again inside e f g (place-room (h .loop .x) (h .loop .place) (r .result) (d .result) (s .pre .0 .0) y e f g) (h .loop .inv .1 .1 .1 .1)
-                (subst (λ (l : List ℕ). Checked (sharedIn (s .args .flags .now)) l (r .result) (d .result) (a .n) (a .lanes) (h .loop .place) (toZ w8 (ofZ w8 (a .offset))) (h .loop .work) (k .last .1 .1 .1 .0)) (s .pre .0 .1) (k .ensures)),
+                (subst
+                (λ (l : List ℕ).
+                Checked (sharedIn (s .args .flags .now)) l (r .result) (d .result) (a .n) (a .lanes) (h .loop .place) (toZ w8 (ofZ w8 (a .offset))) (h .loop .work)
+                (k .last .1 .1 .1 .0))
+                (s .pre .0 .1) (k .ensures)),
           ),
         ),
       ),

@@ -34,15 +34,32 @@ slice-aggregate-gather-row : tie.Need-slice-aggregate-gather-row
 slice-aggregate-gather-row c = search needs
 
 gather-row-requires : tie.Need-gather-row-requires
-gather-row-requires c κs = let s = c .before .before .before .before .before .before .before .before .before .before in
-    let e : getD (s .args .flags .now) (s .args .g) false ≡ true = not-false (getD (s .args .flags .now) (s .args .g) false) (c .before .before .before .before .before .if1 .left) in
-    (s .pre .0, ((grouped (s .args .g) e (s .pre .1 .0 .1 .1 .1 .1) (s .pre .1 .0 .0) (c .before .before .before .before .span .ensures .0) (c .before .before .before .span2 .ensures .0)), (omega (arith, s .pre .0 .0 .memory .few-lanes, s .pre .1 .1), (length-replicate 374 false, zeros 374))))
+gather-row-requires c κs =
+    let at-span = c .before .before .before .before in
+    let at-if1 = at-span .before in
+    let s = c .before .before .before .before .before .before .before .before .before .before in
+    let e : getD (s .args .flags .now) (s .args .g) false ≡ true = not-false (getD (s .args .flags .now) (s .args .g) false) (at-if1 .if1 .left) in (
+      s .pre .0,
+      (
+        (grouped (s .args .g) e (s .pre .1 .0 .1 .1 .1 .1) (s .pre .1 .0 .0) (at-span .span .ensures .0) (c .before .before .before .span2 .ensures .0)),
+        (omega (arith, s .pre .0 .0 .memory .few-lanes, s .pre .1 .1), (length-replicate 374 false, zeros 374)),
+      ),
+    )
 
 settle-row-requires : tie.Need-settle-row-requires
-settle-row-requires c κs = let s = c .before .before .before .before .before .before .before .before .before .before .before .before .before .before .before in
-    let e : getD (s .args .flags .now) (s .args .g) false ≡ true = not-false (getD (s .args .flags .now) (s .args .g) false) (c .before .before .before .before .before .before .before .before .before .before .if1 .left) in
-    let k = c .before .before .before .before .gather-row in
-    (s .pre .0, ((grouped (s .args .g) e (s .pre .1 .0 .1 .1 .1 .1) (s .pre .1 .0 .0) (c .before .before .before .before .before .before .before .before .before .span .ensures .0) (c .before .before .before .before .before .before .before .before .span2 .ensures .0)), omega (arith, k .kept, s .pre .0 .0 .memory .few-lanes, s .pre .1 .1)))
+settle-row-requires c κs =
+    let at-span2 = c .before .before .before .before .before .before .before .before in
+    let at-span = at-span2 .before in
+    let at-if1 = at-span .before in
+    let s = c .before .before .before .before .before .before .before .before .before .before .before .before .before .before .before in
+    let e : getD (s .args .flags .now) (s .args .g) false ≡ true = not-false (getD (s .args .flags .now) (s .args .g) false) (at-if1 .if1 .left) in
+    let k = c .before .before .before .before .gather-row in (
+      s .pre .0,
+      (
+        (grouped (s .args .g) e (s .pre .1 .0 .1 .1 .1 .1) (s .pre .1 .0 .0) (at-span .span .ensures .0) (at-span2 .span2 .ensures .0)),
+        omega (arith, k .kept, s .pre .0 .0 .memory .few-lanes, s .pre .1 .1),
+      ),
+    )
 
 same-length : tie.Need-same-length
 same-length c = search needs
@@ -51,9 +68,12 @@ same-length-2 : tie.Need-same-length-2
 same-length-2 c = search needs
 
 returns-2 : tie.Need-returns-2
-returns-2 c = let s = c .before .before .before .before .before .before .before .before .before .before .before .before .before .before .before .before .before in
-    let e : getD (s .args .flags .now) (s .args .g) false ≡ true = not-false (getD (s .args .flags .now) (s .args .g) false) (c .before .before .before .before .before .before .before .before .before .before .before .before .if1 .left) in
-    record { flagged = λ f. row-written (c .before .before .before .before .before .before .gather-row .ensures) (c .before .settle-row .ensures); plain = λ f. absurd (true≢false (sym e ∙ f)) }
+returns-2 c =
+    let at-gather-row = c .before .before .before .before .before .before in
+    let at-if1 = at-gather-row .before .before .before .before .before .before in
+    let s = c .before .before .before .before .before .before .before .before .before .before .before .before .before .before .before .before .before in
+    let e : getD (s .args .flags .now) (s .args .g) false ≡ true = not-false (getD (s .args .flags .now) (s .args .g) false) (at-if1 .if1 .left) in
+    record { flagged = λ f. row-written (at-gather-row .gather-row .ensures) (c .before .settle-row .ensures); plain = λ f. absurd (true≢false (sym e ∙ f)) }
 
 pub write-row-spec : {M : Type 1} → statement M
 write-row-spec =

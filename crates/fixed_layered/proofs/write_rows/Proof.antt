@@ -11,13 +11,17 @@ use Rattle.fixed_layered.proofs.write_rows.Statement.{statement}
 use Rattle.fixed_layered.proofs.write_rows.Tie as tie
 
 abbrev Inv-loop : tie.InvT-loop
-Inv-loop work₀ sums₀ index rows table flags l n p lanes first q m g₀ work sums g = (g ≤ 120) × ((length work ≡ length work₀) × ((length sums ≡ length sums₀) × Written n (edgesIn p index) (codeIn p index) (stepped first q) m lanes flags work₀ g work))
+Inv-loop work₀ sums₀ index rows table flags l n p lanes first q m g₀ work sums g =
+    (g ≤ 120) ×
+    ((length work ≡ length work₀) × ((length sums ≡ length sums₀) × Written n (edgesIn p index) (codeIn p index) (stepped first q) m lanes flags work₀ g work))
 
 abbrev μ-loop : tie.MeasureT-loop
 μ-loop work₀ sums₀ index rows table flags l n p lanes first q m g₀ work sums g = 120 - g
 
 loop-holds : tie.Need-loop-holds Inv-loop μ-loop
-loop-holds c = let a = c .before .before .before .args in
+loop-holds c =
+    let s = c .before .before .before in
+    let a = c .before .before .before .args in
     (search needs, (refl, (refl, written-start (a .n) (edgesIn (a .p) (a .index .now)) (codeIn (a .p) (a .index .now)) (stepped (a .first) (a .q)) (a .m) (a .lanes) (a .flags .now) (a .work .now))))
 
 write-row-requires : tie.Need-write-row-requires Inv-loop μ-loop
@@ -34,11 +38,18 @@ loop-less : tie.Need-loop-less Inv-loop μ-loop
 loop-less c = search needs
 
 loop-again : tie.Need-loop-again Inv-loop μ-loop
-loop-again c = let s = c .before .before .before .before .before .before .before .before .before .before in
+loop-again c =
+    let loop-test = c .before .before .before .before .before .loop-test in
+    let s = c .before .before .before .before .before .before .before .before .before .before in
     let h = c .before .before .before .before .before .before in
-    let y = c .before .before .before .before .before .loop-test .taken in
-    let k = c .before .before .write-row in
-    (omega (arith, y), (omega (arith, k .kept, h .loop .inv .1 .0), (omega (arith, k .kept, h .loop .inv .1 .1 .0), written-again (s .pre .1 .0 .0 .low (h .loop .g)) (h .loop .inv .1 .1 .1) (k .ensures))))
+    let y = loop-test .taken in
+    let k = c .before .before .write-row in (
+      omega (arith, y),
+      (
+        omega (arith, k .kept, h .loop .inv .1 .0),
+        (omega (arith, k .kept, h .loop .inv .1 .1 .0), written-again (s .pre .1 .0 .0 .low (h .loop .g)) (h .loop .inv .1 .1 .1) (k .ensures)),
+      ),
+    )
 
 same-length : tie.Need-same-length Inv-loop μ-loop
 same-length c = search needs

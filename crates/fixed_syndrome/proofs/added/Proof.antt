@@ -5,7 +5,7 @@ use mathlib.Core.Bool.{cond}
 use Prim.Native.Nat.{ℕ, _+_, _-_, _≤_}
 use lib.Dec.{eqb}
 use lib.ListN.{length, length-set, getD}
-use Rattle.laws.specs.Put.{grown}
+use Rattle.laws.specs.Stores.{grown}
 use Rattle.fixed_syndrome.specs.Count.{Added}
 use Rattle.fixed_syndrome.proofs.added.Statement.{statement}
 use Rattle.fixed_syndrome.proofs.added.Tie as tie

@@ -59,9 +59,10 @@ loop-less c = search needs
 
 loop-again : tie.Need-loop-again Inv-loop μ-loop
 loop-again c =
+    let loop-test = c .before .before .before .before .loop-test in
     let s = c .before .before .before .before .before .before .before .before in
     let h = c .before .before .before .before .before in
-    let l = c .before .before .before .before .loop-test .taken in
+    let l = loop-test .taken in
     let r = c .before .before .before .start in
     let d = c .before .before .degree in
     let b = c .before .sign-parity in

@@ -3,7 +3,7 @@ use native.Mathlib.Omega.{arith}
 use mathlib.Core.Path.{_≡_, refl}
 use Prim.Native.Nat.{ℕ, _+_, _-_, _≤_}
 use lib.ListN.{length, length-set, getD}
-use Rattle.laws.specs.Put.{grown}
+use Rattle.laws.specs.Stores.{grown}
 use Rattle.fixed_syndrome.specs.Met.{Taken}
 use Rattle.fixed_syndrome.proofs.lanes16.Statement.{statement}
 use Rattle.fixed_syndrome.proofs.lanes16.Tie as tie

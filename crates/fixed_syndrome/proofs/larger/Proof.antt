@@ -3,7 +3,7 @@ use native.Mathlib.Omega.{arith}
 use mathlib.Core.Path.{_≡_, refl}
 use Prim.Native.Nat.{ℕ, _-_, _≤_, max}
 use lib.ListN.{length, length-set, getD}
-use Rattle.laws.specs.Put.{grown}
+use Rattle.laws.specs.Stores.{grown}
 use Rattle.fixed_syndrome.specs.Met.{Larger}
 use Rattle.fixed_syndrome.proofs.larger.Statement.{statement}
 use Rattle.fixed_syndrome.proofs.larger.Tie as tie

@@ -86,7 +86,9 @@ loop-again c =
     )
 
 returns : tie.Need-returns Inv-loop μ-loop
-returns c = met-end (c .before .before .before .before .pre .few-lanes) (omega (arith, c .loop-test .left)) (c .before .before .shut-lanes .ensures) (c .before .loop .inv .1 .1)
+returns c =
+    let s = c .before .before .before .before in
+    met-end (s .pre .few-lanes) (omega (arith, c .loop-test .left)) (c .before .before .shut-lanes .ensures) (c .before .loop .inv .1 .1)
 
 pub met-spec : {M : Type 1} → statement M
 met-spec =

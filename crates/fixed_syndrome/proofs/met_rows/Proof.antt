@@ -60,20 +60,25 @@ seen-more c =
     let s = h .before .before .before in
     let f : r .start .result + d .degree .result ≡ getD (s .args .index .now) (h .loop .c + 1) 0 = omega (arith, r .start .ensures, d .degree .ensures) in
     seen-again (s .pre .0 .0) (t .loop-test .taken) (r .start .ensures) f (h .loop .inv .1)
-    (subst (λ (l : List ℕ). SignParity l (r .start .result) (d .degree .result) (s .args .lanes) (s .args .at) (s .args .work .now) (g .sign-parity .result)) (s .pre .0 .1) (g .sign-parity .ensures)) (c .larger .ensures)
+    (subst (λ (l : List ℕ). SignParity l (r .start .result) (d .degree .result) (s .args .lanes) (s .args .at) (s .args .work .now) (g .sign-parity .result))
+    (s .pre .0 .1) (g .sign-parity .ensures))
+    (c .larger .ensures)
 
 returns : tie.Need-returns Inv-loop μ-loop
 returns c =
     let m = c .before .before in
     let t = m .before .before .before .before in
-    seen-none (omega (arith, t .loop-test .taken)) (and-eq-true-iff (eqb ((t .before .loop .c + 1) % 16) 0) (not (eqb (least (m .larger .result) 16) 0)) .0 (sym (c .before .none-left .ensures) ∙ c .if1 .taken) .1)
+    seen-none (omega (arith, t .loop-test .taken))
+    (and-eq-true-iff (eqb ((t .before .loop .c + 1) % 16) 0) (not (eqb (least (m .larger .result) 16) 0)) .0 (sym (c .before .none-left .ensures) ∙ c .if1 .taken) .1)
     (seen-more m)
 
 loop-less : tie.Need-loop-less Inv-loop μ-loop
 loop-less c = search needs
 
 loop-again : tie.Need-loop-again Inv-loop μ-loop
-loop-again c = (omega (arith, c .before .before .before .before .before .before .loop-test .taken), seen-more (c .before .before))
+loop-again c =
+    let loop-test = c .before .before .before .before .before .before .loop-test in
+    (omega (arith, loop-test .taken), seen-more (c .before .before))
 
 returns-2 : tie.Need-returns-2 Inv-loop μ-loop
 returns-2 c = seen-end (omega (arith, c .before .loop .inv .0, c .loop-test .left)) (c .before .loop .inv .1)

@@ -5,7 +5,7 @@ use mathlib.Core.Bool.{_&&_}
 use Prim.Native.Nat.{ℕ, _-_, _≤_}
 use lib.Dec.{eqb, ltb}
 use lib.ListN.{length, length-set}
-use Rattle.laws.specs.Put.{grown}
+use Rattle.laws.specs.Stores.{grown}
 use Rattle.fixed_syndrome.specs.Met.{flag, Shut}
 use Rattle.fixed_syndrome.proofs.shut_lanes.Statement.{statement}
 use Rattle.fixed_syndrome.proofs.shut_lanes.Tie as tie

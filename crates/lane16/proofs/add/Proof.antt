@@ -8,7 +8,7 @@ use borrow.Author.Needs.{sfits-of}
 use Rattle.laws.specs.Signed.{plain}
 use Rattle.lane_math.specs.Value.{satZ}
 use Rattle.lane16.specs.Lanes.{z}
-use Rattle.laws.specs.Put.{grown}
+use Rattle.laws.specs.Stores.{grown}
 use Rattle.lane16.proofs.add.Statement.{statement}
 use Rattle.lane16.proofs.add.Tie as tie
 

@@ -7,7 +7,7 @@ use borrow.Author.Needs.{sfits-of}
 use Rattle.laws.specs.Signed.{plain}
 use Rattle.lane_math.specs.Iteration.{hard}
 use Rattle.lane16.specs.Lanes.{z, n}
-use Rattle.laws.specs.Put.{grown}
+use Rattle.laws.specs.Stores.{grown}
 use Rattle.lane16.proofs.bits.Statement.{statement}
 use Rattle.lane16.proofs.bits.Tie as tie
 

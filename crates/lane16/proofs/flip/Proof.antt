@@ -7,7 +7,7 @@ use lib.IntN.{ℤ, pos}
 use borrow.Author.Needs.{sfits-of}
 use Rattle.laws.specs.Signed.{negative, times, plain}
 use Rattle.lane16.specs.Lanes.{z}
-use Rattle.laws.specs.Put.{grown}
+use Rattle.laws.specs.Stores.{grown}
 use Rattle.lane16.proofs.flip.Statement.{statement}
 use Rattle.lane16.proofs.flip.Tie as tie
 

@@ -11,7 +11,7 @@ use borrow.Author.Needs.{sfits-of}
 use Rattle.laws.specs.Signed.{plain}
 use Rattle.lane_math.specs.Value.{reduced}
 use Rattle.lane16.specs.Lanes.{z, n, readied-to}
-use Rattle.laws.specs.Put.{grown}
+use Rattle.laws.specs.Stores.{grown}
 use Rattle.lane16.proofs.prepare.Statement.{statement}
 use Rattle.lane16.proofs.prepare.Tie as tie
 
@@ -79,6 +79,8 @@ loop-less c = search needs
 
 loop-again : tie.Need-loop-again Inv-loop μ-loop
 loop-again c =
+    let at-reduce = c .before .before in
+    let at-sign = at-reduce .before .before .before in
     let h = c .before .before .before .before .before .before .before in
     let s = h .before in
     let v = h .loop .inv in
@@ -87,10 +89,14 @@ loop-again c =
     record {
       in-range = search needs;
       long = (simp length-set (omega arith), simp length-set (omega arith), simp length-set (omega arith), simp length-set (omega arith));
-      sign-is = grown (pos 0) (λ (k : ℕ) (x : ℤ). x ≡ z (s .args .t1 .sign) k) (h .loop .sign) i _ (omega arith) (v .sign-is) (plain (z (s .args .t1 .sign) i) (sfits-of (c .before .before .before .before .before .sign .given)));
+      sign-is = grown (pos 0) (λ (k : ℕ) (x : ℤ). x ≡ z (s .args .t1 .sign) k) (h .loop .sign) i _ (omega arith) (v .sign-is) (plain (z (s .args .t1 .sign) i) (sfits-of (at-sign .sign .given)));
       least-is = grown 0 (λ (k : ℕ) (x : ℕ). x ≡ n (s .args .t1 .min1) k) (h .loop .least) i _ (omega arith) (v .least-is) refl;
-      m1-is = grown (pos 0) (λ (k : ℕ) (x : ℤ). x ≡ reduced o (min (n (s .args .t1 .min1) k) 127)) (h .loop .m1) i _ (omega arith) (v .m1-is) (plain (c .before .before .reduce .result) (sfits-of (c .before .before .reduce .ok)) ∙ c .before .before .reduce .ensures);
-      m2-is = grown (pos 0) (λ (k : ℕ) (x : ℤ). x ≡ reduced o (min (n (s .args .t1 .min2) k) 127)) (h .loop .m2) i _ (omega arith) (v .m2-is) (plain (c .reduce2 .result) (sfits-of (c .reduce2 .ok)) ∙ c .reduce2 .ensures);
+      m1-is =
+          grown (pos 0) (λ (k : ℕ) (x : ℤ). x ≡ reduced o (min (n (s .args .t1 .min1) k) 127)) (h .loop .m1) i _ (omega arith) (v .m1-is)
+          (plain (at-reduce .reduce .result) (sfits-of (at-reduce .reduce .ok)) ∙ at-reduce .reduce .ensures);
+      m2-is =
+          grown (pos 0) (λ (k : ℕ) (x : ℤ). x ≡ reduced o (min (n (s .args .t1 .min2) k) 127)) (h .loop .m2) i _ (omega arith) (v .m2-is)
+          (plain (c .reduce2 .result) (sfits-of (c .reduce2 .ok)) ∙ c .reduce2 .ensures);
     }
 
 returns : tie.Need-returns Inv-loop μ-loop

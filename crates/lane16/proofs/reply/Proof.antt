@@ -11,7 +11,7 @@ use borrow.Author.Needs.{sfits-of}
 use Rattle.laws.specs.Signed.{plain}
 use Rattle.lane_math.specs.Value.{satZ, replied}
 use Rattle.lane16.specs.Lanes.{z, n}
-use Rattle.laws.specs.Put.{grown}
+use Rattle.laws.specs.Stores.{grown}
 use Rattle.lane16.proofs.reply.Statement.{statement}
 use Rattle.lane16.proofs.reply.Tie as tie
 
@@ -77,7 +77,9 @@ qZ h =
     replied (z (a .t1) i) (z (a .t2) i) (n (a .t3) i) (z (a .t4) i) (z (a .t5) i)
 
 x-is : (c : tie.After-x Inv-loop μ-loop) → toZ w8 (ofZ w8 (z (c .before .before .before .args .t1) (c .before .before .loop .i))) ≡ z (c .before .before .before .args .t1) (c .before .before .loop .i)
-x-is c = plain (z (c .before .before .before .args .t1) (c .before .before .loop .i)) (sfits-of (c .x .given))
+x-is c =
+    let s = c .before .before .before in
+    plain (z (s .args .t1) (c .before .before .loop .i)) (sfits-of (c .x .given))
 
 q-is : (c : tie.After-reply Inv-loop μ-loop) → toZ w8 (ofZ w8 (c .reply .result)) ≡ qZ (c .before .before .before .before .before .before)
 unfolding qZ

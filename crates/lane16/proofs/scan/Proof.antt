@@ -11,7 +11,7 @@ use borrow.Author.Needs.{sfits-of}
 use Rattle.laws.specs.Signed.{negative, times, plain}
 use Rattle.lane_math.specs.Value.{satZ, magnitude}
 use Rattle.lane16.specs.Lanes.{z, n}
-use Rattle.laws.specs.Put.{grown, kept}
+use Rattle.laws.specs.Stores.{grown, kept}
 use Rattle.lane16.proofs.scan.Statement.{statement}
 use Rattle.lane16.proofs.scan.Tie as tie
 
@@ -120,19 +120,24 @@ x-is c =
 a-is : (c : tie.After-mag Inv-loop μ-loop) → c .mag .result ≡ magnitude (tZ (c .before .before .before .before .before))
 a-is c = c .mag .ensures ∙ ap magnitude (x-is (c .before))
 
-sign-step : (c : tie.After-flip Inv-loop μ-loop) → (let h = c .before .before .before .before .before .before .before in negative (toZ w8 (ofZ w8 (c .flip .result))) ≡ times (negative (z (h .before .before .before .before .args .st .sign) (h .loop .i))) (negative (tZ h)))
+sign-step : (c : tie.After-flip Inv-loop μ-loop)
+    → (let h = c .before .before .before .before .before .before .before in negative (toZ w8 (ofZ w8 (c .flip .result))) ≡ times (negative (z (h .before .before .before .before .args .st .sign) (h .loop .i))) (negative (tZ h)))
 sign-step c =
     let h = c .before .before .before .before .before .before .before in
     ap negative (plain (c .flip .result) (sfits-of (c .flip .ok)))
     ∙ c .flip .ensures
-    ∙ (λ i. times (negative ((plain (z (h .loop .sign) (h .loop .i)) (sfits-of (c .before .flip-arg .given)) ∙ h .loop .inv .sign-kept (h .loop .i) (omega arith)) i)) (negative (x-is (c .before .before .before) i)))
+    ∙ (λ i.
+    times (negative ((plain (z (h .loop .sign) (h .loop .i)) (sfits-of (c .before .flip-arg .given)) ∙ h .loop .inv .sign-kept (h .loop .i) (omega arith)) i))
+    (negative (x-is (c .before .before .before) i)))
 
 min2-step : (c : tie.After-maxu Inv-loop μ-loop) → (let h = c .before .before .before .before .before .before .before .before .before in c .maxu .result ≡ max (m1 h) (min (m2 h) (magnitude (tZ h))))
 unfolding m1 m2
 min2-step c =
     let h = c .before .before .before .before .before .before .before .before .before in
     c .maxu .ensures
-    ∙ (λ i. max (h .loop .inv .min1-kept (h .loop .i) (omega arith) i) ((c .before .minu .ensures ∙ (λ j. min (h .loop .inv .min2-kept (h .loop .i) (omega arith) j) (a-is (c .before .before .before .before) j))) i))
+    ∙ (λ i.
+    max (h .loop .inv .min1-kept (h .loop .i) (omega arith) i)
+    ((c .before .minu .ensures ∙ (λ j. min (h .loop .inv .min2-kept (h .loop .i) (omega arith) j) (a-is (c .before .before .before .before) j))) i))
 
 min1-step : (c : tie.After-minu2 Inv-loop μ-loop) → (let h = c .before .before .before .before .before .before .before .before .before .before in c .minu2 .result ≡ min (m1 h) (magnitude (tZ h)))
 unfolding m1

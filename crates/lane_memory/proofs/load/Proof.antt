@@ -7,7 +7,7 @@ use lib.IntN.{ℤ, pos}
 use borrow.Author.Needs.{sfits-of}
 use Rattle.laws.specs.Signed.{plain}
 use Rattle.lane16.specs.Lanes.{z}
-use Rattle.laws.specs.Put.{grown}
+use Rattle.laws.specs.Stores.{grown}
 use Rattle.lane_memory.specs.Column.{column, column-at}
 use Rattle.lane_memory.proofs.load.Statement.{statement}
 use Rattle.lane_memory.proofs.load.Tie as tie

@@ -33,15 +33,20 @@ returns-3 : tie.Need-returns-3
 returns-3 c = stored-width (sym (c .before .before .before .if3 .taken)) (c .before .store3 .ensures)
 
 store-requires-4 : tie.Need-store-requires-4
-store-requires-4 c κs = let s = c .before .before .before .before in let w = s .pre .1 .1 .one-of (c .before .before .before .if1 .left) (c .before .before .if2 .left) (c .before .if3 .left) in (search needs, (omega (arith, w), omega arith))
+store-requires-4 c κs =
+    let s = c .before .before .before .before in
+    let w = s .pre .1 .1 .one-of (c .before .before .before .if1 .left) (c .before .before .if2 .left) (c .before .if3 .left) in
+    (search needs, (omega (arith, w), omega arith))
 
 same-length-4 : tie.Need-same-length-4
 same-length-4 c = search needs
 
 returns-4 : tie.Need-returns-4
 returns-4 c =
+    let at-if2 = c .before .before .before .before in
+    let at-if1 = at-if2 .before in
     let s = c .before .before .before .before .before .before in
-    stored-width (sym (s .pre .1 .1 .one-of (c .before .before .before .before .before .if1 .left) (c .before .before .before .before .if2 .left) (c .before .before .before .if3 .left))) (c .before .store4 .ensures)
+    stored-width (sym (s .pre .1 .1 .one-of (at-if1 .if1 .left) (at-if2 .if2 .left) (c .before .before .before .if3 .left))) (c .before .store4 .ensures)
 
 pub store-lanes-spec : {M : Type 1} → statement M
 store-lanes-spec =

@@ -15,7 +15,8 @@ refusal-requires c κs = search needs
 returns : tie.Need-returns
 returns c =
     let s = c .before .before .before .before .before in
-    with-number madeNumber (new-number _ _ _ _) (new-refused (s .args .n) (s .args .lens .now) (s .args .addrs .now) (s .args .lists .now) (c .before .refusal .result) (c .before .refusal .ensures) (c .if1 .taken))
+    with-number madeNumber (new-number _ _ _ _)
+    (new-refused (s .args .n) (s .args .lens .now) (s .args .addrs .now) (s .args .lists .now) (c .before .refusal .result) (c .before .refusal .ensures) (c .if1 .taken))
 
 cast-k : tie.Need-cast-k
 cast-k c =
@@ -73,26 +74,42 @@ wide-requires c κs = search needs
 returns-2 : tie.Need-returns-2
 returns-2 c =
     let s = c .before .before .before .before .before .before .before in
-    with-number madeNumber (new-number _ _ _ _) (new-short (s .args .n) (s .args .lens .now) (s .args .addrs .now) (s .args .lists .now) (sym (c .before .before .before .refusal .ensures) ∙ (c .before .before .if1 .left)) (c .before .wide .result) (c .before .wide .ensures) (c .if2 .taken))
+    with-number madeNumber (new-number _ _ _ _)
+    (new-short (s .args .n) (s .args .lens .now) (s .args .addrs .now) (s .args .lists .now)
+    (sym (c .before .before .before .refusal .ensures) ∙ (c .before .before .if1 .left)) (c .before .wide .result) (c .before .wide .ensures) (c .if2 .taken))
 
 slice-relend-prefix-build : tie.Need-slice-relend-prefix-build
 slice-relend-prefix-build c = search needs
 
 slice-aggregate-build : tie.Need-slice-aggregate-build
-slice-aggregate-build c = sym (length-take-le (c .before .before .wide .result) (c .before .before .before .before .before .before .before .before .args .lists .now) (c .before .if2 .left))
+slice-aggregate-build c =
+    let s = c .before .before .before .before .before .before .before .before in
+    sym (length-take-le (c .before .before .wide .result) (s .args .lists .now) (c .before .if2 .left))
 
 build-requires : tie.Need-build-requires
 build-requires c κs =
-    let s = c .before .before .before .before .before .before .before .before in
-    ((sym (c .before .before .before .before .refusal .ensures) ∙ (c .before .before .before .if1 .left)), new-ready (s .args .n) (s .args .lens .now) (s .args .addrs .now) (s .args .lists .now) (sym (c .before .before .before .before .refusal .ensures) ∙ (c .before .before .before .if1 .left)) (c .before .before .wide .result) (c .before .before .wide .ensures) (c .before .if2 .left))
+    let at-wide = c .before .before in
+    let at-if1 = at-wide .before in
+    let at-refusal = at-if1 .before in
+    let s = c .before .before .before .before .before .before .before .before in (
+      (sym (at-refusal .refusal .ensures) ∙ (at-if1 .if1 .left)),
+      new-ready (s .args .n) (s .args .lens .now) (s .args .addrs .now) (s .args .lists .now) (sym (at-refusal .refusal .ensures) ∙ (at-if1 .if1 .left))
+          (at-wide .wide .result) (at-wide .wide .ensures) (c .before .if2 .left),
+    )
 
 same-length : tie.Need-same-length
 same-length c = search needs
 
 returns-3 : tie.Need-returns-3
 returns-3 c =
+    let at-if2 = c .before .before .before .before in
+    let at-wide = at-if2 .before in
+    let at-if1 = at-wide .before in
+    let at-refusal = at-if1 .before in
     let s = c .before .before .before .before .before .before .before .before .before .before .before in
-    with-number madeNumber (new-number _ _ _ _) (new-done (s .args .n) (s .args .lens .now) (s .args .addrs .now) (s .args .lists .now) (sym (c .before .before .before .before .before .before .before .refusal .ensures) ∙ (c .before .before .before .before .before .before .if1 .left)) (c .before .before .before .before .before .wide .result) (c .before .before .before .before .before .wide .ensures) (c .before .before .before .before .if2 .left) _ (c .before .before .build .ensures))
+    with-number madeNumber (new-number _ _ _ _)
+    (new-done (s .args .n) (s .args .lens .now) (s .args .addrs .now) (s .args .lists .now) (sym (at-refusal .refusal .ensures) ∙ (at-if1 .if1 .left))
+    (at-wide .wide .result) (at-wide .wide .ensures) (at-if2 .if2 .left) _ (c .before .before .build .ensures))
 
 pub new-spec : {M : Type 1} → statement M
 new-spec =

@@ -21,7 +21,9 @@ wide-requires c κs = search needs
 returns-2 : tie.Need-returns-2
 returns-2 c =
     let s = c .before .before .before .before .before .before .before in
-    let e = weight-other (s .args .n) (s .args .lens .now) (s .args .addrs .now) (s .args .bits .now) (sym (c .before .before .before .refusal .ensures) ∙ (c .before .before .if1 .left)) (c .before .wide .result) (c .before .wide .ensures) (c .if2 .taken) in
+    let e =
+    weight-other (s .args .n) (s .args .lens .now) (s .args .addrs .now) (s .args .bits .now)
+    (sym (c .before .before .before .refusal .ensures) ∙ (c .before .before .if1 .left)) (c .before .wide .result) (c .before .wide .ensures) (c .if2 .taken) in
     (e, ap countedNumber e ∙ weight-number _ _ _ _)
 
 weight-of-requires : tie.Need-weight-of-requires
@@ -29,8 +31,13 @@ weight-of-requires c κs = ((sym (c .before .before .before .refusal .ensures) �
 
 returns-3 : tie.Need-returns-3
 returns-3 c =
+    let at-wide = c .before .before in
+    let at-refusal = at-wide .before .before in
     let s = c .before .before .before .before .before .before .before .before in
-    let e = weight-done (s .args .n) (s .args .lens .now) (s .args .addrs .now) (s .args .bits .now) (sym (c .before .before .before .before .refusal .ensures) ∙ (c .before .before .before .if1 .left)) (c .before .before .wide .result) (c .before .before .wide .ensures) (c .before .if2 .left) (c .weight-of .result) (c .weight-of .ensures) in
+    let e =
+    weight-done (s .args .n) (s .args .lens .now) (s .args .addrs .now) (s .args .bits .now)
+    (sym (at-refusal .refusal .ensures) ∙ (c .before .before .before .if1 .left)) (at-wide .wide .result) (at-wide .wide .ensures) (c .before .if2 .left)
+    (c .weight-of .result) (c .weight-of .ensures) in
     (e, ap countedNumber e ∙ weight-number _ _ _ _)
 
 pub syndrome-weight-spec : {M : Type 1} → statement M

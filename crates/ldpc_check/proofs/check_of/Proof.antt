@@ -29,13 +29,14 @@ sub-q c =
 check-rows-requires : tie.Need-check-rows-requires
 unfolding allOf
 check-rows-requires c κs =
-    let s = sizes (c .before .before .before .before .args .n) (c .before .before .before .before .args .lens .now) (c .before .before .before .before .args .addrs .now) (c .before .before .before .before .pre .0) in (
-      c-inside (c .before .before .before .before .args .n) (c .before .before .before .before .args .lens .now) (c .before .before .before .before .args .addrs .now) (c .before .before .before .before .pre .0) (c .before .before .before .before .args .c) (c .before .before .before .before .pre .1),
+    let s′ = c .before .before .before .before in
+    let s = sizes (s′ .args .n) (s′ .args .lens .now) (s′ .args .addrs .now) (s′ .pre .0) in (
+      c-inside (s′ .args .n) (s′ .args .lens .now) (s′ .args .addrs .now) (s′ .pre .0) (s′ .args .c) (s′ .pre .1),
       s .2,
       s .3,
       s .0,
       s .5,
-      info-room (c .before .before .before .before .args .n) (c .before .before .before .before .args .lens .now) (c .before .before .before .before .args .addrs .now) (c .before .before .before .before .pre .0) (c .before .before .before .before .args .c) (c .before .before .before .before .args .out .now) (c .before .before .before .before .pre .2),
+      info-room (s′ .args .n) (s′ .args .lens .now) (s′ .args .addrs .now) (s′ .pre .0) (s′ .args .c) (s′ .args .out .now) (s′ .pre .2),
     )
 
 add-put-stairs : tie.Need-add-put-stairs
@@ -46,8 +47,12 @@ add-put-stairs c =
 put-stairs-requires : tie.Need-put-stairs-requires
 unfolding allOf
 put-stairs-requires c κs =
-    let s = c .before .before .before .before .before .before .before .before in
-    (refl, stairs-room (s .args .n) (s .args .lens .now) (s .args .addrs .now) (s .pre .0) (s .args .c) (c .before .before .before .check-rows .result) (s .args .out .now) (c .before .before .before .check-rows .last .0) (c .before .before .before .check-rows .ensures .0) (omega arith) (s .pre .2))
+    let check-rows = c .before .before .before .check-rows in
+    let s = c .before .before .before .before .before .before .before .before in (
+      refl,
+      stairs-room (s .args .n) (s .args .lens .now) (s .args .addrs .now) (s .pre .0) (s .args .c) (check-rows .result) (s .args .out .now) (check-rows .last .0)
+          (check-rows .ensures .0) (omega arith) (s .pre .2),
+    )
 
 same-length : tie.Need-same-length
 same-length c = search needs
@@ -55,9 +60,12 @@ same-length c = search needs
 returns : tie.Need-returns
 unfolding allOf
 returns c =
+    let at-put-stairs = c .before .before in
+    let at-check-rows = at-put-stairs .before .before .before .before in
     let s = c .before .before .before .before .before .before .before .before .before .before .before in
-    check-done (s .args .n) (s .args .lens .now) (s .args .addrs .now) (s .pre .0) (s .args .c) (c .before .before .before .before .before .before .check-rows .result) (c .before .before .put-stairs .result) (s .args .out .now) (c .before .before .before .before .before .before .check-rows .last .0) (c .before .before .put-stairs .last .0)
-    (c .before .before .before .before .before .before .check-rows .ensures .0) (c .before .before .before .before .before .before .check-rows .ensures .1) (c .before .before .put-stairs .ensures .0) (c .before .before .put-stairs .ensures .1) (s .pre .2)
+    check-done (s .args .n) (s .args .lens .now) (s .args .addrs .now) (s .pre .0) (s .args .c) (at-check-rows .check-rows .result) (at-put-stairs .put-stairs .result)
+    (s .args .out .now) (at-check-rows .check-rows .last .0) (at-put-stairs .put-stairs .last .0) (at-check-rows .check-rows .ensures .0)
+    (at-check-rows .check-rows .ensures .1) (at-put-stairs .put-stairs .ensures .0) (at-put-stairs .put-stairs .ensures .1) (s .pre .2)
 
 pub check-of-spec : {M : Type 1} → statement M
 check-of-spec =

@@ -23,7 +23,8 @@ wide-requires c κs = search needs
 
 loop-holds : tie.Need-loop-holds Inv-loop μ-loop
 loop-holds c =
-    let s = row-start (c .before .before .before .args .q) (c .before .before .before .args .c) (c .before .before .before .args .first) (c .before .before .before .args .row .now) (c .before .before .before .pre .0) (c .before .before .before .pre .1) (c .before .before .before .args .out .now) (length (c .before .before .before .args .row .now)) refl in
+    let s′ = c .before .before .before in
+    let s = row-start (s′ .args .q) (s′ .args .c) (s′ .args .first) (s′ .args .row .now) (s′ .pre .0) (s′ .pre .1) (s′ .args .out .now) (length (s′ .args .row .now)) refl in
     (omega arith, s .0, s .1)
 
 sub-i : tie.Need-sub-i Inv-loop μ-loop
@@ -44,23 +45,34 @@ bit-of-requires c κs =
     ((s .pre .0), (s .pre .1), (s .pre .2))
 
 add-insert-bit : tie.Need-add-insert-bit Inv-loop μ-loop
-add-insert-bit c = omega (arith, (c .bit-of .ensures .1), (c .before .before .before .before .before .before .before .before .before .before .pre .3))
+add-insert-bit c =
+    let s = c .before .before .before .before .before .before .before .before .before .before in
+    omega (arith, (c .bit-of .ensures .1), (s .pre .3))
 
 insert-bit-requires : tie.Need-insert-bit-requires Inv-loop μ-loop
 insert-bit-requires c κs =
+    let at-residue = c .before .before .before in
+    let at-wide = at-residue .before .before .before .before in
     let s = c .before .before .before .before .before .before .before .before .before .before in
     let l = c .before .before .before .before .before .before .loop in
-    row-room (s .args .q) (s .args .c) (s .args .first) (s .args .row .now) (s .pre .0) (s .pre .1) (l .i) (search needs) (l .inv .0) (c .before .before .before .residue .result) (c .before .before .before .before .before .before .before .wide .result) (c .before .before .before .residue .ensures .0) (c .before .before .before .before .before .before .before .wide .ensures)
-    (l .out) (s .args .out .now) (l .n) (l .inv .1) (l .inv .2) (s .pre .4) (c .before .before .if1 .taken)
+    row-room (s .args .q) (s .args .c) (s .args .first) (s .args .row .now) (s .pre .0) (s .pre .1) (l .i) (search needs) (l .inv .0) (at-residue .residue .result)
+    (at-wide .wide .result) (at-residue .residue .ensures .0) (at-wide .wide .ensures) (l .out) (s .args .out .now) (l .n) (l .inv .1) (l .inv .2) (s .pre .4)
+    (c .before .before .if1 .taken)
 
 add-n : tie.Need-add-n Inv-loop μ-loop
 add-n c =
+    let at-if1 = c .before .before .before .before .before in
+    let at-residue = at-if1 .before in
+    let at-wide = at-residue .before .before .before .before in
     let s = c .before .before .before .before .before .before .before .before .before .before .before .before .before in
     let l = c .before .before .before .before .before .before .before .before .before .loop in
-    let f = row-room (s .args .q) (s .args .c) (s .args .first) (s .args .row .now) (s .pre .0) (s .pre .1) (l .i) (search needs) (l .inv .0) (c .before .before .before .before .before .before .residue .result) (c .before .before .before .before .before .before .before .before .before .before .wide .result) (c .before .before .before .before .before .before .residue .ensures .0) (c .before .before .before .before .before .before .before .before .before .before .wide .ensures)
-    (l .out) (s .args .out .now) (l .n) (l .inv .1) (l .inv .2) (s .pre .4) (c .before .before .before .before .before .if1 .taken) in
-    let e = row-size (s .args .q) (s .args .c) (s .args .first) (s .args .row .now) (s .pre .0) (s .pre .1) (l .i) (search needs) (l .inv .0) (c .before .before .before .before .before .before .residue .result) (c .before .before .before .before .before .before .before .before .before .before .wide .result) (c .before .before .before .before .before .before .residue .ensures .0) (c .before .before .before .before .before .before .before .before .before .before .wide .ensures)
-    (l .out) (s .args .out .now) (l .n) (l .inv .1) (l .inv .2) (s .pre .4) in
+    let f =
+    row-room (s .args .q) (s .args .c) (s .args .first) (s .args .row .now) (s .pre .0) (s .pre .1) (l .i) (search needs) (l .inv .0) (at-residue .residue .result)
+    (at-wide .wide .result) (at-residue .residue .ensures .0) (at-wide .wide .ensures) (l .out) (s .args .out .now) (l .n) (l .inv .1) (l .inv .2) (s .pre .4)
+    (at-if1 .if1 .taken) in
+    let e =
+    row-size (s .args .q) (s .args .c) (s .args .first) (s .args .row .now) (s .pre .0) (s .pre .1) (l .i) (search needs) (l .inv .0) (at-residue .residue .result)
+    (at-wide .wide .result) (at-residue .residue .ensures .0) (at-wide .wide .ensures) (l .out) (s .args .out .now) (l .n) (l .inv .1) (l .inv .2) (s .pre .4) in
     omega (arith, f, e)
 
 loop-less : tie.Need-loop-less Inv-loop μ-loop
@@ -68,11 +80,18 @@ loop-less c = search needs
 
 loop-again : tie.Need-loop-again Inv-loop μ-loop
 loop-again c =
+    let at-insert-bit = c .before .before in
+    let at-bit-of = at-insert-bit .before in
+    let at-if1 = at-bit-of .before .before in
+    let at-residue = at-if1 .before in
+    let at-wide = at-residue .before .before .before .before in
     let s = c .before .before .before .before .before .before .before .before .before .before .before .before .before in
     let l = c .before .before .before .before .before .before .before .before .before .loop in
-    let r = row-hit (s .args .q) (s .args .c) (s .args .first) (s .args .row .now) (s .pre .0) (s .pre .1) (l .i) (search needs) (l .inv .0) (c .before .before .before .before .before .before .residue .result) (c .before .before .before .before .before .before .before .before .before .before .wide .result) (c .before .before .before .before .before .before .residue .ensures .0) (c .before .before .before .before .before .before .before .before .before .before .wide .ensures)
-    (l .out) (s .args .out .now) (l .n) (l .inv .1) (l .inv .2) (s .pre .4) (c .before .before .before .before .before .if1 .taken) ((s .args .first) + (c .before .before .before .bit-of .result)) ((l .n) + 1) (c .before .before .insert-bit .last .0)
-    (ap (λ z. (s .args .first) + z) (c .before .before .before .bit-of .ensures .0)) (c .before .before .insert-bit .ensures) refl in
+    let r =
+    row-hit (s .args .q) (s .args .c) (s .args .first) (s .args .row .now) (s .pre .0) (s .pre .1) (l .i) (search needs) (l .inv .0) (at-residue .residue .result)
+    (at-wide .wide .result) (at-residue .residue .ensures .0) (at-wide .wide .ensures) (l .out) (s .args .out .now) (l .n) (l .inv .1) (l .inv .2) (s .pre .4)
+    (at-if1 .if1 .taken) ((s .args .first) + (at-bit-of .bit-of .result)) ((l .n) + 1) (at-insert-bit .insert-bit .last .0)
+    (ap (λ z. (s .args .first) + z) (at-bit-of .bit-of .ensures .0)) (at-insert-bit .insert-bit .ensures) refl in
     (omega arith, r .0, r .1)
 
 loop-less-2 : tie.Need-loop-less-2 Inv-loop μ-loop
@@ -80,10 +99,13 @@ loop-less-2 c = search needs
 
 loop-again-2 : tie.Need-loop-again-2 Inv-loop μ-loop
 loop-again-2 c =
+    let wide = c .before .before .before .before .before .wide in
     let s = c .before .before .before .before .before .before .before .before in
     let l = c .before .before .before .before .loop in
-    let r = row-miss (s .args .q) (s .args .c) (s .args .first) (s .args .row .now) (s .pre .0) (s .pre .1) (l .i) (search needs) (l .inv .0) (c .before .residue .result) (c .before .before .before .before .before .wide .result) (c .before .residue .ensures .0) (c .before .before .before .before .before .wide .ensures)
-    (l .out) (s .args .out .now) (l .n) (l .inv .1) (l .inv .2) (s .pre .4) (c .if1 .left) (l .n) (l .out) refl refl in
+    let r =
+    row-miss (s .args .q) (s .args .c) (s .args .first) (s .args .row .now) (s .pre .0) (s .pre .1) (l .i) (search needs) (l .inv .0) (c .before .residue .result)
+    (wide .result) (c .before .residue .ensures .0) (wide .ensures) (l .out) (s .args .out .now) (l .n) (l .inv .1) (l .inv .2) (s .pre .4) (c .if1 .left) (l .n)
+    (l .out) refl refl in
     (omega arith, r .0, r .1)
 
 same-length : tie.Need-same-length Inv-loop μ-loop

@@ -70,24 +70,60 @@ part-check-row-end-2 c =
 check-row-requires : tie.Need-check-row-requires Inv-loop μ-loop
 unfolding allOf
 check-row-requires c κs =
+    let wide = c .before .before .wide in
     let s = c .before .before .before .before .before .before .before .before .before in
     let l = c .before .before .before .before .before .loop in (
       (s .pre .1),
       (s .pre .0),
       (s .pre .2),
       omega (arith, (l .inv .1), (s .pre .3)),
-      list-fits (l .out) (s .args .out .now) (l .n) (allOf (s .args .q) (s .args .c) (s .args .lens .now) (s .args .addrs .now)) (only (s .args .c) (ofBits (374 * (s .args .q)) (s .args .q) 374 (l .first) 0 (take ((l .from) + (c .before .before .wide .result) - (l .from)) (drop (l .from) (s .args .addrs .now))))) (restOf (s .args .q) (s .args .c) (s .args .lens .now) (s .args .addrs .now) ((l .g) + 1) ((l .from) + (c .before .before .wide .result))) (l .inv .3) (l .inv .4) ((l .inv .5) ∙ ap (λ (z : List ℕ). take (l .n) (l .out) ++ z) (rest-next (s .args .q) (s .args .c) (s .args .lens .now) (s .args .addrs .now) (l .g) (l .from) (search needs) (c .before .before .wide .result) (l .first) (c .before .before .wide .ensures) (l .inv .1))) (s .pre .5),
+      list-fits (l .out) (s .args .out .now) (l .n) (allOf (s .args .q) (s .args .c) (s .args .lens .now) (s .args .addrs .now))
+          (only (s .args .c)
+          (ofBits (374 * (s .args .q)) (s .args .q) 374 (l .first) 0 (take ((l .from) + (wide .result) - (l .from)) (drop (l .from) (s .args .addrs .now)))))
+          (restOf (s .args .q) (s .args .c) (s .args .lens .now) (s .args .addrs .now) ((l .g) + 1) ((l .from) + (wide .result))) (l .inv .3) (l .inv .4)
+          ((l .inv .5)
+          ∙ ap (λ (z : List ℕ). take (l .n) (l .out) ++ z)
+          (rest-next (s .args .q) (s .args .c) (s .args .lens .now) (s .args .addrs .now) (l .g) (l .from) (search needs) (wide .result) (l .first) (wide .ensures)
+          (l .inv .1)))
+          (s .pre .5),
     )
 
 add-n : tie.Need-add-n Inv-loop μ-loop
 unfolding allOf
 add-n c =
+    let at-check-row = c .before .before in
+    let at-wide = at-check-row .before .before .before in
     let s = c .before .before .before .before .before .before .before .before .before .before .before .before in
     let l = c .before .before .before .before .before .before .before .before .loop in
-    omega (arith, rows-below (l .out) (s .args .out .now) (l .n) (allOf (s .args .q) (s .args .c) (s .args .lens .now) (s .args .addrs .now)) (only (s .args .c) (ofBits (374 * (s .args .q)) (s .args .q) 374 (l .first) 0 (take ((l .from) + (c .before .before .before .before .before .wide .result) - (l .from)) (drop (l .from) (s .args .addrs .now))))) (restOf (s .args .q) (s .args .c) (s .args .lens .now) (s .args .addrs .now) ((l .g) + 1) ((l .from) + (c .before .before .before .before .before .wide .result))) (l .inv .3) (l .inv .4) ((l .inv .5) ∙ ap (λ (z : List ℕ). take (l .n) (l .out) ++ z) (rest-next (s .args .q) (s .args .c) (s .args .lens .now) (s .args .addrs .now) (l .g) (l .from) (search needs) (c .before .before .before .before .before .wide .result) (l .first) (c .before .before .before .before .before .wide .ensures) (l .inv .1))) (s .pre .5) (c .before .before .check-row .last .0) (c .before .before .check-row .result) (c .before .before .check-row .ensures .0) (c .before .before .check-row .ensures .1) (l .inv .6), rows-size (l .out) (s .args .out .now) (l .n) (allOf (s .args .q) (s .args .c) (s .args .lens .now) (s .args .addrs .now)) (only (s .args .c) (ofBits (374 * (s .args .q)) (s .args .q) 374 (l .first) 0 (take ((l .from) + (c .before .before .before .before .before .wide .result) - (l .from)) (drop (l .from) (s .args .addrs .now))))) (restOf (s .args .q) (s .args .c) (s .args .lens .now) (s .args .addrs .now) ((l .g) + 1) ((l .from) + (c .before .before .before .before .before .wide .result))) (l .inv .3) (l .inv .4) ((l .inv .5) ∙ ap (λ (z : List ℕ). take (l .n) (l .out) ++ z) (rest-next (s .args .q) (s .args .c) (s .args .lens .now) (s .args .addrs .now) (l .g) (l .from) (search needs) (c .before .before .before .before .before .wide .result) (l .first) (c .before .before .before .before .before .wide .ensures) (l .inv .1))) (s .pre .5) (c .before .before .check-row .last .0) (c .before .before .check-row .result) (c .before .before .check-row .ensures .0) (c .before .before .check-row .ensures .1) (l .inv .6))
+    omega (
+      arith,
+      rows-below (l .out) (s .args .out .now) (l .n) (allOf (s .args .q) (s .args .c) (s .args .lens .now) (s .args .addrs .now))
+          (only (s .args .c)
+          (ofBits (374 * (s .args .q)) (s .args .q) 374 (l .first) 0 (take ((l .from) + (at-wide .wide .result) - (l .from)) (drop (l .from) (s .args .addrs .now)))))
+          (restOf (s .args .q) (s .args .c) (s .args .lens .now) (s .args .addrs .now) ((l .g) + 1) ((l .from) + (at-wide .wide .result))) (l .inv .3) (l .inv .4)
+          ((l .inv .5)
+          ∙ ap (λ (z : List ℕ). take (l .n) (l .out) ++ z)
+          (rest-next (s .args .q) (s .args .c) (s .args .lens .now) (s .args .addrs .now) (l .g) (l .from) (search needs) (at-wide .wide .result) (l .first)
+          (at-wide .wide .ensures) (l .inv .1)))
+          (s .pre .5) (at-check-row .check-row .last .0) (at-check-row .check-row .result) (at-check-row .check-row .ensures .0) (at-check-row .check-row .ensures .1)
+          (l .inv .6),
+      rows-size (l .out) (s .args .out .now) (l .n) (allOf (s .args .q) (s .args .c) (s .args .lens .now) (s .args .addrs .now))
+          (only (s .args .c)
+          (ofBits (374 * (s .args .q)) (s .args .q) 374 (l .first) 0 (take ((l .from) + (at-wide .wide .result) - (l .from)) (drop (l .from) (s .args .addrs .now)))))
+          (restOf (s .args .q) (s .args .c) (s .args .lens .now) (s .args .addrs .now) ((l .g) + 1) ((l .from) + (at-wide .wide .result))) (l .inv .3) (l .inv .4)
+          ((l .inv .5)
+          ∙ ap (λ (z : List ℕ). take (l .n) (l .out) ++ z)
+          (rest-next (s .args .q) (s .args .c) (s .args .lens .now) (s .args .addrs .now) (l .g) (l .from) (search needs) (at-wide .wide .result) (l .first)
+          (at-wide .wide .ensures) (l .inv .1)))
+          (s .pre .5) (at-check-row .check-row .last .0) (at-check-row .check-row .result) (at-check-row .check-row .ensures .0) (at-check-row .check-row .ensures .1)
+          (l .inv .6),
+    )
 
 add-first : tie.Need-add-first Inv-loop μ-loop
-add-first c = omega (arith, (c .before .before .before .before .before .before .before .before .loop .inv .1), (c .before .before .before .before .before .before .before .before .before .before .before .before .pre .3))
+add-first c =
+    let at-loop = c .before .before .before .before .before .before .before .before in
+    let s = at-loop .before .before .before .before in
+    omega (arith, (at-loop .loop .inv .1), (s .pre .3))
 
 add-g : tie.Need-add-g Inv-loop μ-loop
 add-g c = search needs
@@ -98,15 +134,53 @@ loop-less c = search needs
 loop-again : tie.Need-loop-again Inv-loop μ-loop
 unfolding allOf
 loop-again c =
+    let at-check-row = c .before .before in
+    let at-wide = at-check-row .before .before .before in
     let s = c .before .before .before .before .before .before .before .before .before .before .before .before in
     let l = c .before .before .before .before .before .before .before .before .loop in (
       omega arith,
       omega arith,
-      rows-end-fits (s .args .lens .now) (s .args .addrs .now) (l .g) (l .from) (search needs) (c .before .before .before .before .before .wide .result) (c .before .before .before .before .before .wide .ensures) (l .inv .2) .1,
-      rows-size (l .out) (s .args .out .now) (l .n) (allOf (s .args .q) (s .args .c) (s .args .lens .now) (s .args .addrs .now)) (only (s .args .c) (ofBits (374 * (s .args .q)) (s .args .q) 374 (l .first) 0 (take ((l .from) + (c .before .before .before .before .before .wide .result) - (l .from)) (drop (l .from) (s .args .addrs .now))))) (restOf (s .args .q) (s .args .c) (s .args .lens .now) (s .args .addrs .now) ((l .g) + 1) ((l .from) + (c .before .before .before .before .before .wide .result))) (l .inv .3) (l .inv .4) ((l .inv .5) ∙ ap (λ (z : List ℕ). take (l .n) (l .out) ++ z) (rest-next (s .args .q) (s .args .c) (s .args .lens .now) (s .args .addrs .now) (l .g) (l .from) (search needs) (c .before .before .before .before .before .wide .result) (l .first) (c .before .before .before .before .before .wide .ensures) (l .inv .1))) (s .pre .5) (c .before .before .check-row .last .0) (c .before .before .check-row .result) (c .before .before .check-row .ensures .0) (c .before .before .check-row .ensures .1) (l .inv .6),
-      rows-below (l .out) (s .args .out .now) (l .n) (allOf (s .args .q) (s .args .c) (s .args .lens .now) (s .args .addrs .now)) (only (s .args .c) (ofBits (374 * (s .args .q)) (s .args .q) 374 (l .first) 0 (take ((l .from) + (c .before .before .before .before .before .wide .result) - (l .from)) (drop (l .from) (s .args .addrs .now))))) (restOf (s .args .q) (s .args .c) (s .args .lens .now) (s .args .addrs .now) ((l .g) + 1) ((l .from) + (c .before .before .before .before .before .wide .result))) (l .inv .3) (l .inv .4) ((l .inv .5) ∙ ap (λ (z : List ℕ). take (l .n) (l .out) ++ z) (rest-next (s .args .q) (s .args .c) (s .args .lens .now) (s .args .addrs .now) (l .g) (l .from) (search needs) (c .before .before .before .before .before .wide .result) (l .first) (c .before .before .before .before .before .wide .ensures) (l .inv .1))) (s .pre .5) (c .before .before .check-row .last .0) (c .before .before .check-row .result) (c .before .before .check-row .ensures .0) (c .before .before .check-row .ensures .1) (l .inv .6),
-      rows-all (l .out) (s .args .out .now) (l .n) (allOf (s .args .q) (s .args .c) (s .args .lens .now) (s .args .addrs .now)) (only (s .args .c) (ofBits (374 * (s .args .q)) (s .args .q) 374 (l .first) 0 (take ((l .from) + (c .before .before .before .before .before .wide .result) - (l .from)) (drop (l .from) (s .args .addrs .now))))) (restOf (s .args .q) (s .args .c) (s .args .lens .now) (s .args .addrs .now) ((l .g) + 1) ((l .from) + (c .before .before .before .before .before .wide .result))) (l .inv .3) (l .inv .4) ((l .inv .5) ∙ ap (λ (z : List ℕ). take (l .n) (l .out) ++ z) (rest-next (s .args .q) (s .args .c) (s .args .lens .now) (s .args .addrs .now) (l .g) (l .from) (search needs) (c .before .before .before .before .before .wide .result) (l .first) (c .before .before .before .before .before .wide .ensures) (l .inv .1))) (s .pre .5) (c .before .before .check-row .last .0) (c .before .before .check-row .result) (c .before .before .check-row .ensures .0) (c .before .before .check-row .ensures .1) (l .inv .6),
-      rows-kept (l .out) (s .args .out .now) (l .n) (allOf (s .args .q) (s .args .c) (s .args .lens .now) (s .args .addrs .now)) (only (s .args .c) (ofBits (374 * (s .args .q)) (s .args .q) 374 (l .first) 0 (take ((l .from) + (c .before .before .before .before .before .wide .result) - (l .from)) (drop (l .from) (s .args .addrs .now))))) (restOf (s .args .q) (s .args .c) (s .args .lens .now) (s .args .addrs .now) ((l .g) + 1) ((l .from) + (c .before .before .before .before .before .wide .result))) (l .inv .3) (l .inv .4) ((l .inv .5) ∙ ap (λ (z : List ℕ). take (l .n) (l .out) ++ z) (rest-next (s .args .q) (s .args .c) (s .args .lens .now) (s .args .addrs .now) (l .g) (l .from) (search needs) (c .before .before .before .before .before .wide .result) (l .first) (c .before .before .before .before .before .wide .ensures) (l .inv .1))) (s .pre .5) (c .before .before .check-row .last .0) (c .before .before .check-row .result) (c .before .before .check-row .ensures .0) (c .before .before .check-row .ensures .1) (l .inv .6),
+      rows-end-fits (s .args .lens .now) (s .args .addrs .now) (l .g) (l .from) (search needs) (at-wide .wide .result) (at-wide .wide .ensures) (l .inv .2) .1,
+      rows-size (l .out) (s .args .out .now) (l .n) (allOf (s .args .q) (s .args .c) (s .args .lens .now) (s .args .addrs .now))
+          (only (s .args .c)
+          (ofBits (374 * (s .args .q)) (s .args .q) 374 (l .first) 0 (take ((l .from) + (at-wide .wide .result) - (l .from)) (drop (l .from) (s .args .addrs .now)))))
+          (restOf (s .args .q) (s .args .c) (s .args .lens .now) (s .args .addrs .now) ((l .g) + 1) ((l .from) + (at-wide .wide .result))) (l .inv .3) (l .inv .4)
+          ((l .inv .5)
+          ∙ ap (λ (z : List ℕ). take (l .n) (l .out) ++ z)
+          (rest-next (s .args .q) (s .args .c) (s .args .lens .now) (s .args .addrs .now) (l .g) (l .from) (search needs) (at-wide .wide .result) (l .first)
+          (at-wide .wide .ensures) (l .inv .1)))
+          (s .pre .5) (at-check-row .check-row .last .0) (at-check-row .check-row .result) (at-check-row .check-row .ensures .0) (at-check-row .check-row .ensures .1)
+          (l .inv .6),
+      rows-below (l .out) (s .args .out .now) (l .n) (allOf (s .args .q) (s .args .c) (s .args .lens .now) (s .args .addrs .now))
+          (only (s .args .c)
+          (ofBits (374 * (s .args .q)) (s .args .q) 374 (l .first) 0 (take ((l .from) + (at-wide .wide .result) - (l .from)) (drop (l .from) (s .args .addrs .now)))))
+          (restOf (s .args .q) (s .args .c) (s .args .lens .now) (s .args .addrs .now) ((l .g) + 1) ((l .from) + (at-wide .wide .result))) (l .inv .3) (l .inv .4)
+          ((l .inv .5)
+          ∙ ap (λ (z : List ℕ). take (l .n) (l .out) ++ z)
+          (rest-next (s .args .q) (s .args .c) (s .args .lens .now) (s .args .addrs .now) (l .g) (l .from) (search needs) (at-wide .wide .result) (l .first)
+          (at-wide .wide .ensures) (l .inv .1)))
+          (s .pre .5) (at-check-row .check-row .last .0) (at-check-row .check-row .result) (at-check-row .check-row .ensures .0) (at-check-row .check-row .ensures .1)
+          (l .inv .6),
+      rows-all (l .out) (s .args .out .now) (l .n) (allOf (s .args .q) (s .args .c) (s .args .lens .now) (s .args .addrs .now))
+          (only (s .args .c)
+          (ofBits (374 * (s .args .q)) (s .args .q) 374 (l .first) 0 (take ((l .from) + (at-wide .wide .result) - (l .from)) (drop (l .from) (s .args .addrs .now)))))
+          (restOf (s .args .q) (s .args .c) (s .args .lens .now) (s .args .addrs .now) ((l .g) + 1) ((l .from) + (at-wide .wide .result))) (l .inv .3) (l .inv .4)
+          ((l .inv .5)
+          ∙ ap (λ (z : List ℕ). take (l .n) (l .out) ++ z)
+          (rest-next (s .args .q) (s .args .c) (s .args .lens .now) (s .args .addrs .now) (l .g) (l .from) (search needs) (at-wide .wide .result) (l .first)
+          (at-wide .wide .ensures) (l .inv .1)))
+          (s .pre .5) (at-check-row .check-row .last .0) (at-check-row .check-row .result) (at-check-row .check-row .ensures .0) (at-check-row .check-row .ensures .1)
+          (l .inv .6),
+      rows-kept (l .out) (s .args .out .now) (l .n) (allOf (s .args .q) (s .args .c) (s .args .lens .now) (s .args .addrs .now))
+          (only (s .args .c)
+          (ofBits (374 * (s .args .q)) (s .args .q) 374 (l .first) 0 (take ((l .from) + (at-wide .wide .result) - (l .from)) (drop (l .from) (s .args .addrs .now)))))
+          (restOf (s .args .q) (s .args .c) (s .args .lens .now) (s .args .addrs .now) ((l .g) + 1) ((l .from) + (at-wide .wide .result))) (l .inv .3) (l .inv .4)
+          ((l .inv .5)
+          ∙ ap (λ (z : List ℕ). take (l .n) (l .out) ++ z)
+          (rest-next (s .args .q) (s .args .c) (s .args .lens .now) (s .args .addrs .now) (l .g) (l .from) (search needs) (at-wide .wide .result) (l .first)
+          (at-wide .wide .ensures) (l .inv .1)))
+          (s .pre .5) (at-check-row .check-row .last .0) (at-check-row .check-row .result) (at-check-row .check-row .ensures .0) (at-check-row .check-row .ensures .1)
+          (l .inv .6),
     )
 
 same-length : tie.Need-same-length Inv-loop μ-loop
@@ -117,7 +191,9 @@ unfolding allOf
 returns c =
     let s = c .before .before .before .before .before in
     let l = c .before .loop in
-    rows-done (l .out) (s .args .out .now) (allOf (s .args .q) (s .args .c) (s .args .lens .now) (s .args .addrs .now)) (restOf (s .args .q) (s .args .c) (s .args .lens .now) (s .args .addrs .now) (l .g) (l .from)) (l .n) (l .inv .4) (l .inv .5) (rest-end (s .args .q) (s .args .c) (s .args .lens .now) (s .args .addrs .now) (l .g) (l .from) (search needs)) (l .inv .6)
+    rows-done (l .out) (s .args .out .now) (allOf (s .args .q) (s .args .c) (s .args .lens .now) (s .args .addrs .now))
+    (restOf (s .args .q) (s .args .c) (s .args .lens .now) (s .args .addrs .now) (l .g) (l .from)) (l .n) (l .inv .4) (l .inv .5)
+    (rest-end (s .args .q) (s .args .c) (s .args .lens .now) (s .args .addrs .now) (l .g) (l .from) (search needs)) (l .inv .6)
 
 pub check-rows-spec : {M : Type 1} → statement M
 check-rows-spec =

@@ -23,7 +23,9 @@ sub-q c =
     omega (arith, sizes (s .args .n) (s .args .lens .now) (s .args .addrs .now) (s .pre .0))
 
 counts-requires : tie.Need-counts-requires
-counts-requires c κs = let s = sizes (c .before .before .args .n) (c .before .before .args .lens .now) (c .before .before .args .addrs .now) (c .before .before .pre .0) in (s .2, s .3, s .4)
+counts-requires c κs =
+    let s′ = c .before .before in
+    let s = sizes (s′ .args .n) (s′ .args .lens .now) (s′ .args .addrs .now) (s′ .pre .0) in (s .2, s .3, s .4)
 
 rem-wide : tie.Need-rem-wide
 rem-wide c =
@@ -34,34 +36,62 @@ wide-requires : tie.Need-wide-requires
 wide-requires c κs = search needs
 
 mul-wide : tie.Need-mul-wide
-mul-wide c = let s = sizes (c .before .before .before .before .args .n) (c .before .before .before .before .args .lens .now) (c .before .before .before .before .args .addrs .now) (c .before .before .before .before .pre .0) in omega (arith, (c .wide .ensures), s .3, mod-lt (c .before .before .before .before .args .c) {m = (c .before .before .before .before .args .n) / 374 - length (c .before .before .before .before .args .lens .now)} (s .2))
+mul-wide c =
+    let s′ = c .before .before .before .before in
+    let s = sizes (s′ .args .n) (s′ .args .lens .now) (s′ .args .addrs .now) (s′ .pre .0) in
+    omega (arith, (c .wide .ensures), s .3, mod-lt (s′ .args .c) {m = (s′ .args .n) / 374 - length (s′ .args .lens .now)} (s .2))
 
 array-read-wide : tie.Need-array-read-wide
-array-read-wide c = let s = sizes (c .before .before .before .before .args .n) (c .before .before .before .before .args .lens .now) (c .before .before .before .before .args .addrs .now) (c .before .before .before .before .pre .0) in omega (arith, (c .wide .ensures), s .3, mod-lt (c .before .before .before .before .args .c) {m = (c .before .before .before .before .args .n) / 374 - length (c .before .before .before .before .args .lens .now)} (s .2))
+array-read-wide c =
+    let s′ = c .before .before .before .before in
+    let s = sizes (s′ .args .n) (s′ .args .lens .now) (s′ .args .addrs .now) (s′ .pre .0) in
+    omega (arith, (c .wide .ensures), s .3, mod-lt (s′ .args .c) {m = (s′ .args .n) / 374 - length (s′ .args .lens .now)} (s .2))
 
 wide-requires-2 : tie.Need-wide-requires-2
 wide-requires-2 c κs = search needs
 
 add-result : tie.Need-add-result
 add-result c =
+    let at-wide = c .before .before in
+    let at-counts = at-wide .before in
     let s = c .before .before .before .before .before .before in
-    omega (arith, degree-is (s .args .n) (s .args .lens .now) (s .args .addrs .now) (s .pre .0) (c .before .before .before .counts .result) (c .before .before .before .counts .ensures .below) (s .args .c) (s .pre .1) (c .before .before .wide .result) (c .before .wide2 .result) (c .before .before .wide .ensures) (c .before .wide2 .ensures), degree-small (s .args .n) (s .args .lens .now) (s .args .addrs .now) (s .pre .0) (s .args .c) (s .pre .1))
+    omega (
+      arith,
+      degree-is (s .args .n) (s .args .lens .now) (s .args .addrs .now) (s .pre .0) (at-counts .counts .result) (at-counts .counts .ensures .below) (s .args .c)
+          (s .pre .1) (at-wide .wide .result) (c .before .wide2 .result) (at-wide .wide .ensures) (c .before .wide2 .ensures),
+      degree-small (s .args .n) (s .args .lens .now) (s .args .addrs .now) (s .pre .0) (s .args .c) (s .pre .1),
+    )
 
 returns : tie.Need-returns
 returns c =
+    let at-wide = c .before .before in
+    let at-counts = at-wide .before in
     let s = c .before .before .before .before .before .before in
-    sym (degree-is (s .args .n) (s .args .lens .now) (s .args .addrs .now) (s .pre .0) (c .before .before .before .counts .result) (c .before .before .before .counts .ensures .below) (s .args .c) (s .pre .1) (c .before .before .wide .result) (c .before .wide2 .result) (c .before .before .wide .ensures) (c .before .wide2 .ensures)
+    sym
+    (degree-is (s .args .n) (s .args .lens .now) (s .args .addrs .now) (s .pre .0) (at-counts .counts .result) (at-counts .counts .ensures .below) (s .args .c)
+    (s .pre .1) (at-wide .wide .result) (c .before .wide2 .result) (at-wide .wide .ensures) (c .before .wide2 .ensures)
     ∙ ap (λ b. (c .before .wide2 .result) + cond b 1 2) (eq-eqb _ _ (c .if1 .taken)))
 
 add-result-2 : tie.Need-add-result-2
 add-result-2 c =
+    let at-wide = c .before .before in
+    let at-counts = at-wide .before in
     let s = c .before .before .before .before .before .before in
-    omega (arith, degree-is (s .args .n) (s .args .lens .now) (s .args .addrs .now) (s .pre .0) (c .before .before .before .counts .result) (c .before .before .before .counts .ensures .below) (s .args .c) (s .pre .1) (c .before .before .wide .result) (c .before .wide2 .result) (c .before .before .wide .ensures) (c .before .wide2 .ensures), degree-small (s .args .n) (s .args .lens .now) (s .args .addrs .now) (s .pre .0) (s .args .c) (s .pre .1))
+    omega (
+      arith,
+      degree-is (s .args .n) (s .args .lens .now) (s .args .addrs .now) (s .pre .0) (at-counts .counts .result) (at-counts .counts .ensures .below) (s .args .c)
+          (s .pre .1) (at-wide .wide .result) (c .before .wide2 .result) (at-wide .wide .ensures) (c .before .wide2 .ensures),
+      degree-small (s .args .n) (s .args .lens .now) (s .args .addrs .now) (s .pre .0) (s .args .c) (s .pre .1),
+    )
 
 returns-2 : tie.Need-returns-2
 returns-2 c =
+    let at-wide = c .before .before in
+    let at-counts = at-wide .before in
     let s = c .before .before .before .before .before .before in
-    sym (degree-is (s .args .n) (s .args .lens .now) (s .args .addrs .now) (s .pre .0) (c .before .before .before .counts .result) (c .before .before .before .counts .ensures .below) (s .args .c) (s .pre .1) (c .before .before .wide .result) (c .before .wide2 .result) (c .before .before .wide .ensures) (c .before .wide2 .ensures)
+    sym
+    (degree-is (s .args .n) (s .args .lens .now) (s .args .addrs .now) (s .pre .0) (at-counts .counts .result) (at-counts .counts .ensures .below) (s .args .c)
+    (s .pre .1) (at-wide .wide .result) (c .before .wide2 .result) (at-wide .wide .ensures) (c .before .wide2 .ensures)
     ∙ ap (λ b. (c .before .wide2 .result) + cond b 1 2) (ne-eqb _ _ (c .if1 .left)))
 
 pub degree-of-spec : {M : Type 1} → statement M

@@ -22,13 +22,19 @@ mul-b : tie.Need-mul-b Inv-loop μ-loop
 mul-b c = omega (arith, (c .before .loop .inv .1), (c .before .before .pre))
 
 slice-read-b : tie.Need-slice-read-b Inv-loop μ-loop
-slice-read-b c = omega (arith, (c .before .before .loop .inv .1), (c .before .before .before .pre))
+slice-read-b c =
+    let s = c .before .before .before in
+    omega (arith, (c .before .before .loop .inv .1), (s .pre))
 
 mul-out : tie.Need-mul-out Inv-loop μ-loop
-mul-out c = omega (arith, (c .before .before .before .loop .inv .1), (c .before .before .before .before .pre))
+mul-out c =
+    let s = c .before .before .before .before in
+    omega (arith, (c .before .before .before .loop .inv .1), (s .pre))
 
 slice-write-out : tie.Need-slice-write-out Inv-loop μ-loop
-slice-write-out c = omega (arith, (c .before .before .before .loop .inv .1), (c .before .before .before .before .pre))
+slice-write-out c =
+    let s = c .before .before .before .before in
+    omega (arith, (c .before .before .before .loop .inv .1), (s .pre))
 
 add-i : tie.Need-add-i Inv-loop μ-loop
 add-i c = search needs

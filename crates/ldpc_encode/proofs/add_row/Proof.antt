@@ -19,7 +19,9 @@ abbrev μ-loop : tie.MeasureT-loop
 μ-loop x₀ w row q l i₀ x i = length row - i
 
 loop-holds : tie.Need-loop-holds Inv-loop μ-loop
-loop-holds c = (omega arith, (c .before .before .before .pre .0), λ j h. refl)
+loop-holds c =
+    let s = c .before .before .before in
+    (omega arith, (s .pre .0), λ j h. refl)
 
 mul-a : tie.Need-mul-a Inv-loop μ-loop
 mul-a c = search needs
@@ -34,7 +36,10 @@ turn-requires : tie.Need-turn-requires Inv-loop μ-loop
 turn-requires c κs = search needs
 
 add-turned-requires : tie.Need-add-turned-requires Inv-loop μ-loop
-add-turned-requires c κs = ((c .before .before .before .before .before .before .loop .inv .1), (c .before .before .before .before .before .before .before .before .before .before .pre .1), (c .turn .ensures .1))
+add-turned-requires c κs =
+    let at-loop = c .before .before .before .before .before .before in
+    let s = at-loop .before .before .before .before in
+    ((at-loop .loop .inv .1), (s .pre .1), (c .turn .ensures .1))
 
 add-i : tie.Need-add-i Inv-loop μ-loop
 add-i c = search needs
@@ -61,7 +66,9 @@ loop-again c =
     (c .if1 .came)
 
 same-length : tie.Need-same-length Inv-loop μ-loop
-same-length c = (c .before .loop .inv .1) ∙ sym (c .before .before .before .before .before .pre .0)
+same-length c =
+    let s = c .before .before .before .before .before in
+    (c .before .loop .inv .1) ∙ sym (s .pre .0)
 
 returns : tie.Need-returns Inv-loop μ-loop
 returns c =

@@ -42,7 +42,9 @@ add-end c =
     omega (arith, rows-end-fits (s .args .lens .now) (s .args .addrs .now) (l .g) (l .from) (search needs) (c .wide .result) (c .wide .ensures) (l .inv .2))
 
 add-last : tie.Need-add-last Inv-loop μ-loop
-add-last c = omega (arith, (c .before .before .before .before .before .before .before .before .pre .1), (c .before .before .before .loop .inv .1))
+add-last c =
+    let s = c .before .before .before .before .before .before .before .before in
+    omega (arith, (s .pre .1), (c .before .before .before .loop .inv .1))
 
 sub-add-row : tie.Need-sub-add-row Inv-loop μ-loop
 sub-add-row c = search needs
@@ -51,7 +53,10 @@ part-add-row-start : tie.Need-part-add-row-start Inv-loop μ-loop
 part-add-row-start c = search needs
 
 part-add-row-end : tie.Need-part-add-row-end Inv-loop μ-loop
-part-add-row-end c = omega (arith, (c .before .before .before .before .before .before .before .before .before .pre .1), (c .before .before .before .before .loop .inv .1))
+part-add-row-end c =
+    let at-loop = c .before .before .before .before in
+    let s = at-loop .before .before .before .before .before in
+    omega (arith, (s .pre .1), (at-loop .loop .inv .1))
 
 mul-add-row : tie.Need-mul-add-row Inv-loop μ-loop
 mul-add-row c = search needs
@@ -64,15 +69,19 @@ part-add-row-start-2 c = search needs
 
 part-add-row-end-2 : tie.Need-part-add-row-end-2 Inv-loop μ-loop
 part-add-row-end-2 c =
+    let wide = c .before .before .wide in
     let s = c .before .before .before .before .before .before .before .before .before .before in
     let l = c .before .before .before .before .before .loop in
-    omega (arith, rows-end-fits (s .args .lens .now) (s .args .addrs .now) (l .g) (l .from) (search needs) (c .before .before .wide .result) (c .before .before .wide .ensures) (l .inv .2))
+    omega (arith, rows-end-fits (s .args .lens .now) (s .args .addrs .now) (l .g) (l .from) (search needs) (wide .result) (wide .ensures) (l .inv .2))
 
 add-row-requires : tie.Need-add-row-requires Inv-loop μ-loop
 add-row-requires c κs =
     let s = c .before .before .before .before .before .before .before .before .before .before .before in
-    let l = c .before .before .before .before .before .before .loop in
-    ((l .inv .3), omega (arith, length-take ((l .first) + 374 - (l .first)) (drop (l .first) (s .args .w .now)), length-drop (l .first) (s .args .w .now), (s .pre .1), (l .inv .1)), omega (arith, (s .pre .3)))
+    let l = c .before .before .before .before .before .before .loop in (
+      (l .inv .3),
+      omega (arith, length-take ((l .first) + 374 - (l .first)) (drop (l .first) (s .args .w .now)), length-drop (l .first) (s .args .w .now), (s .pre .1), (l .inv .1)),
+      omega (arith, (s .pre .3)),
+    )
 
 add-g : tie.Need-add-g Inv-loop μ-loop
 add-g c = search needs
@@ -82,19 +91,24 @@ loop-less c = search needs
 
 loop-again : tie.Need-loop-again Inv-loop μ-loop
 loop-again c =
+    let at-add-row = c .before .before in
+    let at-wide = at-add-row .before .before .before .before in
     let s = c .before .before .before .before .before .before .before .before .before .before .before .before .before .before in
     let l = c .before .before .before .before .before .before .before .before .before .loop in
-    let f = rows-end-fits (s .args .lens .now) (s .args .addrs .now) (l .g) (l .from) (search needs) (c .before .before .before .before .before .before .wide .result) (c .before .before .before .before .before .before .wide .ensures) (l .inv .2) in (
+    let f = rows-end-fits (s .args .lens .now) (s .args .addrs .now) (l .g) (l .from) (search needs) (at-wide .wide .result) (at-wide .wide .ensures) (l .inv .2) in (
       omega arith,
       omega arith,
       f .1,
-      (c .before .before .add-row .ensures .long),
-      info-add (s .args .q) (s .args .l) (s .args .w .now) (s .args .lens .now) (s .args .addrs .now) (l .g) (l .from) (search needs) (s .pre .3) (l .x) _ (s .args .x .now) (c .before .before .before .before .before .before .wide .result) (l .first)
-          (infoBit (s .args .q) (s .args .l) (s .args .w .now) (s .args .lens .now) (s .args .addrs .now)) (c .before .before .before .before .before .before .wide .ensures) (l .inv .1) (c .before .before .add-row .ensures) (l .inv .4),
+      (at-add-row .add-row .ensures .long),
+      info-add (s .args .q) (s .args .l) (s .args .w .now) (s .args .lens .now) (s .args .addrs .now) (l .g) (l .from) (search needs) (s .pre .3) (l .x) _
+          (s .args .x .now) (at-wide .wide .result) (l .first) (infoBit (s .args .q) (s .args .l) (s .args .w .now) (s .args .lens .now) (s .args .addrs .now))
+          (at-wide .wide .ensures) (l .inv .1) (at-add-row .add-row .ensures) (l .inv .4),
     )
 
 same-length : tie.Need-same-length Inv-loop μ-loop
-same-length c = (c .before .loop .inv .3) ∙ sym (c .before .before .before .before .before .before .pre .0)
+same-length c =
+    let s = c .before .before .before .before .before .before in
+    (c .before .loop .inv .3) ∙ sym (s .pre .0)
 
 returns : tie.Need-returns Inv-loop μ-loop
 returns c =

@@ -31,13 +31,15 @@ xor-into-requires c κs =
 
 slice-relend-prefix-xor-into : tie.Need-slice-relend-prefix-xor-into
 slice-relend-prefix-xor-into c =
+    let xor-into = c .before .before .xor-into in
     let s = c .before .before .before .before .before .before .before in
-    omega (arith, middle-length (s .args .x .now) (s .args .w .now) (s .args .s) (s .pre .0) (s .pre .1) (s .pre .2) (c .before .before .xor-into .last .0) (c .before .before .xor-into .ensures))
+    omega (arith, middle-length (s .args .x .now) (s .args .w .now) (s .args .s) (s .pre .0) (s .pre .1) (s .pre .2) (xor-into .last .0) (xor-into .ensures))
 
 slice-aggregate-xor-into-2 : tie.Need-slice-aggregate-xor-into-2
 slice-aggregate-xor-into-2 c =
+    let xor-into = c .before .before .before .xor-into in
     let s = c .before .before .before .before .before .before .before .before in
-    sym (length-take-le (s .args .s) _ (omega (arith, middle-length (s .args .x .now) (s .args .w .now) (s .args .s) (s .pre .0) (s .pre .1) (s .pre .2) (c .before .before .before .xor-into .last .0) (c .before .before .before .xor-into .ensures))))
+    sym (length-take-le (s .args .s) _ (omega (arith, middle-length (s .args .x .now) (s .args .w .now) (s .args .s) (s .pre .0) (s .pre .1) (s .pre .2) (xor-into .last .0) (xor-into .ensures))))
 
 sub-xor-into-2 : tie.Need-sub-xor-into-2
 sub-xor-into-2 c = search needs
@@ -50,18 +52,26 @@ part-xor-into-end-2 c = search needs
 
 xor-into-requires-2 : tie.Need-xor-into-requires-2
 xor-into-requires-2 c κs =
+    let xor-into = c .before .before .before .before .xor-into in
     let s = c .before .before .before .before .before .before .before .before .before in
-    second-fits (s .args .x .now) (s .args .w .now) (s .args .s) (s .pre .0) (s .pre .1) (s .pre .2) (c .before .before .before .before .xor-into .last .0) (c .before .before .before .before .xor-into .ensures)
+    second-fits (s .args .x .now) (s .args .w .now) (s .args .s) (s .pre .0) (s .pre .1) (s .pre .2) (xor-into .last .0) (xor-into .ensures)
 
 same-length : tie.Need-same-length
 same-length c =
+    let at-xor-into2 = c .before .before in
+    let at-xor-into = at-xor-into2 .before .before .before .before .before in
     let s = c .before .before .before .before .before .before .before .before .before .before .before .before in
-    turned-done (s .args .x .now) (s .args .w .now) (s .args .s) (s .pre .0) (s .pre .1) (s .pre .2) (c .before .before .before .before .before .before .before .xor-into .last .0) (c .before .before .before .before .before .before .before .xor-into .ensures) (c .before .before .xor-into2 .last .0) (c .before .before .xor-into2 .ensures) .long ∙ sym (s .pre .0)
+    turned-done (s .args .x .now) (s .args .w .now) (s .args .s) (s .pre .0) (s .pre .1) (s .pre .2) (at-xor-into .xor-into .last .0) (at-xor-into .xor-into .ensures)
+    (at-xor-into2 .xor-into2 .last .0) (at-xor-into2 .xor-into2 .ensures) .long
+    ∙ sym (s .pre .0)
 
 returns : tie.Need-returns
 returns c =
+    let at-xor-into2 = c .before .before in
+    let at-xor-into = at-xor-into2 .before .before .before .before .before in
     let s = c .before .before .before .before .before .before .before .before .before .before .before .before in
-    turned-done (s .args .x .now) (s .args .w .now) (s .args .s) (s .pre .0) (s .pre .1) (s .pre .2) (c .before .before .before .before .before .before .before .xor-into .last .0) (c .before .before .before .before .before .before .before .xor-into .ensures) (c .before .before .xor-into2 .last .0) (c .before .before .xor-into2 .ensures)
+    turned-done (s .args .x .now) (s .args .w .now) (s .args .s) (s .pre .0) (s .pre .1) (s .pre .2) (at-xor-into .xor-into .last .0) (at-xor-into .xor-into .ensures)
+    (at-xor-into2 .xor-into2 .last .0) (at-xor-into2 .xor-into2 .ensures)
 
 pub add-turned-spec : {M : Type 1} → statement M
 add-turned-spec =

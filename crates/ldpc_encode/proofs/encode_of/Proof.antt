@@ -42,10 +42,11 @@ same-length c = search needs
 returns : tie.Need-returns
 unfolding encode
 returns c =
+    let copy = c .before .before .before .before .before .before .copy in
     let s = c .before .before .before .before .before .before .before .before .before .before .before .before in
     let e = n-parts (s .args .n) (s .args .lens .now) (s .args .addrs .now) (s .pre .0) in
     let h : length (s .args .info .now) ≤ length (s .args .out .now) = omega (arith, e, (s .pre .1), (s .pre .2)) in
-    put-behind (s .args .info .now) (s .args .out .now) _ _ h (c .before .before .before .before .before .before .copy .ensures) ∙ ap (λ z. (s .args .info .now) ++ z) (c .before .before .parity-of .ensures)
+    put-behind (s .args .info .now) (s .args .out .now) _ _ h (copy .ensures) ∙ ap (λ z. (s .args .info .now) ++ z) (c .before .before .parity-of .ensures)
 
 pub encode-of-spec : {M : Type 1} → statement M
 encode-of-spec =

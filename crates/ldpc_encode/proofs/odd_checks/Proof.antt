@@ -52,7 +52,8 @@ loop-again c =
       omega arith,
       at-next (s .args .q) (s .args .l) (l .i) (l .c) (l .inv .1),
       omega (arith, (c .odd .ensures .1)),
-      count-next (s .args .q) (s .args .l) (s .args .x .now) (s .args .p .now) (l .i) (l .c) (l .s) (c .odd .result) (c .before .stair-bit .result) (l .inv .1) (l .inv .3) (c .before .stair-bit .ensures) (c .odd .ensures .0),
+      count-next (s .args .q) (s .args .l) (s .args .x .now) (s .args .p .now) (l .i) (l .c) (l .s) (c .odd .result) (c .before .stair-bit .result) (l .inv .1)
+          (l .inv .3) (c .before .stair-bit .ensures) (c .odd .ensures .0),
     )
 
 returns : tie.Need-returns Inv-loop μ-loop

@@ -43,9 +43,11 @@ sums-of-requires c κs =
 
 scatter-requires : tie.Need-scatter-requires Inv-loop μ-loop
 scatter-requires c κs =
+    let at-loop = c .before .before .before .before in
+    let at-wide = at-loop .before in
     let s = c .before .before .before .before .before .before .before .before .before .before in
-    let f = s-fits (s .args .n) (s .args .lens .now) (s .args .addrs .now) (s .pre .0) (c .before .before .before .before .before .wide .result) (c .before .before .before .before .before .wide .ensures) in
-    ((c .before .before .before .before .loop .inv .1) ∙ (s .pre .2) ∙ f .1, search needs, f .0)
+    let f = s-fits (s .args .n) (s .args .lens .now) (s .args .addrs .now) (s .pre .0) (at-wide .wide .result) (at-wide .wide .ensures) in
+    ((at-loop .loop .inv .1) ∙ (s .pre .2) ∙ f .1, search needs, f .0)
 
 add-l : tie.Need-add-l Inv-loop μ-loop
 add-l c = search needs
@@ -55,12 +57,20 @@ loop-less c = search needs
 
 loop-again : tie.Need-loop-again Inv-loop μ-loop
 loop-again c =
+    let at-scatter = c .before .before in
+    let at-sums-of = at-scatter .before .before .before in
+    let at-wide = at-sums-of .before .before .before in
     let s = c .before .before .before .before .before .before .before .before .before .before .before .before .before in
     let l = c .before .before .before .before .before .before .before .loop in (
       omega arith,
-      (c .before .before .scatter .ensures .long) ∙ (l .inv .1),
-      done-again (c .before .before .before .before .before .before .before .before .wide .result) (l .l) (c .before .before .before .before .before .sums-of .result) (l .out) _ (infoOnes (s .args .n) (s .args .lens .now) (s .args .addrs .now) (s .args .info .now)) (search needs) (c .before .before .scatter .ensures)
-          (λ i h. (c .before .before .before .before .before .sums-of .ensures) i h ∙ ap (λ (z : ℕ). z % 2) (info-is (s .args .n) (s .args .lens .now) (s .args .addrs .now) (s .pre .0) (c .before .before .before .before .before .before .before .before .wide .result) (c .before .before .before .before .before .before .before .before .wide .ensures) (s .args .info .now) (l .l) i)) (l .inv .2),
+      (at-scatter .scatter .ensures .long) ∙ (l .inv .1),
+      done-again (at-wide .wide .result) (l .l) (at-sums-of .sums-of .result) (l .out) _
+          (infoOnes (s .args .n) (s .args .lens .now) (s .args .addrs .now) (s .args .info .now)) (search needs) (at-scatter .scatter .ensures)
+          (λ i h.
+          (at-sums-of .sums-of .ensures) i h
+          ∙ ap (λ (z : ℕ). z % 2)
+          (info-is (s .args .n) (s .args .lens .now) (s .args .addrs .now) (s .pre .0) (at-wide .wide .result) (at-wide .wide .ensures) (s .args .info .now) (l .l) i))
+          (l .inv .2),
     )
 
 sum-up-requires : tie.Need-sum-up-requires Inv-loop μ-loop
@@ -71,10 +81,12 @@ same-length c = search needs
 
 returns : tie.Need-returns Inv-loop μ-loop
 returns c =
+    let wide = c .before .before .before .before .before .before .wide in
     let s = c .before .before .before .before .before .before .before .before .before .before .before in
     let l = c .before .before .before .before .before .loop in
     (c .before .before .sum-up .ensures)
-    ∙ parity-done (s .args .n) (s .args .lens .now) (s .args .addrs .now) (s .pre .0) (c .before .before .before .before .before .before .wide .result) (c .before .before .before .before .before .before .wide .ensures) (s .args .info .now) (l .out) ((l .inv .1) ∙ (s .pre .2)) (l .l) (search needs) (l .inv .2)
+    ∙ parity-done (s .args .n) (s .args .lens .now) (s .args .addrs .now) (s .pre .0) (wide .result) (wide .ensures) (s .args .info .now) (l .out)
+    ((l .inv .1) ∙ (s .pre .2)) (l .l) (search needs) (l .inv .2)
 
 pub parity-of-spec : {M : Type 1} → statement M
 parity-of-spec =

@@ -59,16 +59,21 @@ sums-of-requires c κs =
 
 odd-checks-requires : tie.Need-odd-checks-requires Inv-loop μ-loop
 odd-checks-requires c κs =
+    let at-wide = c .before .before .before .before in
+    let at-info-bits = at-wide .before .before in
     let s = c .before .before .before .before .before .before .before .before .before .before in (
-      parity-size (s .args .n) (s .args .lens .now) (s .args .addrs .now) (s .pre .0) (c .before .before .before .before .wide .result) (c .before .before .before .before .wide .ensures) (s .args .bits .now) (s .pre .1) (c .before .before .before .before .before .before .info-bits .result) (c .before .before .before .before .before .before .info-bits .ensures),
+      parity-size (s .args .n) (s .args .lens .now) (s .args .addrs .now) (s .pre .0) (at-wide .wide .result) (at-wide .wide .ensures) (s .args .bits .now) (s .pre .1)
+          (at-info-bits .info-bits .result) (at-info-bits .info-bits .ensures),
       search needs,
-      s-fits (s .args .n) (s .args .lens .now) (s .args .addrs .now) (s .pre .0) (c .before .before .before .before .wide .result) (c .before .before .before .before .wide .ensures) .0,
+      s-fits (s .args .n) (s .args .lens .now) (s .args .addrs .now) (s .pre .0) (at-wide .wide .result) (at-wide .wide .ensures) .0,
     )
 
 add-u : tie.Need-add-u Inv-loop μ-loop
 add-u c =
+    let at-loop = c .before .before .before .before in
+    let at-wide = at-loop .before in
     let s = c .before .before .before .before .before .before .before .before .before .before .before in
-    omega (arith, (c .odd-checks .ensures .1), (c .before .before .before .before .loop .inv .1), s-fits (s .args .n) (s .args .lens .now) (s .args .addrs .now) (s .pre .0) (c .before .before .before .before .before .wide .result) (c .before .before .before .before .before .wide .ensures) .0)
+    omega (arith, (c .odd-checks .ensures .1), (at-loop .loop .inv .1), s-fits (s .args .n) (s .args .lens .now) (s .args .addrs .now) (s .pre .0) (at-wide .wide .result) (at-wide .wide .ensures) .0)
 
 add-l : tie.Need-add-l Inv-loop μ-loop
 add-l c = search needs
@@ -78,20 +83,31 @@ loop-less c = search needs
 
 loop-again : tie.Need-loop-again Inv-loop μ-loop
 loop-again c =
+    let at-sums-of = c .before .before in
+    let at-wide = at-sums-of .before .before .before in
+    let at-info-bits = at-wide .before .before in
     let s = c .before .before .before .before .before .before .before .before .before .before .before in
     let l = c .before .before .before .before .loop in (
       omega arith,
       omega (arith, (c .odd-checks .ensures .1), (l .inv .1)),
-      below-next (s .args .n) (s .args .lens .now) (s .args .addrs .now) (s .pre .0) (c .before .before .before .before .before .wide .result) (c .before .before .before .before .before .wide .ensures) (s .args .bits .now) (c .before .before .sums-of .result) (l .l) (l .u) (c .odd-checks .result)
-          (λ i h. (c .before .before .sums-of .ensures) i h ∙ ap (λ (z : ℕ). z % 2) (info-is (s .args .n) (s .args .lens .now) (s .args .addrs .now) (s .pre .0) (c .before .before .before .before .before .wide .result) (c .before .before .before .before .before .wide .ensures) (s .args .bits .now) (l .l) i)) (l .inv .2)
-          ((c .odd-checks .ensures .0) ∙ parity-part (s .args .n) (s .args .lens .now) (s .args .addrs .now) (s .pre .0) (c .before .before .before .before .before .wide .result) (c .before .before .before .before .before .wide .ensures) (s .args .bits .now) (c .before .before .before .before .before .before .before .info-bits .result) (c .before .before .before .before .before .before .before .info-bits .ensures) (l .l) (c .before .before .sums-of .result)),
+      below-next (s .args .n) (s .args .lens .now) (s .args .addrs .now) (s .pre .0) (at-wide .wide .result) (at-wide .wide .ensures) (s .args .bits .now)
+          (at-sums-of .sums-of .result) (l .l) (l .u) (c .odd-checks .result)
+          (λ i h.
+          (at-sums-of .sums-of .ensures) i h
+          ∙ ap (λ (z : ℕ). z % 2)
+          (info-is (s .args .n) (s .args .lens .now) (s .args .addrs .now) (s .pre .0) (at-wide .wide .result) (at-wide .wide .ensures) (s .args .bits .now) (l .l) i))
+          (l .inv .2)
+          ((c .odd-checks .ensures .0)
+          ∙ parity-part (s .args .n) (s .args .lens .now) (s .args .addrs .now) (s .pre .0) (at-wide .wide .result) (at-wide .wide .ensures) (s .args .bits .now)
+          (at-info-bits .info-bits .result) (at-info-bits .info-bits .ensures) (l .l) (at-sums-of .sums-of .result)),
     )
 
 returns : tie.Need-returns Inv-loop μ-loop
 returns c =
+    let wide = c .before .before .wide in
     let s = c .before .before .before .before .before .before .before .before in
     let l = c .before .loop in
-    below-end (s .args .n) (s .args .lens .now) (s .args .addrs .now) (s .pre .0) (c .before .before .wide .result) (c .before .before .wide .ensures) (s .args .bits .now) (l .l) (l .u) (omega arith) (l .inv .2)
+    below-end (s .args .n) (s .args .lens .now) (s .args .addrs .now) (s .pre .0) (wide .result) (wide .ensures) (s .args .bits .now) (l .l) (l .u) (omega arith) (l .inv .2)
 
 pub weight-of-spec : {M : Type 1} → statement M
 weight-of-spec =

@@ -40,31 +40,57 @@ wide-requires-2 c κs = search needs
 
 ends-requires : tie.Need-ends-requires
 ends-requires c κs =
+    let at-counts = c .before .before .before in
+    let at-wide = at-counts .before in
     let s = c .before .before .before .before .before .before .before .before in
-    ends-ready (s .args .n) (s .args .lens .now) (s .args .addrs .now) (s .pre .0) (c .before .before .before .before .wide .result) (c .wide2 .result) (c .before .before .before .before .wide .ensures) (c .wide2 .ensures) (c .before .before .before .counts .result) (s .args .lists .now) (c .before .before .before .counts .ensures .below) (s .pre .1)
+    ends-ready (s .args .n) (s .args .lens .now) (s .args .addrs .now) (s .pre .0) (at-wide .wide .result) (c .wide2 .result) (at-wide .wide .ensures) (c .wide2 .ensures)
+    (at-counts .counts .result) (s .args .lists .now) (at-counts .counts .ensures .below) (s .pre .1)
 
 put-stairs-requires : tie.Need-put-stairs-requires
 put-stairs-requires c κs =
+    let at-ends = c .before .before .before in
+    let at-wide2 = at-ends .before in
+    let at-counts = at-wide2 .before .before .before in
+    let at-wide = at-counts .before in
     let s = c .before .before .before .before .before .before .before .before .before .before .before .before in
-    let l : length (c .before .before .before .ends .last .0) ≡ suc (pOf (s .args .n) (s .args .lens .now)) + eOf (s .args .n) (s .args .lens .now) (s .args .addrs .now) = omega (arith, (s .pre .1)) in (
-      base-fits (s .args .n) (s .args .lens .now) (s .args .addrs .now) (s .pre .0) (c .before .before .before .before .before .before .before .before .wide .result) (c .before .before .before .before .wide2 .result) (c .before .before .before .before .before .before .before .before .wide .ensures) (c .before .before .before .before .wide2 .ensures) (c .before .before .before .before .before .before .before .counts .result) (c .before .before .before .ends .last .0) (c .before .before .before .before .before .before .before .counts .ensures .below) l (c .before .before .before .ends .ensures .0) (c .before .before .before .ends .ensures .1),
-      sizes (s .args .n) (s .args .lens .now) (s .args .addrs .now) (s .pre .0) (c .before .before .before .before .before .before .before .before .wide .result) (c .before .before .before .before .wide2 .result) (c .before .before .before .before .before .before .before .before .wide .ensures) (c .before .before .before .before .wide2 .ensures) .4,
-      stairs-ready (s .args .n) (s .args .lens .now) (s .args .addrs .now) (s .pre .0) (c .before .before .before .before .before .before .before .before .wide .result) (c .before .before .before .before .wide2 .result) (c .before .before .before .before .before .before .before .before .wide .ensures) (c .before .before .before .before .wide2 .ensures) (c .before .before .before .before .before .before .before .counts .result) (c .before .before .before .ends .last .0) (c .before .before .before .before .before .before .before .counts .ensures .below) l (c .before .before .before .ends .ensures .0) (c .before .before .before .ends .ensures .1),
+    let l : length (at-ends .ends .last .0) ≡ suc (pOf (s .args .n) (s .args .lens .now)) + eOf (s .args .n) (s .args .lens .now) (s .args .addrs .now) =
+    omega (arith, (s .pre .1)) in (
+      base-fits (s .args .n) (s .args .lens .now) (s .args .addrs .now) (s .pre .0) (at-wide .wide .result) (at-wide2 .wide2 .result) (at-wide .wide .ensures)
+          (at-wide2 .wide2 .ensures) (at-counts .counts .result) (at-ends .ends .last .0) (at-counts .counts .ensures .below) l (at-ends .ends .ensures .0)
+          (at-ends .ends .ensures .1),
+      sizes (s .args .n) (s .args .lens .now) (s .args .addrs .now) (s .pre .0) (at-wide .wide .result) (at-wide2 .wide2 .result) (at-wide .wide .ensures)
+          (at-wide2 .wide2 .ensures) .4,
+      stairs-ready (s .args .n) (s .args .lens .now) (s .args .addrs .now) (s .pre .0) (at-wide .wide .result) (at-wide2 .wide2 .result) (at-wide .wide .ensures)
+          (at-wide2 .wide2 .ensures) (at-counts .counts .result) (at-ends .ends .last .0) (at-counts .counts .ensures .below) l (at-ends .ends .ensures .0)
+          (at-ends .ends .ensures .1),
     )
 
 put-rows-requires : tie.Need-put-rows-requires
 put-rows-requires c κs =
-    let l : length (c .before .before .before .before .before .before .before .ends .last .0) ≡ suc (pOf (c .before .before .before .before .before .before .before .before .before .before .before .before .before .before .before .before .args .n) (c .before .before .before .before .before .before .before .before .before .before .before .before .before .before .before .before .args .lens .now)) + eOf (c .before .before .before .before .before .before .before .before .before .before .before .before .before .before .before .before .args .n) (c .before .before .before .before .before .before .before .before .before .before .before .before .before .before .before .before .args .lens .now) (c .before .before .before .before .before .before .before .before .before .before .before .before .before .before .before .before .args .addrs .now) = omega (arith, (c .before .before .before .before .before .before .before .before .before .before .before .before .before .before .before .before .pre .1)) in
-    let b = base-fits (c .before .before .before .before .before .before .before .before .before .before .before .before .before .before .before .before .args .n) (c .before .before .before .before .before .before .before .before .before .before .before .before .before .before .before .before .args .lens .now) (c .before .before .before .before .before .before .before .before .before .before .before .before .before .before .before .before .args .addrs .now) (c .before .before .before .before .before .before .before .before .before .before .before .before .before .before .before .before .pre .0) (c .before .before .before .before .before .before .before .before .before .before .before .before .wide .result) (c .before .before .before .before .before .before .before .before .wide2 .result) (c .before .before .before .before .before .before .before .before .before .before .before .before .wide .ensures) (c .before .before .before .before .before .before .before .before .wide2 .ensures) (c .before .before .before .before .before .before .before .before .before .before .before .counts .result) (c .before .before .before .before .before .before .before .ends .last .0) (c .before .before .before .before .before .before .before .before .before .before .before .counts .ensures .below) l (c .before .before .before .before .before .before .before .ends .ensures .0) (c .before .before .before .before .before .before .before .ends .ensures .1) in
-    let s = sizes (c .before .before .before .before .before .before .before .before .before .before .before .before .before .before .before .before .args .n) (c .before .before .before .before .before .before .before .before .before .before .before .before .before .before .before .before .args .lens .now) (c .before .before .before .before .before .before .before .before .before .before .before .before .before .before .before .before .args .addrs .now) (c .before .before .before .before .before .before .before .before .before .before .before .before .before .before .before .before .pre .0) (c .before .before .before .before .before .before .before .before .before .before .before .before .wide .result) (c .before .before .before .before .before .before .before .before .wide2 .result) (c .before .before .before .before .before .before .before .before .before .before .before .before .wide .ensures) (c .before .before .before .before .before .before .before .before .wide2 .ensures) in (
+    let at-put-stairs = c .before .before .before in
+    let at-ends = at-put-stairs .before .before .before .before in
+    let at-wide2 = at-ends .before in
+    let at-counts = at-wide2 .before .before .before in
+    let at-wide = at-counts .before in
+    let s′ = at-wide .before .before .before .before in
+    let l : length (at-ends .ends .last .0) ≡ suc (pOf (s′ .args .n) (s′ .args .lens .now)) + eOf (s′ .args .n) (s′ .args .lens .now) (s′ .args .addrs .now) =
+    omega (arith, (s′ .pre .1)) in
+    let b =
+    base-fits (s′ .args .n) (s′ .args .lens .now) (s′ .args .addrs .now) (s′ .pre .0) (at-wide .wide .result) (at-wide2 .wide2 .result) (at-wide .wide .ensures)
+    (at-wide2 .wide2 .ensures) (at-counts .counts .result) (at-ends .ends .last .0) (at-counts .counts .ensures .below) l (at-ends .ends .ensures .0)
+    (at-ends .ends .ensures .1) in
+    let s =
+    sizes (s′ .args .n) (s′ .args .lens .now) (s′ .args .addrs .now) (s′ .pre .0) (at-wide .wide .result) (at-wide2 .wide2 .result) (at-wide .wide .ensures)
+    (at-wide2 .wide2 .ensures) in (
       omega arith,
       s .0,
-      counts-ready (c .before .before .before .before .before .before .before .before .before .before .before .before .before .before .before .before .args .n) (c .before .before .before .before .before .before .before .before .before .before .before .before .before .before .before .before .args .lens .now) (c .before .before .before .before .before .before .before .before .before .before .before .before .before .before .before .before .args .addrs .now) (c .before .before .before .before .before .before .before .before .before .before .before .before .before .before .before .before .pre .0) .1,
+      counts-ready (s′ .args .n) (s′ .args .lens .now) (s′ .args .addrs .now) (s′ .pre .0) .1,
       s .1,
       s .2,
       s .3,
-      meets-ready (c .before .before .before .before .before .before .before .before .before .before .before .before .before .before .before .before .args .n) (c .before .before .before .before .before .before .before .before .before .before .before .before .before .before .before .before .args .lens .now) (c .before .before .before .before .before .before .before .before .before .before .before .before .before .before .before .before .args .addrs .now) (c .before .before .before .before .before .before .before .before .before .before .before .before .before .before .before .before .pre .0) (c .before .before .before .before .before .before .before .before .before .before .before .before .wide .result) (c .before .before .before .before .before .before .before .before .wide2 .result) (c .before .before .before .before .before .before .before .before .before .before .before .before .wide .ensures) (c .before .before .before .before .before .before .before .before .wide2 .ensures) (c .before .before .before .before .before .before .before .before .before .before .before .counts .result) (c .before .before .before .before .before .before .before .ends .last .0) (c .before .before .before .before .before .before .before .before .before .before .before .counts .ensures .below) l (c .before .before .before .before .before .before .before .ends .ensures .0) (c .before .before .before .before .before .before .before .ends .ensures .1)
-          (c .before .before .before .put-stairs .last .0) (c .before .before .before .put-stairs .ensures),
+      meets-ready (s′ .args .n) (s′ .args .lens .now) (s′ .args .addrs .now) (s′ .pre .0) (at-wide .wide .result) (at-wide2 .wide2 .result) (at-wide .wide .ensures)
+          (at-wide2 .wide2 .ensures) (at-counts .counts .result) (at-ends .ends .last .0) (at-counts .counts .ensures .below) l (at-ends .ends .ensures .0)
+          (at-ends .ends .ensures .1) (at-put-stairs .put-stairs .last .0) (at-put-stairs .put-stairs .ensures),
     )
 
 same-length : tie.Need-same-length
@@ -72,10 +98,19 @@ same-length c = search needs
 
 returns : tie.Need-returns
 returns c =
+    let at-put-rows = c .before .before in
+    let at-put-stairs = at-put-rows .before .before .before .before in
+    let at-ends = at-put-stairs .before .before .before .before in
+    let at-wide2 = at-ends .before in
+    let at-counts = at-wide2 .before .before .before in
+    let at-wide = at-counts .before in
     let s = c .before .before .before .before .before .before .before .before .before .before .before .before .before .before .before .before .before .before .before in
-    let l : length (c .before .before .before .before .before .before .before .before .before .before .ends .last .0) ≡ suc (pOf (s .args .n) (s .args .lens .now)) + eOf (s .args .n) (s .args .lens .now) (s .args .addrs .now) = omega (arith, (s .pre .1)) in
-    build-done (s .args .n) (s .args .lens .now) (s .args .addrs .now) (s .pre .0) (c .before .before .before .before .before .before .before .before .before .before .before .before .before .before .before .wide .result) (c .before .before .before .before .before .before .before .before .before .before .before .wide2 .result) (c .before .before .before .before .before .before .before .before .before .before .before .before .before .before .before .wide .ensures) (c .before .before .before .before .before .before .before .before .before .before .before .wide2 .ensures) (c .before .before .before .before .before .before .before .before .before .before .before .before .before .before .counts .result) (c .before .before .before .before .before .before .before .before .before .before .ends .last .0) (c .before .before .before .before .before .before .before .before .before .before .before .before .before .before .counts .ensures .below) l (c .before .before .before .before .before .before .before .before .before .before .ends .ensures .0) (c .before .before .before .before .before .before .before .before .before .before .ends .ensures .1)
-    (c .before .before .before .before .before .before .put-stairs .last .0) (c .before .before .before .before .before .before .put-stairs .ensures) (c .before .before .put-rows .last .0) (c .before .before .put-rows .ensures)
+    let l : length (at-ends .ends .last .0) ≡ suc (pOf (s .args .n) (s .args .lens .now)) + eOf (s .args .n) (s .args .lens .now) (s .args .addrs .now) =
+    omega (arith, (s .pre .1)) in
+    build-done (s .args .n) (s .args .lens .now) (s .args .addrs .now) (s .pre .0) (at-wide .wide .result) (at-wide2 .wide2 .result) (at-wide .wide .ensures)
+    (at-wide2 .wide2 .ensures) (at-counts .counts .result) (at-ends .ends .last .0) (at-counts .counts .ensures .below) l (at-ends .ends .ensures .0)
+    (at-ends .ends .ensures .1) (at-put-stairs .put-stairs .last .0) (at-put-stairs .put-stairs .ensures) (at-put-rows .put-rows .last .0)
+    (at-put-rows .put-rows .ensures)
 
 pub build-spec : {M : Type 1} → statement M
 build-spec =

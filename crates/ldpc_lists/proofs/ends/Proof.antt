@@ -50,10 +50,14 @@ add-e-2 c =
     omega (arith, (s .pre .2), (s .pre .4) ((l .i) % (s .args .q)) b, ending-le (s .args .counts .now) (s .args .q) (s .pre .0) (s .pre .4) (l .i), (l .inv .2), (c .stair .ensures .1))
 
 mul-lists : tie.Need-mul-lists Inv-loop μ-loop
-mul-lists c = omega (arith, (c .before .before .before .loop .inv .1), (c .before .before .before .before .before .pre .3))
+mul-lists c =
+    let s = c .before .before .before .before .before in
+    omega (arith, (c .before .before .before .loop .inv .1), (s .pre .3))
 
 slice-write-lists : tie.Need-slice-write-lists Inv-loop μ-loop
-slice-write-lists c = omega (arith, (c .before .before .before .loop .inv .1), (c .before .before .before .before .before .pre .3))
+slice-write-lists c =
+    let s = c .before .before .before .before .before in
+    omega (arith, (c .before .before .before .loop .inv .1), (s .pre .3))
 
 add-i : tie.Need-add-i Inv-loop μ-loop
 add-i c = search needs
@@ -72,10 +76,14 @@ loop-again c =
     )
 
 mul-lists-2 : tie.Need-mul-lists-2 Inv-loop μ-loop
-mul-lists-2 c = omega (arith, (c .before .loop .inv .1), (c .before .before .before .pre .3))
+mul-lists-2 c =
+    let s = c .before .before .before in
+    omega (arith, (c .before .loop .inv .1), (s .pre .3))
 
 slice-write-lists-2 : tie.Need-slice-write-lists-2 Inv-loop μ-loop
-slice-write-lists-2 c = omega (arith, (c .before .loop .inv .1), (c .before .before .before .pre .3))
+slice-write-lists-2 c =
+    let s = c .before .before .before in
+    omega (arith, (c .before .loop .inv .1), (s .pre .3))
 
 same-length : tie.Need-same-length Inv-loop μ-loop
 same-length c =

@@ -54,18 +54,20 @@ loop-less c = search needs
 
 loop-again : tie.Need-loop-again Inv-loop μ-loop
 loop-again c =
+    let meets = c .before .before .before .before .meets in
     let s = c .before .before .before .before .before .before .before .before .before .before in
     let l = c .before .before .before .before .before .before .before .loop in (
       omega arith,
       omega arith,
       met-again (s .args .checks) (s .args .q) (s .args .m) (s .args .j) (s .args .row .now) (l .i) _ (parts (s .args .base) (l .lists)) _ (parts (s .args .base) (s .args .lists .now))
-          (search needs) (l .inv .0) (c .before .before .before .before .meets .ensures) (l .inv .2) (c .before .before .put-one .ensures),
+          (search needs) (l .inv .0) (meets .ensures) (l .inv .2) (c .before .before .put-one .ensures),
     )
 
 same-length : tie.Need-same-length Inv-loop μ-loop
 same-length c =
+    let s = c .before .before .before .before in
     let l = c .before .loop in
-    same-parts (c .before .before .before .before .args .base) _ (l .lists) _ (l .inv .2)
+    same-parts (s .args .base) _ (l .lists) _ (l .inv .2)
 
 returns : tie.Need-returns Inv-loop μ-loop
 returns c =

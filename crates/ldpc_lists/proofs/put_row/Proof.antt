@@ -57,8 +57,9 @@ loop-again c =
 
 same-length : tie.Need-same-length Inv-loop μ-loop
 same-length c =
+    let s = c .before .before .before .before in
     let l = c .before .loop in
-    same-parts (c .before .before .before .before .args .base) _ (l .lists) _ (l .inv .3)
+    same-parts (s .args .base) _ (l .lists) _ (l .inv .3)
 
 returns : tie.Need-returns Inv-loop μ-loop
 returns c =

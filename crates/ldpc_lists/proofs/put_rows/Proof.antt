@@ -43,8 +43,8 @@ sub-from : tie.Need-sub-from Inv-loop μ-loop
 sub-from c =
     let s = c .before .before .before .before .before .before .before in
     let l = c .before .before .before .loop in
-    row-fits (s .args .checks) (s .args .q) (s .args .lens .now) (s .args .addrs .now) (l .g) (l .m) (l .end) (c .wide .result) (parts (s .args .base) (l .lists)) (parts (s .args .base) (s .args .lists .now))
-    (search needs) (l .inv .0) (l .inv .1) (l .inv .2) (c .wide .ensures) (l .inv .5)
+    row-fits (s .args .checks) (s .args .q) (s .args .lens .now) (s .args .addrs .now) (l .g) (l .m) (l .end) (c .wide .result) (parts (s .args .base) (l .lists))
+    (parts (s .args .base) (s .args .lists .now)) (search needs) (l .inv .0) (l .inv .1) (l .inv .2) (c .wide .ensures) (l .inv .5)
 
 mul-put-row : tie.Need-mul-put-row Inv-loop μ-loop
 mul-put-row c = search needs
@@ -60,14 +60,15 @@ part-put-row-end c = search needs
 
 put-row-requires : tie.Need-put-row-requires Inv-loop μ-loop
 put-row-requires c κs =
+    let wide = c .before .before .wide in
     let s = c .before .before .before .before .before .before .before .before .before in
     let l = c .before .before .before .before .before .loop in (
       (l .inv .4),
       (s .pre .1),
       (s .pre .2),
       omega (arith, (s .pre .3), (s .pre .4)),
-      part-room (s .args .checks) (s .args .q) (s .args .lens .now) (s .args .addrs .now) (l .g) (l .m) (l .end) (c .before .before .wide .result) (parts (s .args .base) (l .lists)) (parts (s .args .base) (s .args .lists .now))
-          (search needs) (l .inv .0) (l .inv .1) (l .inv .2) (c .before .before .wide .ensures) (l .inv .5) (s .pre .1) (s .pre .6),
+      part-room (s .args .checks) (s .args .q) (s .args .lens .now) (s .args .addrs .now) (l .g) (l .m) (l .end) (wide .result) (parts (s .args .base) (l .lists))
+          (parts (s .args .base) (s .args .lists .now)) (search needs) (l .inv .0) (l .inv .1) (l .inv .2) (wide .ensures) (l .inv .5) (s .pre .1) (s .pre .6),
     )
 
 loop-less : tie.Need-loop-less Inv-loop μ-loop
@@ -75,22 +76,24 @@ loop-less c = search needs
 
 loop-again : tie.Need-loop-again Inv-loop μ-loop
 loop-again c =
+    let wide = c .before .before .before .before .before .wide in
     let s = c .before .before .before .before .before .before .before .before .before .before .before .before in
     let l = c .before .before .before .before .before .before .before .before .loop in (
       omega arith,
       omega arith,
-      from-before (s .args .checks) (s .args .q) (s .args .lens .now) (s .args .addrs .now) (l .g) (l .m) (l .end) (c .before .before .before .before .before .wide .result) (parts (s .args .base) (l .lists)) (parts (s .args .base) (s .args .lists .now))
-          (search needs) (l .inv .0) (l .inv .1) (l .inv .2) (c .before .before .before .before .before .wide .ensures) (l .inv .5),
+      from-before (s .args .checks) (s .args .q) (s .args .lens .now) (s .args .addrs .now) (l .g) (l .m) (l .end) (wide .result) (parts (s .args .base) (l .lists))
+          (parts (s .args .base) (s .args .lists .now)) (search needs) (l .inv .0) (l .inv .1) (l .inv .2) (wide .ensures) (l .inv .5),
       omega arith,
       omega arith,
-      part-again (s .args .checks) (s .args .q) (s .args .lens .now) (s .args .addrs .now) (l .g) (l .m) (l .end) (c .before .before .before .before .before .wide .result) (parts (s .args .base) (l .lists)) (parts (s .args .base) (s .args .lists .now))
-          (search needs) (l .inv .0) (l .inv .1) (l .inv .2) (c .before .before .before .before .before .wide .ensures) (l .inv .5) _ (c .before .before .put-row .ensures),
+      part-again (s .args .checks) (s .args .q) (s .args .lens .now) (s .args .addrs .now) (l .g) (l .m) (l .end) (wide .result) (parts (s .args .base) (l .lists))
+          (parts (s .args .base) (s .args .lists .now)) (search needs) (l .inv .0) (l .inv .1) (l .inv .2) (wide .ensures) (l .inv .5) _ (c .before .before .put-row .ensures),
     )
 
 same-length : tie.Need-same-length Inv-loop μ-loop
 same-length c =
+    let s = c .before .before .before .before .before in
     let l = c .before .loop in
-    same-parts (c .before .before .before .before .before .args .base) _ (l .lists) _ (l .inv .5)
+    same-parts (s .args .base) _ (l .lists) _ (l .inv .5)
 
 returns : tie.Need-returns Inv-loop μ-loop
 returns c =

@@ -25,16 +25,19 @@ sub-put-one c = search needs
 
 put-one-requires-2 : tie.Need-put-one-requires-2
 put-one-requires-2 c κs =
+    let put-one = c .before .before .before .before .put-one in
     let s = c .before .before .before .before .before .before .before in
-    (omega arith, stair-second (s .args .k) (s .args .c) (s .args .v) _ (parts (s .args .base) (s .args .lists .now)) (s .pre .1) (c .before .if1 .left) (s .pre .2) (c .before .before .before .before .put-one .ensures))
+    (omega arith, stair-second (s .args .k) (s .args .c) (s .args .v) _ (parts (s .args .base) (s .args .lists .now)) (s .pre .1) (c .before .if1 .left) (s .pre .2) (put-one .ensures))
 
 same-length-2 : tie.Need-same-length-2
 same-length-2 c = search needs
 
 returns-2 : tie.Need-returns-2
 returns-2 c =
+    let at-if1 = c .before .before .before .before in
+    let at-put-one = at-if1 .before .before .before in
     let s = c .before .before .before .before .before .before .before .before .before .before in
-    stair-two _ _ (s .args .v) _ _ _ (s .pre .1) (c .before .before .before .before .if1 .left) (c .before .before .before .before .before .before .before .put-one .ensures) (c .before .before .put-one2 .ensures)
+    stair-two _ _ (s .args .v) _ _ _ (s .pre .1) (at-if1 .if1 .left) (at-put-one .put-one .ensures) (c .before .before .put-one2 .ensures)
 
 pub put-stair-spec : {M : Type 1} → statement M
 put-stair-spec =

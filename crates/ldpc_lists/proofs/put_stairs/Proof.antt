@@ -31,8 +31,12 @@ sub-v c = search needs
 put-stair-requires : tie.Need-put-stair-requires Inv-loop μ-loop
 put-stair-requires c κs =
     let s = c .before .before .before .before in
-    let l = c .before .before .loop in
-    ((l .inv .2), omega arith, stairs-room (s .args .k) (s .args .checks) (l .c) (parts (s .args .base) (l .lists)) (parts (s .args .base) (s .args .lists .now)) (search needs) (l .inv .0) (s .pre .2) (l .inv .3))
+    let l = c .before .before .loop in (
+      (l .inv .2),
+      omega arith,
+      stairs-room (s .args .k) (s .args .checks) (l .c) (parts (s .args .base) (l .lists)) (parts (s .args .base) (s .args .lists .now)) (search needs) (l .inv .0)
+          (s .pre .2) (l .inv .3),
+    )
 
 loop-less : tie.Need-loop-less Inv-loop μ-loop
 loop-less c = search needs
@@ -44,13 +48,15 @@ loop-again c =
       omega arith,
       omega arith,
       omega arith,
-      stairs-again (s .args .k) (s .args .checks) (l .c) (parts (s .args .base) (l .lists)) _ (parts (s .args .base) (s .args .lists .now)) (search needs) (l .inv .0) (l .inv .3) (c .before .before .put-stair .ensures),
+      stairs-again (s .args .k) (s .args .checks) (l .c) (parts (s .args .base) (l .lists)) _ (parts (s .args .base) (s .args .lists .now)) (search needs) (l .inv .0)
+          (l .inv .3) (c .before .before .put-stair .ensures),
     )
 
 same-length : tie.Need-same-length Inv-loop μ-loop
 same-length c =
+    let s = c .before .before .before in
     let l = c .before .loop in
-    same-parts (c .before .before .before .args .base) _ (l .lists) _ (l .inv .3)
+    same-parts (s .args .base) _ (l .lists) _ (l .inv .3)
 
 returns : tie.Need-returns Inv-loop μ-loop
 returns c =

@@ -25,7 +25,9 @@ shared-slice-read-if1 : tie.Need-shared-slice-read-if1 Inv-loop μ-loop
 shared-slice-read-if1 c = search needs
 
 returns : tie.Need-returns Inv-loop μ-loop
-returns c = let l = c .before .before .before .loop in over-hit 128 (c .before .before .before .before .args .lens .now) (l .i) (search needs) (c .if1 .taken) (l .inv .1)
+returns c =
+    let s = c .before .before .before .before in
+    let l = c .before .before .before .loop in over-hit 128 (s .args .lens .now) (l .i) (search needs) (c .if1 .taken) (l .inv .1)
 
 add-i : tie.Need-add-i Inv-loop μ-loop
 add-i c = search needs
@@ -34,7 +36,9 @@ loop-less : tie.Need-loop-less Inv-loop μ-loop
 loop-less c = search needs
 
 loop-again : tie.Need-loop-again Inv-loop μ-loop
-loop-again c = let l = c .before .before .before .loop in (omega arith, over-miss 128 (c .before .before .before .before .args .lens .now) (l .i) (search needs) (c .if1 .left) (l .inv .1))
+loop-again c =
+    let s = c .before .before .before .before in
+    let l = c .before .before .before .loop in (omega arith, over-miss 128 (s .args .lens .now) (l .i) (search needs) (c .if1 .left) (l .inv .1))
 
 returns-2 : tie.Need-returns-2 Inv-loop μ-loop
 returns-2 c = let l = c .before .loop in over-end 128 (c .before .before .args .lens .now) (l .i) (search needs) (l .inv .0) (l .inv .1)

@@ -13,10 +13,14 @@ wide-requires : tie.Need-wide-requires
 wide-requires c κs = search needs
 
 info-bits-requires : tie.Need-info-bits-requires
-info-bits-requires c κs = rows-le _ _ _ (accepted _ _ _ (c .before .before .before .pre))
+info-bits-requires c κs =
+    let s = c .before .before .before in
+    rows-le _ _ _ (accepted _ _ _ (s .pre))
 
 sub-result : tie.Need-sub-result
-sub-result c = omega (arith, n-is _ _ _ (accepted _ _ _ (c .before .before .before .before .pre)), c .before .wide .ensures, c .info-bits .ensures)
+sub-result c =
+    let s = c .before .before .before .before in
+    omega (arith, n-is _ _ _ (accepted _ _ _ (s .pre)), c .before .wide .ensures, c .info-bits .ensures)
 
 returns : tie.Need-returns
 unfolding pOf

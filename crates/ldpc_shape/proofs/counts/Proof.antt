@@ -64,7 +64,9 @@ loop-again c =
     )
 
 returns : tie.Need-returns Inv-loop μ-loop
-returns c = let l = c .before .loop in counted-end _ (c .before .before .before .args .addrs .now) (l .r) (l .i) (search needs) (l .inv .0) (l .inv .2)
+returns c =
+    let s = c .before .before .before in
+    let l = c .before .loop in counted-end _ (s .args .addrs .now) (l .r) (l .i) (search needs) (l .inv .0) (l .inv .2)
 
 pub counts-spec : {M : Type 1} → statement M
 counts-spec =

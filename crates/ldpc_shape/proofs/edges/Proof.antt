@@ -17,17 +17,25 @@ checks-requires : tie.Need-checks-requires
 checks-requires c κs = search needs
 
 mul-result-2 : tie.Need-mul-result-2
-mul-result-2 c = omega (arith, p-le _ _ _ (accepted _ _ _ (c .before .before .before .pre)), c .checks .ensures)
+mul-result-2 c =
+    let s = c .before .before .before in
+    omega (arith, p-le _ _ _ (accepted _ _ _ (s .pre)), c .checks .ensures)
 
 add-result : tie.Need-add-result
-add-result c = omega (arith, addrs-le _ _ _ (accepted _ _ _ (c .before .before .before .pre)), p-le _ _ _ (accepted _ _ _ (c .before .before .before .pre)), c .checks .ensures)
+add-result c =
+    let s = c .before .before .before in
+    omega (arith, addrs-le _ _ _ (accepted _ _ _ (s .pre)), p-le _ _ _ (accepted _ _ _ (s .pre)), c .checks .ensures)
 
 sub-result : tie.Need-sub-result
-sub-result c = omega (arith, p-pos _ _ _ (accepted _ _ _ (c .before .before .before .pre)), c .checks .ensures)
+sub-result c =
+    let s = c .before .before .before in
+    omega (arith, p-pos _ _ _ (accepted _ _ _ (s .pre)), c .checks .ensures)
 
 returns : tie.Need-returns
 unfolding eOf
-returns c = ap (λ (z : ℕ). 374 * length (c .before .before .before .args .addrs .now) + 2 * z - 1) (c .checks .ensures)
+returns c =
+    let s = c .before .before .before in
+    ap (λ (z : ℕ). 374 * length (s .args .addrs .now) + 2 * z - 1) (c .checks .ensures)
 
 pub edges-spec : {M : Type 1} → statement M
 edges-spec =

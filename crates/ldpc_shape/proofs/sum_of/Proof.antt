@@ -28,7 +28,10 @@ wide-requires : tie.Need-wide-requires Inv-loop μ-loop
 wide-requires c κs = search needs
 
 add-s : tie.Need-add-s Inv-loop μ-loop
-add-s c = let s = c .before .before .before .before .before in let l = c .before .before .before .loop in omega (arith, c .wide .ensures, sum-room (s .args .lens .now) (l .i) (l .s) (search needs) (s .pre .0) (s .pre .1) (l .inv .1))
+add-s c =
+    let s = c .before .before .before .before .before in
+    let l = c .before .before .before .loop in
+    omega (arith, c .wide .ensures, sum-room (s .args .lens .now) (l .i) (l .s) (search needs) (s .pre .0) (s .pre .1) (l .inv .1))
 
 add-i : tie.Need-add-i Inv-loop μ-loop
 add-i c = search needs
@@ -37,10 +40,17 @@ loop-less : tie.Need-loop-less Inv-loop μ-loop
 loop-less c = search needs
 
 loop-again : tie.Need-loop-again Inv-loop μ-loop
-loop-again c = let s = c .before .before .before .before .before in let l = c .before .before .before .loop in (omega arith, ap (λ (z : ℕ). l .s + z + total (drop (l .i + 1) (s .args .lens .now))) (c .wide .ensures) ∙ sum-again (s .args .lens .now) (l .i) (l .s) (search needs) (l .inv .1))
+loop-again c =
+    let s = c .before .before .before .before .before in
+    let l = c .before .before .before .loop in (
+      omega arith,
+      ap (λ (z : ℕ). l .s + z + total (drop (l .i + 1) (s .args .lens .now))) (c .wide .ensures) ∙ sum-again (s .args .lens .now) (l .i) (l .s) (search needs) (l .inv .1),
+    )
 
 returns : tie.Need-returns Inv-loop μ-loop
-returns c = let l = c .before .loop in sum-end (c .before .before .before .args .lens .now) (l .i) (l .s) (search needs) (l .inv .0) (l .inv .1)
+returns c =
+    let s = c .before .before .before in
+    let l = c .before .loop in sum-end (s .args .lens .now) (l .i) (l .s) (search needs) (l .inv .0) (l .inv .1)
 
 pub sum-of-spec : {M : Type 1} → statement M
 sum-of-spec =

@@ -12,7 +12,9 @@ returns-2 : tie.Need-returns-2
 returns-2 c = search needs
 
 returns-3 : tie.Need-returns-3
-returns-3 c = answer-refused (c .before .before .args .ran .refusal) (c .before .before .args .ran .stopped) (c .if1 .left)
+returns-3 c =
+    let s = c .before .before in
+    answer-refused (s .args .ran .refusal) (s .args .ran .stopped) (c .if1 .left)
 
 pub answer-of-spec : {M : Type 1} → statement M
 answer-of-spec = tie.close (tie.spec returns returns-2 returns-3)

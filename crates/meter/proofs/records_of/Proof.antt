@@ -63,7 +63,11 @@ loop-less : tie.Need-loop-less Inv-loop μ-loop
 loop-less c = search needs
 
 loop-again : tie.Need-loop-again Inv-loop μ-loop
-loop-again c = (records-again (c .before .before .before .before .before .before .before .args .t1) (c .before .before .before .before .before .before .loop .w) unwritten (c .before .before .before .before .before .before .loop .made) (c .before .before .before .before .before .before .loop .inv .0), add-one-le (c .before .before .before .before .before .loop-test .taken))
+loop-again c =
+    let at-loop-test = c .before .before .before .before .before in
+    let at-loop = at-loop-test .before in
+    let s = at-loop .before in
+    (records-again (s .args .t1) (at-loop .loop .w) unwritten (at-loop .loop .made) (at-loop .loop .inv .0), add-one-le (at-loop-test .loop-test .taken))
 
 returns : tie.Need-returns Inv-loop μ-loop
 returns c = c .before .loop .inv .0 ∙ ap (λ (n : ℕ). recordsFrom (c .before .before .args .t1) 0 n unwritten) (le-antisymm (c .before .loop .inv .1) (c .loop-test .left))

@@ -82,7 +82,28 @@ use Rattle.meter.proofs.run.Statement as stated
 use Rattle.meter.proofs.run.Code as code
 
 abbrev stayed : Stays (f.ended .signature .params) (f.ended .kept)
-stayed = (stay-none (λ _. u32) yes, (stay-none-slice (0 ∷ []) tt (plain (λ _. u32)) yes, (stay-none-slice (1 ∷ []) tt (plain (λ _. u16)) yes, (stay-none-slice (2 ∷ []) tt (plain (λ _. i8)) yes, (stay-none (λ _. S.the-row) yes, (gave-slice (3 ∷ []) tt (plain (λ _. u8)), (gave-slice (4 ∷ []) tt (plain (λ _. T.the-row)), (stay-ref (5 ∷ []) tt (plain (λ _. Y.the-row)), (gave-slice (6 ∷ []) tt (plain (λ _. i8)), (gave-slice (7 ∷ []) tt (plain (λ _. u32)), tt))))))))))
+stayed = (
+  stay-none (λ _. u32) yes,
+  (
+    stay-none-slice (0 ∷ []) tt (plain (λ _. u32)) yes,
+    (
+      stay-none-slice (1 ∷ []) tt (plain (λ _. u16)) yes,
+      (
+        stay-none-slice (2 ∷ []) tt (plain (λ _. i8)) yes,
+        (
+          stay-none (λ _. S.the-row) yes,
+          (
+            gave-slice (3 ∷ []) tt (plain (λ _. u8)),
+            (
+              gave-slice (4 ∷ []) tt (plain (λ _. T.the-row)),
+              (stay-ref (5 ∷ []) tt (plain (λ _. Y.the-row)), (gave-slice (6 ∷ []) tt (plain (λ _. i8)), (gave-slice (7 ∷ []) tt (plain (λ _. u32)), tt))),
+            ),
+          ),
+        ),
+      ),
+    ),
+  ),
+)
 
 -- the contracts that the proof cites
 module _ {M : Type 1} (𝓤 : URA M) (H : Heap 𝓤) (A : Atoms 𝓤) (at-mem : Memory → SProp 𝓤) (run : Routine → Fun 𝓤) where
@@ -311,8 +332,33 @@ module _ {M : Type 1} (𝓤 : URA M) (H : Heap 𝓤) (A : Atoms 𝓤) (W : Given
 run-meets : {M : Type 1} (𝓤 : URA M) (H : Heap 𝓤) (A : Atoms 𝓤) → (W : Given 𝓤 H A) → (at-mem : Memory → SProp 𝓤) (run : Routine → Fun 𝓤) (𝓣 : Tables 𝓤 H) → Triple 𝓤 (𝓣 .C #decoder·core) (Core 𝓤 H A at-mem run) → Triple 𝓤 (𝓣 .C #meter·write) (Write 𝓤 H A at-mem run)
     → Triple 𝓤 (𝓣 .C #meter·tally-of) (TallyOf 𝓤 H A at-mem run) → Triple 𝓤 (𝓣 .C #meter·answer-of) (AnswerOf 𝓤 H A at-mem run) → Meets 𝓤 H A f.signature (WpFn 𝓤 H (𝓣 .C) (𝓣 .Λ) code.function) (f.spec 𝓤 H A at-mem run)
 run-meets 𝓤 H A W at-mem run 𝓣 known-core known-write known-tally known-answer =
-    walk-meets 𝓤 H A f.ended stayed W (goes-none 𝓤 H A W 8 (λ _. u32) yes (λ κs x f. refl), (goes-none-slice 𝓤 H A W 8 (0 ∷ []) tt (plain (λ _. u32)) yes, (goes-none-slice 𝓤 H A W 8 (1 ∷ []) tt (plain (λ _. u16)) yes, (goes-none-slice 𝓤 H A W 8 (2 ∷ []) tt (plain (λ _. i8)) yes, (goes-none 𝓤 H A W 8 (λ _. S.the-row) yes (λ κs x f. refl), (goes-gave-slice 𝓤 H A W 8 3 tt (plain (λ _. u8)), (goes-gave-slice 𝓤 H A W 8 4 tt (plain (λ _. T.the-row)), (goes-ref 𝓤 H A W 8 5 tt (plain (λ _. Y.the-row)), (goes-gave-slice 𝓤 H A W 8 6 tt (plain (λ _. i8)), (goes-gave-slice 𝓤 H A W 8 7 tt (plain (λ _. u32)), tt))))))))))
-    (f.clauses 𝓤 H A at-mem run) (WpFn 𝓤 H (𝓣 .C) (𝓣 .Λ) code.function) (WpFn-mono 𝓤 H (W .laws) 𝓣 code.function) (run-walks 𝓤 H A W at-mem run (𝓣 .C) (𝓣 .Λ) (fmOf 𝓤 H (W .laws) 𝓣) known-core known-write known-tally known-answer)
+    walk-meets 𝓤 H A f.ended stayed W (
+      goes-none 𝓤 H A W 8 (λ _. u32) yes (λ κs x f. refl),
+      (
+        goes-none-slice 𝓤 H A W 8 (0 ∷ []) tt (plain (λ _. u32)) yes,
+        (
+          goes-none-slice 𝓤 H A W 8 (1 ∷ []) tt (plain (λ _. u16)) yes,
+          (
+            goes-none-slice 𝓤 H A W 8 (2 ∷ []) tt (plain (λ _. i8)) yes,
+            (
+              goes-none 𝓤 H A W 8 (λ _. S.the-row) yes (λ κs x f. refl),
+              (
+                goes-gave-slice 𝓤 H A W 8 3 tt (plain (λ _. u8)),
+                (
+                  goes-gave-slice 𝓤 H A W 8 4 tt (plain (λ _. T.the-row)),
+                  (
+                    goes-ref 𝓤 H A W 8 5 tt (plain (λ _. Y.the-row)),
+                    (goes-gave-slice 𝓤 H A W 8 6 tt (plain (λ _. i8)), (goes-gave-slice 𝓤 H A W 8 7 tt (plain (λ _. u32)), tt)),
+                  ),
+                ),
+              ),
+            ),
+          ),
+        ),
+      ),
+    )
+    (f.clauses 𝓤 H A at-mem run) (WpFn 𝓤 H (𝓣 .C) (𝓣 .Λ) code.function) (WpFn-mono 𝓤 H (W .laws) 𝓣 code.function)
+    (run-walks 𝓤 H A W at-mem run (𝓣 .C) (𝓣 .Λ) (fmOf 𝓤 H (W .laws) 𝓣) known-core known-write known-tally known-answer)
 
 pub run-spec : {M : Type 1} → stated.statement M
 unfolding code.routine tablesOf

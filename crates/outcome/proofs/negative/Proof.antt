@@ -37,7 +37,9 @@ variable-requires : tie.Need-variable-requires Inv-loop μ-loop
 variable-requires c κs = search needs
 
 shared-slice-copy-out-bit : tie.Need-shared-slice-copy-out-bit Inv-loop μ-loop
-shared-slice-copy-out-bit c = let h = c .before .before in let s = h .before .before in omega (arith, c .variable .ensures, s .pre .below (s .args .s + h .loop .k) (omega (arith, c .before .loop-test .taken, s .pre .inside)))
+shared-slice-copy-out-bit c =
+    let h = c .before .before in
+    let s = h .before .before in omega (arith, c .variable .ensures, s .pre .below (s .args .s + h .loop .k) (omega (arith, c .before .loop-test .taken, s .pre .inside)))
 
 bit-requires : tie.Need-bit-requires Inv-loop μ-loop
 bit-requires c κs = search needs
@@ -62,6 +64,7 @@ loop-again c = (search needs, more c)
 
 returns : tie.Need-returns Inv-loop μ-loop
 returns c =
+    let s = c .before .before .before in
     let a = c .before .before .before .args in
     let e : c .before .loop .k ≡ a .d = omega (arith, c .loop-test .left, c .before .loop .inv .0) in
     c .before .loop .inv .1 ∙ ap (λ (k : ℕ). negatives (var (a .rows .now)) (a .s) k (values (a .soft .now))) e

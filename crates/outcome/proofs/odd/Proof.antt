@@ -33,7 +33,8 @@ negative-requires c κs =
     let d = c .before in
     let s = d .before .before .before in
     let a = s .args in
-    check-edges (a .p) (length (a .soft .now)) (a .c) (d .before .start .result) (d .degree .result) (a .index .now) (s .pre .0) (d .before .start .ensures) (ap (λ (z : ℕ). z + d .degree .result) (d .before .start .ensures) ∙ d .degree .ensures) (s .pre .1)
+    check-edges (a .p) (length (a .soft .now)) (a .c) (d .before .start .result) (d .degree .result) (a .index .now) (s .pre .0) (d .before .start .ensures)
+    (ap (λ (z : ℕ). z + d .degree .result) (d .before .start .ensures) ∙ d .degree .ensures) (s .pre .1)
 
 returns : tie.Need-returns
 returns c =

@@ -27,7 +27,9 @@ abbrev wordAt : tie.Start Inv-loop μ-loop → Word
 wordAt s = begin (s .args .n) (s .args .soft .now)
 
 checks-requires : tie.Need-checks-requires Inv-loop μ-loop
-checks-requires c κs = c .before .before .before .pre .code
+checks-requires c κs =
+    let s = c .before .before .before in
+    s .pre .code
 
 loop-holds : tie.Need-loop-holds Inv-loop μ-loop
 loop-holds c = let s = c .before .before .before .before in (search needs, met-start (codeAt s) (wordAt s))

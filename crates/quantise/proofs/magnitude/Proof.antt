@@ -23,13 +23,16 @@ shl-result : tie.Need-shl-result
 shl-result c = search needs
 
 add-result : tie.Need-add-result
-add-result c = omega (arith, moved-le (c .before .before .args .bits) (c .before .if1 .left) (c .if2 .left), moved-fits (c .before .before .args .bits) (c .before .if1 .left) (c .if2 .left))
+add-result c =
+    let s = c .before .before in
+    omega (arith, moved-le (s .args .bits) (c .before .if1 .left) (c .if2 .left), moved-fits (s .args .bits) (c .before .if1 .left) (c .if2 .left))
 
 returns-3 : tie.Need-returns-3
-returns-3 c = (
-  size-middle (c .before .before .args .bits) (c .before .if1 .left) (c .if2 .left),
-  size-below (c .before .before .args .bits) (c .before .if1 .left) (c .if2 .left),
-)
+returns-3 c =
+    let s = c .before .before in (
+      size-middle (s .args .bits) (c .before .if1 .left) (c .if2 .left),
+      size-below (s .args .bits) (c .before .if1 .left) (c .if2 .left),
+    )
 
 pub magnitude-spec : {M : Type 1} → statement M
 magnitude-spec =

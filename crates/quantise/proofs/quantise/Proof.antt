@@ -20,7 +20,8 @@ too-short llr scale out h =
     let t = sym (lt-ltb (length out) (length llr) h) in
     (ap (λ (b : Bool). answerOf (cond b 13 0)) t, (ap (λ (b : Bool). cond (eqb (cond b 13 0) 0) (writtenOf llr scale out) out) t, ap (λ (b : Bool). cond b 13 0) t))
 
-long-enough : (llr : List Float) (scale : Float) (out l : List ℤ) → length llr ≤ length out → l ≡ writtenOf llr scale out → (Done ≡ answerOf (refusalOf llr out)) × ((l ≡ outputOf llr scale out) × (0 ≡ refusalOf llr out))
+long-enough : (llr : List Float) (scale : Float) (out l : List ℤ) → length llr ≤ length out → l ≡ writtenOf llr scale out
+    → (Done ≡ answerOf (refusalOf llr out)) × ((l ≡ outputOf llr scale out) × (0 ≡ refusalOf llr out))
 long-enough llr scale out l h w =
     let t = sym (le-ltb (length out) (length llr) h) in
     (ap (λ (b : Bool). answerOf (cond b 13 0)) t, (w ∙ ap (λ (b : Bool). cond (eqb (cond b 13 0) 0) (writtenOf llr scale out) out) t, ap (λ (b : Bool). cond b 13 0) t))
@@ -36,6 +37,7 @@ same-length c = search needs
 
 returns-2 : tie.Need-returns-2
 returns-2 c =
+    let s = c .before .before .before .before .before in
     let a = c .before .before .before .before .before .args in
     long-enough (a .llr .now) (a .scale) (a .out .now) _ (c .before .before .before .if1 .left) (c .before .write .ensures)
 

@@ -33,8 +33,9 @@ sub-result c = neg-fits (c .before .magnitude .result) (c .before .magnitude .en
 -- the soft value is what `magnitude` returned, with the sign s of the last test
 value : (c : tie.After-magnitude) (s : Bool) → leb 2147483648 (toBits binary32 (product (c .before .before))) ≡ s → signed s (c .magnitude .result) ≡ softValue (product (c .before .before))
 value c s e =
+    let s′ = c .before .before in
     ap₂ signed (sym e) (c .magnitude .ensures .0)
-    ∙ sym (bits-soft (product (c .before .before)) (mul-fits binary32 (c .before .before .args .x) (c .before .before .args .scale)) (float-to-bits-bits (c .before)))
+    ∙ sym (bits-soft (product (c .before .before)) (mul-fits binary32 (s′ .args .x) (s′ .args .scale)) (float-to-bits-bits (c .before)))
 
 returns-2 : tie.Need-returns-2
 returns-2 c = read-back (c .before .magnitude .result) (c .before .magnitude .ensures .1) ∙ value (c .before) false (lt-leb _ _ (c .if2 .taken))

@@ -42,6 +42,7 @@ loop-less c = search needs
 
 loop-again : tie.Need-loop-again Inv-loop μ-loop
 loop-again c =
+    let s = c .before .before .before .before .before in
     let l = c .before .before .before .loop in
     let a = c .before .before .before .before .before .args in (
       search needs,
@@ -54,6 +55,7 @@ same-length c = search needs
 
 returns : tie.Need-returns Inv-loop μ-loop
 returns c =
+    let s = c .before .before .before in
     let l = c .before .loop in
     let a = c .before .before .before .args in
     upto-end (softOf (a .scale)) nan (a .llr .now) (a .out .now) (l .out) (l .i) (omega arith) (l .inv .1)

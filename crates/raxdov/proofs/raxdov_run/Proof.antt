@@ -21,10 +21,23 @@ same-length-3 : tie.Need-same-length-3
 same-length-3 c = search needs
 
 returns : tie.Need-returns
-returns c = refuses (c .before .before .before .before .before .before .before .before .before .before .before .before .before .before .before .before .args .n) (c .before .before .before .before .before .before .before .before .before .before .before .before .before .before .before .before .args .lens .now) (c .before .before .before .before .before .before .before .before .before .before .before .before .before .before .before .before .args .addrs .now) (c .before .before .before .before .before .before .before .before .before .before .before .before .before .before .before .before .args .soft .now) (c .before .before .before .before .before .before .before .before .before .before .before .before .before .before .before .before .args .lanes) (c .before .before .before .before .before .before .before .before .before .before .before .before .before .before .before .before .args .limit) (c .before .before .before .before .before .before .before .before .before .before .before .before .before .before .before .before .args .layered) (c .before .before .before .before .before .before .before .before .before .before .before .before .before .before .before .before .args .step) (c .before .before .before .before .before .before .before .before .before .before .before .before .before .before .before .before .args .offset) (c .before .before .before .before .before .before .before .before .before .before .before .before .before .before .before .before .args .rounds) (c .before .before .before .before .before .before .before .before .before .before .before .before .before .before .before .before .args .first) (c .before .before .before .before .before .before .before .before .before .before .before .before .before .before .before .before .args .length) (c .before .before .before .before .before .before .before .before .before .before .before .before .before .before .before .before .args .out .now) _ (c .before .before .before .before .before .before .before .before .before .before .before .before .before .before .before .before .args .records .now) (c .before .before .before .before .before .before .before .before .before .before .before .before .before .before .before .before .args .work .now) _ (c .before .before .before .before .before .before .before .before .before .before .before .before .before .before .before .before .args .index .now) _ (c .before .before .before .before .before .before .core .result) _ _ (c .before .before .before .before .before .before .before .before .before .before .schedule-of .ensures) (plain _ (c .before .before .before .before .before .before .before .before .before .before .before .before .before .before .before .before .fits .offset)) (c .before .before .before .before .before .before .core .ensures) (c .before .before .before .before .before .before .before .before .before .before .before .before .before .before .before .before .args .tally .now) (c .before .before .before .before .before .before .before .before .before .before .before .before .before .before .before .before .args .ending .now) (c .if1 .taken)
+returns c =
+    let at-core = c .before .before .before .before .before .before in
+    let at-schedule-of = at-core .before .before .before .before in
+    let s = at-schedule-of .before .before .before .before .before .before in
+    refuses (s .args .n) (s .args .lens .now) (s .args .addrs .now) (s .args .soft .now) (s .args .lanes) (s .args .limit) (s .args .layered) (s .args .step)
+    (s .args .offset) (s .args .rounds) (s .args .first) (s .args .length) (s .args .out .now) _ (s .args .records .now) (s .args .work .now) _ (s .args .index .now) _
+    (at-core .core .result) _ _ (at-schedule-of .schedule-of .ensures) (plain _ (s .fits .offset)) (at-core .core .ensures) (s .args .tally .now) (s .args .ending .now)
+    (c .if1 .taken)
 
 write-records-requires : tie.Need-write-records-requires
-write-records-requires c κs = fit (c .before .before .before .before .before .before .before .before .before .before .before .before .before .before .before .before .before .before .before .before .before .before .before .before .before .before .before .args .n) (c .before .before .before .before .before .before .before .before .before .before .before .before .before .before .before .before .before .before .before .before .before .before .before .before .before .before .before .args .lens .now) (c .before .before .before .before .before .before .before .before .before .before .before .before .before .before .before .before .before .before .before .before .before .before .before .before .before .before .before .args .addrs .now) (c .before .before .before .before .before .before .before .before .before .before .before .before .before .before .before .before .before .before .before .before .before .before .before .before .before .before .before .args .soft .now) (c .before .before .before .before .before .before .before .before .before .before .before .before .before .before .before .before .before .before .before .before .before .before .before .before .before .before .before .args .lanes) (c .before .before .before .before .before .before .before .before .before .before .before .before .before .before .before .before .before .before .before .before .before .before .before .before .before .before .before .args .limit) (c .before .before .before .before .before .before .before .before .before .before .before .before .before .before .before .before .before .before .before .before .before .before .before .before .before .before .before .args .layered) (c .before .before .before .before .before .before .before .before .before .before .before .before .before .before .before .before .before .before .before .before .before .before .before .before .before .before .before .args .step) (c .before .before .before .before .before .before .before .before .before .before .before .before .before .before .before .before .before .before .before .before .before .before .before .before .before .before .before .args .offset) (c .before .before .before .before .before .before .before .before .before .before .before .before .before .before .before .before .before .before .before .before .before .before .before .before .before .before .before .args .rounds) (c .before .before .before .before .before .before .before .before .before .before .before .before .before .before .before .before .before .before .before .before .before .before .before .before .before .before .before .args .first) (c .before .before .before .before .before .before .before .before .before .before .before .before .before .before .before .before .before .before .before .before .before .before .before .before .before .before .before .args .length) (c .before .before .before .before .before .before .before .before .before .before .before .before .before .before .before .before .before .before .before .before .before .before .before .before .before .before .before .args .out .now) _ (c .before .before .before .before .before .before .before .before .before .before .before .before .before .before .before .before .before .before .before .before .before .before .before .before .before .before .before .args .records .now) (c .before .before .before .before .before .before .before .before .before .before .before .before .before .before .before .before .before .before .before .before .before .before .before .before .before .before .before .args .work .now) _ (c .before .before .before .before .before .before .before .before .before .before .before .before .before .before .before .before .before .before .before .before .before .before .before .before .before .before .before .args .index .now) _ (c .before .before .before .before .before .before .before .before .before .before .before .before .before .before .before .before .before .core .result) _ _ (c .before .before .before .before .before .before .before .before .before .before .before .before .before .before .before .before .before .before .before .before .before .schedule-of .ensures) (plain _ (c .before .before .before .before .before .before .before .before .before .before .before .before .before .before .before .before .before .before .before .before .before .before .before .before .before .before .before .fits .offset)) (c .before .before .before .before .before .before .before .before .before .before .before .before .before .before .before .before .before .core .ensures)
+write-records-requires c κs =
+    let at-core = c .before .before .before .before .before .before .before .before .before .before .before .before .before .before .before .before .before in
+    let at-schedule-of = at-core .before .before .before .before in
+    let s = at-schedule-of .before .before .before .before .before .before in
+    fit (s .args .n) (s .args .lens .now) (s .args .addrs .now) (s .args .soft .now) (s .args .lanes) (s .args .limit) (s .args .layered) (s .args .step)
+    (s .args .offset) (s .args .rounds) (s .args .first) (s .args .length) (s .args .out .now) _ (s .args .records .now) (s .args .work .now) _ (s .args .index .now) _
+    (at-core .core .result) _ _ (at-schedule-of .schedule-of .ensures) (plain _ (s .fits .offset)) (at-core .core .ensures)
 
 ending-of-requires : tie.Need-ending-of-requires
 ending-of-requires c κs = search needs
@@ -42,7 +55,16 @@ same-length-7 : tie.Need-same-length-7
 same-length-7 c = search needs
 
 returns-2 : tie.Need-returns-2
-returns-2 c = accepts (c .before .before .before .before .before .before .before .before .before .before .before .before .before .before .before .before .before .before .before .before .before .before .before .before .before .before .before .before .before .before .before .before .args .n) (c .before .before .before .before .before .before .before .before .before .before .before .before .before .before .before .before .before .before .before .before .before .before .before .before .before .before .before .before .before .before .before .before .args .lens .now) (c .before .before .before .before .before .before .before .before .before .before .before .before .before .before .before .before .before .before .before .before .before .before .before .before .before .before .before .before .before .before .before .before .args .addrs .now) (c .before .before .before .before .before .before .before .before .before .before .before .before .before .before .before .before .before .before .before .before .before .before .before .before .before .before .before .before .before .before .before .before .args .soft .now) (c .before .before .before .before .before .before .before .before .before .before .before .before .before .before .before .before .before .before .before .before .before .before .before .before .before .before .before .before .before .before .before .before .args .lanes) (c .before .before .before .before .before .before .before .before .before .before .before .before .before .before .before .before .before .before .before .before .before .before .before .before .before .before .before .before .before .before .before .before .args .limit) (c .before .before .before .before .before .before .before .before .before .before .before .before .before .before .before .before .before .before .before .before .before .before .before .before .before .before .before .before .before .before .before .before .args .layered) (c .before .before .before .before .before .before .before .before .before .before .before .before .before .before .before .before .before .before .before .before .before .before .before .before .before .before .before .before .before .before .before .before .args .step) (c .before .before .before .before .before .before .before .before .before .before .before .before .before .before .before .before .before .before .before .before .before .before .before .before .before .before .before .before .before .before .before .before .args .offset) (c .before .before .before .before .before .before .before .before .before .before .before .before .before .before .before .before .before .before .before .before .before .before .before .before .before .before .before .before .before .before .before .before .args .rounds) (c .before .before .before .before .before .before .before .before .before .before .before .before .before .before .before .before .before .before .before .before .before .before .before .before .before .before .before .before .before .before .before .before .args .first) (c .before .before .before .before .before .before .before .before .before .before .before .before .before .before .before .before .before .before .before .before .before .before .before .before .before .before .before .before .before .before .before .before .args .length) (c .before .before .before .before .before .before .before .before .before .before .before .before .before .before .before .before .before .before .before .before .before .before .before .before .before .before .before .before .before .before .before .before .args .out .now) _ (c .before .before .before .before .before .before .before .before .before .before .before .before .before .before .before .before .before .before .before .before .before .before .before .before .before .before .before .before .before .before .before .before .args .records .now) (c .before .before .before .before .before .before .before .before .before .before .before .before .before .before .before .before .before .before .before .before .before .before .before .before .before .before .before .before .before .before .before .before .args .work .now) _ (c .before .before .before .before .before .before .before .before .before .before .before .before .before .before .before .before .before .before .before .before .before .before .before .before .before .before .before .before .before .before .before .before .args .index .now) _ (c .before .before .before .before .before .before .before .before .before .before .before .before .before .before .before .before .before .before .before .before .before .before .core .result) _ _ (c .before .before .before .before .before .before .before .before .before .before .before .before .before .before .before .before .before .before .before .before .before .before .before .before .before .before .schedule-of .ensures) (plain _ (c .before .before .before .before .before .before .before .before .before .before .before .before .before .before .before .before .before .before .before .before .before .before .before .before .before .before .before .before .before .before .before .before .fits .offset)) (c .before .before .before .before .before .before .before .before .before .before .before .before .before .before .before .before .before .before .before .before .before .before .core .ensures) _ (c .before .before .before .before .before .before .before .before .before .before .before .before .before .before .before .before .before .before .before .before .before .before .before .before .before .before .before .before .before .before .before .before .args .tally .now) (c .before .before .before .before .before .before .before .before .before .before .before .before .before .before .before .before .before .before .before .before .before .before .before .before .before .before .before .before .before .before .before .before .args .ending .now) _ (c .before .before .before .before .before .before .before .before .before .before .before .before .before .before .before .before .if1 .left) (c .before .before .before .before .write-records .ensures) (c .ending-of .ensures)
+returns-2 c =
+    let at-write-records = c .before .before .before .before in
+    let at-if1 = at-write-records .before .before .before .before .before .before .before .before .before .before .before .before in
+    let at-core = at-if1 .before .before .before .before .before .before in
+    let at-schedule-of = at-core .before .before .before .before in
+    let s = at-schedule-of .before .before .before .before .before .before in
+    accepts (s .args .n) (s .args .lens .now) (s .args .addrs .now) (s .args .soft .now) (s .args .lanes) (s .args .limit) (s .args .layered) (s .args .step)
+    (s .args .offset) (s .args .rounds) (s .args .first) (s .args .length) (s .args .out .now) _ (s .args .records .now) (s .args .work .now) _ (s .args .index .now) _
+    (at-core .core .result) _ _ (at-schedule-of .schedule-of .ensures) (plain _ (s .fits .offset)) (at-core .core .ensures) _ (s .args .tally .now) (s .args .ending .now)
+    _ (at-if1 .if1 .left) (at-write-records .write-records .ensures) (c .ending-of .ensures)
 
 pub raxdov-run-spec : {M : Type 1} → statement M
 raxdov-run-spec =

@@ -11,7 +11,8 @@ use Rattle.raxdov.proofs.write_records.Statement.{statement}
 use Rattle.raxdov.proofs.write_records.Tie as tie
 
 abbrev Inv-loop : tie.InvT-loop
-Inv-loop records₀ words state iterations unsatisfied check bch w₀ records w = (w ≤ words) × ((length records ≡ length records₀) × (records ≡ sets records₀ 0 (recordsIn state iterations unsatisfied check bch w)))
+Inv-loop records₀ words state iterations unsatisfied check bch w₀ records w =
+    (w ≤ words) × ((length records ≡ length records₀) × (records ≡ sets records₀ 0 (recordsIn state iterations unsatisfied check bch w)))
 
 abbrev μ-loop : tie.MeasureT-loop
 μ-loop records₀ words state iterations unsatisfied check bch w₀ records w = words - w
@@ -48,10 +49,12 @@ mul-records-4 c = search needs
 
 slice-write-records-2 : tie.Need-slice-write-records-2 Inv-loop μ-loop
 slice-write-records-2 c =
-    let r = c .before .before .before .loop .records in
-    let w = c .before .before .before .loop .w in
+    let at-loop = c .before .before .before in
+    let s = at-loop .before in
+    let r = at-loop .loop .records in
+    let w = at-loop .loop .w in
     let a = c .before .before .before .before .args in
-    lt-length-set r (5 * w) (getD (a .state .now) w 0) (omega (arith, c .before .before .before .loop .inv, c .before .before .loop-test .taken, c .before .before .before .before .pre))
+    lt-length-set r (5 * w) (getD (a .state .now) w 0) (omega (arith, at-loop .loop .inv, c .before .before .loop-test .taken, s .pre))
 
 mul-records-5 : tie.Need-mul-records-5 Inv-loop μ-loop
 mul-records-5 c = search needs
@@ -67,10 +70,13 @@ mul-records-6 c = search needs
 
 slice-write-records-3 : tie.Need-slice-write-records-3 Inv-loop μ-loop
 slice-write-records-3 c =
-    let r = c .before .before .before .before .loop .records in
-    let w = c .before .before .before .before .loop .w in
+    let at-loop = c .before .before .before .before in
+    let s = at-loop .before in
+    let r = at-loop .loop .records in
+    let w = at-loop .loop .w in
     let a = c .before .before .before .before .before .args in
-    lt-length-set (set r (5 * w) (getD (a .state .now) w 0)) (5 * w + 1) (getD (a .iterations .now) w 0) (lt-length-set r (5 * w) (getD (a .state .now) w 0) (omega (arith, c .before .before .before .before .loop .inv, c .before .before .before .loop-test .taken, c .before .before .before .before .before .pre)))
+    lt-length-set (set r (5 * w) (getD (a .state .now) w 0)) (5 * w + 1) (getD (a .iterations .now) w 0)
+    (lt-length-set r (5 * w) (getD (a .state .now) w 0) (omega (arith, at-loop .loop .inv, c .before .before .before .loop-test .taken, s .pre)))
 
 mul-records-7 : tie.Need-mul-records-7 Inv-loop μ-loop
 mul-records-7 c = search needs
@@ -86,10 +92,15 @@ mul-records-8 c = search needs
 
 slice-write-records-4 : tie.Need-slice-write-records-4 Inv-loop μ-loop
 slice-write-records-4 c =
-    let r = c .before .before .before .before .before .loop .records in
-    let w = c .before .before .before .before .before .loop .w in
+    let at-loop-test = c .before .before .before .before in
+    let at-loop = at-loop-test .before in
+    let s = at-loop .before in
+    let r = at-loop .loop .records in
+    let w = at-loop .loop .w in
     let a = c .before .before .before .before .before .before .args in
-    lt-length-set (set (set r (5 * w) (getD (a .state .now) w 0)) (5 * w + 1) (getD (a .iterations .now) w 0)) (5 * w + 2) (getD (a .unsatisfied .now) w 0) (lt-length-set (set r (5 * w) (getD (a .state .now) w 0)) (5 * w + 1) (getD (a .iterations .now) w 0) (lt-length-set r (5 * w) (getD (a .state .now) w 0) (omega (arith, c .before .before .before .before .before .loop .inv, c .before .before .before .before .loop-test .taken, c .before .before .before .before .before .before .pre))))
+    lt-length-set (set (set r (5 * w) (getD (a .state .now) w 0)) (5 * w + 1) (getD (a .iterations .now) w 0)) (5 * w + 2) (getD (a .unsatisfied .now) w 0)
+    (lt-length-set (set r (5 * w) (getD (a .state .now) w 0)) (5 * w + 1) (getD (a .iterations .now) w 0)
+    (lt-length-set r (5 * w) (getD (a .state .now) w 0) (omega (arith, at-loop .loop .inv, at-loop-test .loop-test .taken, s .pre))))
 
 mul-records-9 : tie.Need-mul-records-9 Inv-loop μ-loop
 mul-records-9 c = search needs
@@ -105,10 +116,17 @@ mul-records-10 c = search needs
 
 slice-write-records-5 : tie.Need-slice-write-records-5 Inv-loop μ-loop
 slice-write-records-5 c =
-    let r = c .before .before .before .before .before .before .loop .records in
-    let w = c .before .before .before .before .before .before .loop .w in
+    let at-loop-test = c .before .before .before .before .before in
+    let at-loop = at-loop-test .before in
+    let s = at-loop .before in
+    let r = at-loop .loop .records in
+    let w = at-loop .loop .w in
     let a = c .before .before .before .before .before .before .before .args in
-    lt-length-set (set (set (set r (5 * w) (getD (a .state .now) w 0)) (5 * w + 1) (getD (a .iterations .now) w 0)) (5 * w + 2) (getD (a .unsatisfied .now) w 0)) (5 * w + 3) (getD (a .check .now) w 0) (lt-length-set (set (set r (5 * w) (getD (a .state .now) w 0)) (5 * w + 1) (getD (a .iterations .now) w 0)) (5 * w + 2) (getD (a .unsatisfied .now) w 0) (lt-length-set (set r (5 * w) (getD (a .state .now) w 0)) (5 * w + 1) (getD (a .iterations .now) w 0) (lt-length-set r (5 * w) (getD (a .state .now) w 0) (omega (arith, c .before .before .before .before .before .before .loop .inv, c .before .before .before .before .before .loop-test .taken, c .before .before .before .before .before .before .before .pre)))))
+    lt-length-set (set (set (set r (5 * w) (getD (a .state .now) w 0)) (5 * w + 1) (getD (a .iterations .now) w 0)) (5 * w + 2) (getD (a .unsatisfied .now) w 0))
+    (5 * w + 3) (getD (a .check .now) w 0)
+    (lt-length-set (set (set r (5 * w) (getD (a .state .now) w 0)) (5 * w + 1) (getD (a .iterations .now) w 0)) (5 * w + 2) (getD (a .unsatisfied .now) w 0)
+    (lt-length-set (set r (5 * w) (getD (a .state .now) w 0)) (5 * w + 1) (getD (a .iterations .now) w 0)
+    (lt-length-set r (5 * w) (getD (a .state .now) w 0) (omega (arith, at-loop .loop .inv, at-loop-test .loop-test .taken, s .pre)))))
 
 add-w : tie.Need-add-w Inv-loop μ-loop
 add-w c = search needs
@@ -117,13 +135,26 @@ loop-less : tie.Need-loop-less Inv-loop μ-loop
 loop-less c = search needs
 
 loop-again : tie.Need-loop-again Inv-loop μ-loop
-loop-again c = (search needs, (same-size (c .before .before .before .before .before .before .before .args .state .now) (c .before .before .before .before .before .before .before .args .iterations .now) (c .before .before .before .before .before .before .before .args .unsatisfied .now) (c .before .before .before .before .before .before .before .args .check .now) (c .before .before .before .before .before .before .before .args .bch .now) (c .before .before .before .before .before .before .before .args .records .now) (c .before .before .before .before .before .before .loop .records) (c .before .before .before .before .before .before .loop .w) (c .before .before .before .before .before .before .loop .inv .1 .0), records-again (c .before .before .before .before .before .before .before .args .state .now) (c .before .before .before .before .before .before .before .args .iterations .now) (c .before .before .before .before .before .before .before .args .unsatisfied .now) (c .before .before .before .before .before .before .before .args .check .now) (c .before .before .before .before .before .before .before .args .bch .now) (c .before .before .before .before .before .before .before .args .records .now) (c .before .before .before .before .before .before .loop .records) (c .before .before .before .before .before .before .loop .w) (c .before .before .before .before .before .before .loop .inv .1 .1)))
+loop-again c =
+    let at-loop = c .before .before .before .before .before .before in
+    let s = at-loop .before in (
+      search needs,
+      (
+        same-size (s .args .state .now) (s .args .iterations .now) (s .args .unsatisfied .now) (s .args .check .now) (s .args .bch .now) (s .args .records .now)
+            (at-loop .loop .records) (at-loop .loop .w) (at-loop .loop .inv .1 .0),
+        records-again (s .args .state .now) (s .args .iterations .now) (s .args .unsatisfied .now) (s .args .check .now) (s .args .bch .now) (s .args .records .now)
+            (at-loop .loop .records) (at-loop .loop .w) (at-loop .loop .inv .1 .1),
+      ),
+    )
 
 same-length : tie.Need-same-length Inv-loop μ-loop
 same-length c = search needs
 
 returns : tie.Need-returns Inv-loop μ-loop
-returns c = records-end (c .before .before .args .state .now) (c .before .before .args .iterations .now) (c .before .before .args .unsatisfied .now) (c .before .before .args .check .now) (c .before .before .args .bch .now) (c .before .before .args .records .now) (c .before .loop .records) (c .before .loop .w) (c .before .before .args .words) (omega (arith, c .loop-test .left, c .before .loop .inv)) (c .before .before .pre .1) (c .before .loop .inv .1 .1)
+returns c =
+    let s = c .before .before in
+    records-end (s .args .state .now) (s .args .iterations .now) (s .args .unsatisfied .now) (s .args .check .now) (s .args .bch .now) (s .args .records .now)
+    (c .before .loop .records) (c .before .loop .w) (s .args .words) (omega (arith, c .loop-test .left, c .before .loop .inv)) (s .pre .1) (c .before .loop .inv .1 .1)
 
 pub write-records-spec : {M : Type 1} → statement M
 write-records-spec =

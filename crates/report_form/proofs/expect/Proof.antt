@@ -15,6 +15,7 @@ byte-at-requires c κs = search needs
 
 add-t8 : tie.Need-add-t8
 add-t8 c =
+    let s = c .before .before .before .before in
     let a = c .before .before .before .before .args in
     let p = c .before .before .before .before .pre in
     let h : 0 < getD (a .text .now) (a .at) 0 = omega (arith, c .before .byte-at .ensures, c .if2 .taken) in
@@ -22,12 +23,14 @@ add-t8 c =
 
 returns : tie.Need-returns
 returns c =
+    let s = c .before .before .before .before in
     let a = c .before .before .before .before .args in
     reads-right (c .before .before .if1 .taken)
-    (byte-found (a .text .now) (a .at) (a .b) (c .before .before .before .before .pre) (sym (c .before .byte-at .ensures) ∙ c .if2 .taken))
+    (byte-found (a .text .now) (a .at) (a .b) (s .pre) (sym (c .before .byte-at .ensures) ∙ c .if2 .taken))
 
 returns-2 : tie.Need-returns-2
 returns-2 c =
+    let s = c .before .before .before .before in
     let a = c .before .before .before .before .args in
     reads-right (c .before .before .if1 .taken)
     (byte-missing (a .text .now) (a .at) (a .b) (λ e. c .if2 .left (c .before .byte-at .ensures ∙ e)))

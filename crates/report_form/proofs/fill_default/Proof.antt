@@ -27,8 +27,9 @@ add-value c = omega (arith, c .before .before .pre, c .before .before .good .0 .
 
 slice-set-from-value : tie.Need-slice-set-from-value Inv-loop μ-loop
 slice-set-from-value c =
+    let s = c .before .before in
     let a = c .before .before .args in
-    omega (arith, filled-length (a .words .now) (a .base) (toZ w8 (ofZ w8 (a .value))) (a .n) (c .before .loop .words) (c .before .loop .i) (c .before .loop .inv), c .before .before .pre, c .loop-test .taken)
+    omega (arith, filled-length (a .words .now) (a .base) (toZ w8 (ofZ w8 (a .value))) (a .n) (c .before .loop .words) (c .before .loop .i) (c .before .loop .inv), s .pre, c .loop-test .taken)
 
 add-i : tie.Need-add-i Inv-loop μ-loop
 add-i c = omega (arith, c .loop-test .taken, c .before .before .fits .n .fits)
@@ -48,9 +49,10 @@ same-length c =
 
 returns : tie.Need-returns Inv-loop μ-loop
 returns c =
+    let s = c .before .before in
     let a = c .before .before .args in
     filled-end (a .words .now) (a .base) (toZ w8 (ofZ w8 (a .value))) (a .n) (c .before .loop .words) (c .before .loop .i) (c .before .loop .inv) (c .loop-test .left)
-    ∙ ap (λ (z : ℤ). sets (a .words .now) (a .base) (replicate (a .n) z)) (toZ-ofZ w8 (a .value) (c .before .before .fits .value))
+    ∙ ap (λ (z : ℤ). sets (a .words .now) (a .base) (replicate (a .n) z)) (toZ-ofZ w8 (a .value) (s .fits .value))
 
 pub fill-default-spec : {M : Type 1} → statement M
 fill-default-spec =

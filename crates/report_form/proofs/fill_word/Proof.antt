@@ -25,18 +25,24 @@ fill-default-requires c κs = search needs
 
 fill-pairs-requires : tie.Need-fill-pairs-requires
 fill-pairs-requires c κs =
+    let at-read-small-field = c .before .before .before .before .before in
+    let s = at-read-small-field .before .before in
     let a = c .before .before .before .before .before .before .before .args in
-    (omega (arith, c .before .before .before .before .before .before .before .pre .0, c .before .before .fill-default .kept .0), word-pairs-here (a .n) (a .text .now) (a .at) (c .before .before .before .before .before .before .before .pre .1) (c .before .before .before .before .before .read-small-field .ensures))
+    (omega (arith, s .pre .0, c .before .before .fill-default .kept .0), word-pairs-here (a .n) (a .text .now) (a .at) (s .pre .1) (at-read-small-field .read-small-field .ensures))
 
 same-length : tie.Need-same-length
 same-length c = search needs
 
 returns : tie.Need-returns
 returns c =
+    let at-fill-default = c .before .before .before .before in
+    let at-struct-told = at-fill-default .before in
+    let at-read-small-field = at-struct-told .before .before in
+    let s = at-read-small-field .before .before in
     let a = c .before .before .before .before .before .before .before .before .before .args in
-    word-filled (a .n) (a .text .now) (a .at) (a .base) (a .words .now) (c .before .before .before .before .before .before .before .before .before .pre .0)
-    (reads-as (c .before .before .before .before .before .before .before .read-small-field .ensures) (sym (toZ-ofZ w8 (c .before .before .before .before .before .before .before .read-small-field .result .value) (record { sfits = c .before .before .before .before .before .struct-told .given .1 .0 .1 }))))
-    (c .before .before .before .before .fill-default .ensures) (c .before .fill-pairs .ensures)
+    word-filled (a .n) (a .text .now) (a .at) (a .base) (a .words .now) (s .pre .0)
+    (reads-as (at-read-small-field .read-small-field .ensures) (sym (toZ-ofZ w8 (at-read-small-field .read-small-field .result .value) (record { sfits = at-struct-told .struct-told .given .1 .0 .1 }))))
+    (at-fill-default .fill-default .ensures) (c .before .fill-pairs .ensures)
 
 pub fill-word-spec : {M : Type 1} → statement M
 fill-word-spec =

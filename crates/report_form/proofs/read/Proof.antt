@@ -27,9 +27,14 @@ refused-requires c κs = search needs
 
 returns : tie.Need-returns
 returns c =
+    let at-expect2 = c .before .before .before in
+    let at-read-field = at-expect2 .before in
+    let at-expect = at-read-field .before in
     inl
     (record {
-      none = no-head (head-reads (c .before .before .before .before .before .expect .ensures) (c .before .before .before .before .read-field .ensures) (c .before .before .before .expect2 .ensures)) (not-true (c .before .before .before .expect2 .result .right) (c .before .if1 .taken));
+      none =
+          no-head (head-reads (at-expect .expect .ensures) (at-read-field .read-field .ensures) (at-expect2 .expect2 .ensures))
+          (not-true (at-expect2 .expect2 .result .right) (c .before .if1 .taken));
       answer = c .refused .ensures;
       kept = refl;
     })
@@ -42,47 +47,73 @@ read-settings-requires c κs = search needs
 
 read-words-requires : tie.Need-read-words-requires
 read-words-requires c κs =
-    head-bound (c .before .before .before .before .before .read-field .result .value)
-    (found-there (head-reads (c .before .before .before .before .before .before .expect .ensures) (c .before .before .before .before .before .read-field .ensures) (c .before .before .before .before .expect2 .ensures)) (not-false (c .before .before .before .before .expect2 .result .right) (c .before .before .if1 .left)))
+    let at-expect2 = c .before .before .before .before in
+    let at-read-field = at-expect2 .before in
+    let at-expect = at-read-field .before in
+    head-bound (at-read-field .read-field .result .value)
+    (found-there (head-reads (at-expect .expect .ensures) (at-read-field .read-field .ensures) (at-expect2 .expect2 .ensures))
+    (not-false (at-expect2 .expect2 .result .right) (c .before .before .if1 .left)))
 
 refused-requires-2 : tie.Need-refused-requires-2
 refused-requires-2 c κs = search needs
 
 returns-2 : tie.Need-returns-2
 returns-2 c =
-    let n = c .before .before .before .before .before .before .before .before .before .read-field .result .value in
+    let at-read-words = c .before .before .before in
+    let at-read-settings = at-read-words .before in
+    let at-read-rows = at-read-settings .before in
+    let at-if1 = at-read-rows .before in
+    let at-expect2 = at-if1 .before .before in
+    let at-read-field = at-expect2 .before in
+    let at-expect = at-read-field .before in
+    let n = at-read-field .read-field .result .value in
     inl
     (record {
       none = no-body n
-          (found-there (head-reads (c .before .before .before .before .before .before .before .before .before .before .expect .ensures) (c .before .before .before .before .before .before .before .before .before .read-field .ensures) (c .before .before .before .before .before .before .before .before .expect2 .ensures)) (not-false (c .before .before .before .before .before .before .before .before .expect2 .result .right) (c .before .before .before .before .before .before .if1 .left)))
-          (missing-there (body-reads n (c .before .before .before .before .before .read-rows .ensures) (c .before .before .before .before .read-settings .ensures) (c .before .before .before .read-words .ensures)) (not-true (c .before .before .before .read-words .result .right) (c .before .if2 .taken)));
+          (found-there (head-reads (at-expect .expect .ensures) (at-read-field .read-field .ensures) (at-expect2 .expect2 .ensures)) (not-false (at-expect2 .expect2 .result .right) (at-if1 .if1 .left)))
+          (missing-there (body-reads n (at-read-rows .read-rows .ensures) (at-read-settings .read-settings .ensures) (at-read-words .read-words .ensures)) (not-true (at-read-words .read-words .result .right) (c .before .if2 .taken)));
       answer = c .refused2 .ensures;
       kept = refl;
     })
 
 fill-words-requires : tie.Need-fill-words-requires
 fill-words-requires c κs =
-    (c .before .before .before .before .before .before .before .before .before .before .before .before .pre, words-here (c .before .before .before .before .before .before .before .before .before .read-field .result .value) (found-there (c .before .before .before .read-words .ensures) (not-false (c .before .before .before .read-words .result .right) (c .before .if2 .left))))
+    let at-read-words = c .before .before .before in
+    let at-read-field = at-read-words .before .before .before .before .before .before in
+    let s = at-read-field .before .before .before in
+    (s .pre, words-here (at-read-field .read-field .result .value) (found-there (at-read-words .read-words .ensures) (not-false (at-read-words .read-words .result .right) (c .before .if2 .left))))
 
 same-length : tie.Need-same-length
-same-length c = c .before .before .before .before .fill-words .kept .1 .1 .1 .0
+same-length c =
+    let fill-words = c .before .before .before .before .fill-words in
+    fill-words .kept .1 .1 .1 .0
 
 returns-3 : tie.Need-returns-3
 returns-3 c =
-    let n = c .before .before .before .before .before .before .before .before .before .before .before .before .before .before .read-field .result .value in
-    let s = c .before .before .before .before .before .before .before .before .before .read-settings .result in
-    let r = c .before .before .before .before .before .before .before .before .before .before .read-rows .result in
-    let ok = not-false (c .before .before .before .before .before .before .before .before .read-words .result .right) (c .before .before .before .before .before .before .if2 .left) in
-    let ok′ = right-before (c .before .before .before .before .before .before .before .before .read-words .ensures) ok in
-    let ok″ = right-before (c .before .before .before .before .before .before .before .before .before .read-settings .ensures) ok′ in
-    let f = found-there (c .before .before .before .before .before .before .before .before .read-words .ensures) ok in
+    let at-fill-words = c .before .before .before .before in
+    let at-if2 = at-fill-words .before .before in
+    let at-read-words = at-if2 .before .before in
+    let at-read-settings = at-read-words .before in
+    let at-read-rows = at-read-settings .before in
+    let at-if1 = at-read-rows .before in
+    let at-expect2 = at-if1 .before .before in
+    let at-read-field = at-expect2 .before in
+    let at-expect = at-read-field .before in
+    let s′ = at-expect .before .before in
+    let n = at-read-field .read-field .result .value in
+    let s = at-read-settings .read-settings .result in
+    let r = at-read-rows .read-rows .result in
+    let ok = not-false (at-read-words .read-words .result .right) (at-if2 .if2 .left) in
+    let ok′ = right-before (at-read-words .read-words .ensures) ok in
+    let ok″ = right-before (at-read-settings .read-settings .ensures) ok′ in
+    let f = found-there (at-read-words .read-words .ensures) ok in
     inr
-    (one-description n (r .count) (r .lengths) (r .total) (r .addresses) (s .lanes) (s .iterations) (toZ w8 (ofZ w8 (s .offset))) (s .layered) (s .step) (s .rounds) (s .first) (s .bits) (c .before .before .before .before .before .before .before .before .read-words .result .value)
-    (found-there (head-reads (c .before .before .before .before .before .before .before .before .before .before .before .before .before .before .before .expect .ensures) (c .before .before .before .before .before .before .before .before .before .before .before .before .before .before .read-field .ensures) (c .before .before .before .before .before .before .before .before .before .before .before .before .before .expect2 .ensures)) (not-false (c .before .before .before .before .before .before .before .before .before .before .before .before .before .expect2 .result .right) (c .before .before .before .before .before .before .before .before .before .before .before .if1 .left)))
-    (listed-there rows RowsWithin rows-within (c .before .before .before .before .before .before .before .before .before .before .read-rows .ensures) ok″)
-    (settings-as (found-there (c .before .before .before .before .before .before .before .before .before .read-settings .ensures) ok′) (sym (toZ-ofZ w8 (s .offset) (record { sfits = c .struct-told .given .1 .1 .1 .0 .1 }))))
+    (one-description n (r .count) (r .lengths) (r .total) (r .addresses) (s .lanes) (s .iterations) (toZ w8 (ofZ w8 (s .offset))) (s .layered) (s .step) (s .rounds) (s .first) (s .bits) (at-read-words .read-words .result .value)
+    (found-there (head-reads (at-expect .expect .ensures) (at-read-field .read-field .ensures) (at-expect2 .expect2 .ensures)) (not-false (at-expect2 .expect2 .result .right) (at-if1 .if1 .left)))
+    (listed-there rows RowsWithin rows-within (at-read-rows .read-rows .ensures) ok″)
+    (settings-as (found-there (at-read-settings .read-settings .ensures) ok′) (sym (toZ-ofZ w8 (s .offset) (record { sfits = c .struct-told .given .1 .1 .1 .0 .1 }))))
     f
-    (c .before .before .before .before .before .before .before .before .before .before .before .before .before .before .before .before .before .args .words .now) (c .before .before .before .before .fill-words .last .1 .1 .1 .0) (c .before .before .before .before .before .before .before .before .before .before .before .before .before .before .before .before .before .pre) (c .before .before .before .before .fill-words .ensures (f .it .0) (words-at n f)))
+    (s′ .args .words .now) (at-fill-words .fill-words .last .1 .1 .1 .0) (s′ .pre) (at-fill-words .fill-words .ensures (f .it .0) (words-at n f)))
 
 pub read-spec : {M : Type 1} → statement M
 read-spec =

@@ -26,30 +26,40 @@ cast-value : tie.Need-cast-value Inv-loop μ-loop
 cast-value c = search needs
 
 add-i : tie.Need-add-i Inv-loop μ-loop
-add-i c = let a = c .before .before .args in omega (arith, inside (a .text .now) (a .at) (omega (arith, c .before .before .pre .0)))
+add-i c =
+    let s = c .before .before in
+    let a = c .before .before .args in omega (arith, inside (a .text .now) (a .at) (omega (arith, s .pre .0)))
 
 loop-holds : tie.Need-loop-holds Inv-loop μ-loop
 loop-holds c =
+    let s = c .before .before in
     let a = c .before .before .args in
     subst (λ (x : ℕ). Spelled (a .text .now) (a .at) (a .most) (x - 48) (a .at + 1)) (sym (c .byte-at .ensures))
-    (spelled-start (a .text .now) (a .at) (a .most) (c .before .before .pre .0) (c .before .before .pre .1))
+    (spelled-start (a .text .now) (a .at) (a .most) (s .pre .0) (s .pre .1))
 
 digit-at-requires : tie.Need-digit-at-requires Inv-loop μ-loop
 digit-at-requires c κs = search needs
 
 returns : tie.Need-returns Inv-loop μ-loop
-returns c = let a = c .before .before .before .before .before .before .args in record { answer = spelled-over (a .text .now) (a .at) (a .most) (c .before .before .before .loop .value) (c .before .before .before .loop .i) (c .before .before .before .loop .inv) (c .if2 .taken) }
+returns c =
+    let at-loop = c .before .before .before in
+    let s = at-loop .before .before .before in
+    let a = c .before .before .before .before .before .before .args in record { answer = spelled-over (a .text .now) (a .at) (a .most) (at-loop .loop .value) (at-loop .loop .i) (at-loop .loop .inv) (c .if2 .taken) }
 
 mul-value : tie.Need-mul-value Inv-loop μ-loop
-mul-value c = omega (arith, c .if2 .left, c .before .before .before .before .before .before .fits .most .fits)
+mul-value c =
+    let s = c .before .before .before .before .before .before in
+    omega (arith, c .if2 .left, s .fits .most .fits)
 
 byte-at-requires-2 : tie.Need-byte-at-requires-2 Inv-loop μ-loop
 byte-at-requires-2 c κs = search needs
 
 sub-value-2 : tie.Need-sub-value-2 Inv-loop μ-loop
 sub-value-2 c =
+    let at-loop = c .before .before .before .before in
+    let s = at-loop .before .before .before in
     let a = c .before .before .before .before .before .before .before .args in
-    let d = digit-bounds (getD (a .text .now) (c .before .before .before .before .loop .i) 0) (sym (c .before .before .before .digit-at .ensures) ∙ c .before .before .if1 .taken) in
+    let d = digit-bounds (getD (a .text .now) (at-loop .loop .i) 0) (sym (c .before .before .before .digit-at .ensures) ∙ c .before .before .if1 .taken) in
     omega (arith, c .byte-at2 .ensures, d .0)
 
 cast-value-2 : tie.Need-cast-value-2 Inv-loop μ-loop
@@ -57,38 +67,54 @@ cast-value-2 c = search needs
 
 add-value : tie.Need-add-value Inv-loop μ-loop
 add-value c =
+    let at-loop = c .before .before .before .before in
+    let s = at-loop .before .before .before in
     let a = c .before .before .before .before .before .before .before .args in
-    let d = digit-bounds (getD (a .text .now) (c .before .before .before .before .loop .i) 0) (sym (c .before .before .before .digit-at .ensures) ∙ c .before .before .if1 .taken) in
-    omega (arith, c .byte-at2 .ensures, d .1, c .before .if2 .left, c .before .before .before .before .before .before .before .fits .most .fits)
+    let d = digit-bounds (getD (a .text .now) (at-loop .loop .i) 0) (sym (c .before .before .before .digit-at .ensures) ∙ c .before .before .if1 .taken) in
+    omega (arith, c .byte-at2 .ensures, d .1, c .before .if2 .left, s .fits .most .fits)
 
 add-i-2 : tie.Need-add-i-2 Inv-loop μ-loop
 add-i-2 c =
+    let at-loop = c .before .before .before .before in
+    let s = at-loop .before .before .before in
     let a = c .before .before .before .before .before .before .before .args in
-    let d = digit-bounds (getD (a .text .now) (c .before .before .before .before .loop .i) 0) (sym (c .before .before .before .digit-at .ensures) ∙ c .before .before .if1 .taken) in
-    omega (arith, inside (a .text .now) (c .before .before .before .before .loop .i) (omega (arith, d .0)))
+    let d = digit-bounds (getD (a .text .now) (at-loop .loop .i) 0) (sym (c .before .before .before .digit-at .ensures) ∙ c .before .before .if1 .taken) in
+    omega (arith, inside (a .text .now) (at-loop .loop .i) (omega (arith, d .0)))
 
 loop-less : tie.Need-loop-less Inv-loop μ-loop
 loop-less c =
+    let at-loop = c .before .before .before .before in
+    let s = at-loop .before .before .before in
     let a = c .before .before .before .before .before .before .before .args in
-    let d = digit-bounds (getD (a .text .now) (c .before .before .before .before .loop .i) 0) (sym (c .before .before .before .digit-at .ensures) ∙ c .before .before .if1 .taken) in
-    omega (arith, inside (a .text .now) (c .before .before .before .before .loop .i) (omega (arith, d .0)))
+    let d = digit-bounds (getD (a .text .now) (at-loop .loop .i) 0) (sym (c .before .before .before .digit-at .ensures) ∙ c .before .before .if1 .taken) in
+    omega (arith, inside (a .text .now) (at-loop .loop .i) (omega (arith, d .0)))
 
 loop-again : tie.Need-loop-again Inv-loop μ-loop
 loop-again c =
+    let at-loop = c .before .before .before .before in
+    let s = at-loop .before .before .before in
     let a = c .before .before .before .before .before .before .before .args in
-    subst (λ (x : ℕ). Spelled (a .text .now) (a .at) (a .most) (c .before .before .before .before .loop .value * 10 + (x - 48)) (c .before .before .before .before .loop .i + 1)) (sym (c .byte-at2 .ensures))
-    (spelled-again (a .text .now) (a .at) (a .most) (c .before .before .before .before .loop .value) (c .before .before .before .before .loop .i) (c .before .before .before .before .loop .inv) (c .before .if2 .left) (sym (c .before .before .before .digit-at .ensures) ∙ c .before .before .if1 .taken))
+    subst (λ (x : ℕ). Spelled (a .text .now) (a .at) (a .most) (at-loop .loop .value * 10 + (x - 48)) (at-loop .loop .i + 1)) (sym (c .byte-at2 .ensures))
+    (spelled-again (a .text .now) (a .at) (a .most) (at-loop .loop .value) (at-loop .loop .i) (at-loop .loop .inv) (c .before .if2 .left)
+    (sym (c .before .before .before .digit-at .ensures) ∙ c .before .before .if1 .taken))
 
 returns-2 : tie.Need-returns-2 Inv-loop μ-loop
-returns-2 c = let a = c .before .before .before .before .before .before .args in record { answer = spelled-over (a .text .now) (a .at) (a .most) (c .before .before .before .loop .value) (c .before .before .before .loop .i) (c .before .before .before .loop .inv) (c .if3 .taken) }
+returns-2 c =
+    let at-loop = c .before .before .before in
+    let s = at-loop .before .before .before in
+    let a = c .before .before .before .before .before .before .args in record { answer = spelled-over (a .text .now) (a .at) (a .most) (at-loop .loop .value) (at-loop .loop .i) (at-loop .loop .inv) (c .if3 .taken) }
 
 cast-t16 : tie.Need-cast-t16 Inv-loop μ-loop
-cast-t16 c = omega (arith, c .if3 .left, c .before .before .before .before .before .before .fits .most .fits)
+cast-t16 c =
+    let s = c .before .before .before .before .before .before in
+    omega (arith, c .if3 .left, s .fits .most .fits)
 
 returns-3 : tie.Need-returns-3 Inv-loop μ-loop
 returns-3 c =
+    let at-loop = c .before .before .before in
+    let s = at-loop .before .before .before in
     let a = c .before .before .before .before .before .before .args in
-    record { answer = spelled-end (a .text .now) (a .at) (a .most) (c .before .before .before .loop .value) (c .before .before .before .loop .i) (c .before .before .before .loop .inv) (c .if3 .left) (sym (c .before .before .digit-at .ensures) ∙ c .before .if1 .left) }
+    record { answer = spelled-end (a .text .now) (a .at) (a .most) (at-loop .loop .value) (at-loop .loop .i) (at-loop .loop .inv) (c .if3 .left) (sym (c .before .before .digit-at .ensures) ∙ c .before .if1 .left) }
 
 pub read-digits-spec : {M : Type 1} → statement M
 read-digits-spec =

@@ -13,7 +13,9 @@ read-number-requires : tie.Need-read-number-requires
 read-number-requires c κs = search needs
 
 returns : tie.Need-returns
-returns c = lead-reads 9 (numbers (c .before .before .before .args .most)) (c .before .expect .ensures) (c .read-number .ensures)
+returns c =
+    let s = c .before .before .before in
+    lead-reads 9 (numbers (s .args .most)) (c .before .expect .ensures) (c .read-number .ensures)
 
 pub read-field-spec : {M : Type 1} → statement M
 read-field-spec = tie.close (tie.spec expect-requires read-number-requires returns)

@@ -19,15 +19,19 @@ byte-at-requires c κs = search needs
 
 read-digits-requires : tie.Need-read-digits-requires
 read-digits-requires c κs =
+    let s = c .before .before .before .before .before .before in
     let a = c .before .before .before .before .before .before .args in
     let d = digit-bounds (getD (a .text .now) (a .at) 0) (sym (c .before .before .before .digit-at .ensures) ∙ c .before .before .if2 .taken) in
     (omega (arith, d .0, c .before .byte-at .ensures, c .if3 .taken), d .1)
 
 returns : tie.Need-returns
-returns c = reads-right (c .before .before .before .before .before .if1 .taken) (c .read-digits .ensures .answer)
+returns c =
+    let if1 = c .before .before .before .before .before .if1 in
+    reads-right (if1 .taken) (c .read-digits .ensures .answer)
 
 add-next : tie.Need-add-next
 add-next c =
+    let s = c .before .before .before .before .before .before in
     let a = c .before .before .before .before .before .before .args in
     omega (arith, inside (a .text .now) (a .at) (omega (arith, c .before .byte-at .ensures, c .if3 .left)))
 
@@ -36,18 +40,25 @@ digit-at-requires-2 c κs = search needs
 
 returns-2 : tie.Need-returns-2
 returns-2 c =
+    let at-if1 = c .before .before .before .before .before .before in
+    let s = at-if1 .before .before in
     let a = c .before .before .before .before .before .before .before .before .args in
-    reads-right (c .before .before .before .before .before .before .if1 .taken)
-    (zero-found (a .text .now) (a .at) (a .most) (sym (c .before .before .before .byte-at .ensures) ∙ c .before .before .if3 .left) (sym (c .before .digit-at2 .ensures) ∙ not-true (c .before .digit-at2 .result) (c .if4 .taken)))
+    reads-right (at-if1 .if1 .taken)
+    (zero-found (a .text .now) (a .at) (a .most) (sym (c .before .before .before .byte-at .ensures) ∙ c .before .before .if3 .left)
+    (sym (c .before .digit-at2 .ensures) ∙ not-true (c .before .digit-at2 .result) (c .if4 .taken)))
 
 returns-3 : tie.Need-returns-3
 returns-3 c =
+    let at-if1 = c .before .before .before .before .before .before in
+    let s = at-if1 .before .before in
     let a = c .before .before .before .before .before .before .before .before .args in
-    reads-right (c .before .before .before .before .before .before .if1 .taken)
-    (zero-missing (a .text .now) (a .at) (a .most) (sym (c .before .before .before .byte-at .ensures) ∙ c .before .before .if3 .left) (sym (c .before .digit-at2 .ensures) ∙ not-false (c .before .digit-at2 .result) (c .if4 .left)))
+    reads-right (at-if1 .if1 .taken)
+    (zero-missing (a .text .now) (a .at) (a .most) (sym (c .before .before .before .byte-at .ensures) ∙ c .before .before .if3 .left)
+    (sym (c .before .digit-at2 .ensures) ∙ not-false (c .before .digit-at2 .result) (c .if4 .left)))
 
 returns-4 : tie.Need-returns-4
 returns-4 c =
+    let s = c .before .before .before .before in
     let a = c .before .before .before .before .args in
     reads-right (c .before .before .if1 .taken) (digit-missing (a .text .now) (a .at) (a .most) (sym (c .before .digit-at .ensures) ∙ c .if2 .left))
 

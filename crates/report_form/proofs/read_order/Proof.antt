@@ -17,6 +17,7 @@ byte-at-requires c κs = search needs
 
 add-next : tie.Need-add-next
 add-next c =
+    let s = c .before .before .before in
     let a = c .before .before .before .args in
     omega (arith, inside (a .text .now) (a .at) (omega (arith, c .before .byte-at .ensures, c .if1 .taken)))
 
@@ -25,12 +26,14 @@ digit-at-requires c κs = search needs
 
 returns : tie.Need-returns
 returns c =
+    let s = c .before .before .before .before .before in
     let a = c .before .before .before .before .before .args in
     let e = byte-here (a .text .now) (a .at) 83 (omega arith) (sym (c .before .before .before .byte-at .ensures) ∙ c .before .before .if1 .taken) in
     reads-none (s-missing _ _ e (ap digit (head-at (a .text .now) (a .at + 1)) ∙ sym (c .before .digit-at .ensures) ∙ c .if2 .taken))
 
 returns-2 : tie.Need-returns-2
 returns-2 c =
+    let s = c .before .before .before .before .before in
     let a = c .before .before .before .before .before .args in
     let e = byte-here (a .text .now) (a .at) 83 (omega arith) (sym (c .before .before .before .byte-at .ensures) ∙ c .before .before .if1 .taken) in
     reads-one (s-found _ _ e (ap digit (head-at (a .text .now) (a .at + 1)) ∙ sym (c .before .digit-at .ensures) ∙ c .if2 .left))
@@ -40,6 +43,7 @@ read-number-requires c κs = search needs
 
 returns-3 : tie.Need-returns-3
 returns-3 c =
+    let s = c .before .before .before .before in
     let a = c .before .before .before .before .args in
     let v = c .read-number .result in
     reads-both (c .read-number .ensures)

@@ -29,46 +29,83 @@ read-pair-requires c κs = search needs
 
 returns : tie.Need-returns Inv-loop μ-loop
 returns c =
-    pairs-hopeless (c .before .before .before .before .before .before .before .args .n)
-    (pairs-none (c .before .before .before .before .before .before .before .args .n) (c .before .before .before .before .before .loop .least) (c .before .before .before .before .before .loop .count) _ _ (c .before .before .before .before .before .loop .inv) (goes-mark (c .before .before .before .before .before .before .before .args .text .now) (c .before .before .before .before .before .loop .count) 64 (c .before .before .before .before .before .loop .i) 9 (c .before .before .before .before .goes-on .ensures) (c .before .before .before .if1 .taken))
-    (missing-there (c .before .before .read-pair .ensures) (not-true (c .before .before .read-pair .result .right) (c .if2 .taken))))
+    let at-read-pair = c .before .before in
+    let at-goes-on = at-read-pair .before .before in
+    let at-loop = at-goes-on .before in
+    let s = at-loop .before .before in
+    pairs-hopeless (s .args .n)
+    (pairs-none (s .args .n) (at-loop .loop .least) (at-loop .loop .count) _ _ (at-loop .loop .inv)
+    (goes-mark (s .args .text .now) (at-loop .loop .count) 64 (at-loop .loop .i) 9 (at-goes-on .goes-on .ensures) (c .before .before .before .if1 .taken))
+    (missing-there (at-read-pair .read-pair .ensures) (not-true (at-read-pair .read-pair .result .right) (c .if2 .taken))))
 
 returns-2 : tie.Need-returns-2 Inv-loop μ-loop
 returns-2 c =
-    let p = c .before .before .before .read-pair .result in
-    pairs-hopeless (c .before .before .before .before .before .before .before .before .args .n)
-    (pairs-wrong (c .before .before .before .before .before .before .before .before .args .n) (c .before .before .before .before .before .before .loop .least) (c .before .before .before .before .before .before .loop .count) (p .position) (p .value) _ _ _ (c .before .before .before .before .before .before .loop .inv) (goes-mark (c .before .before .before .before .before .before .before .before .args .text .now) (c .before .before .before .before .before .before .loop .count) 64 (c .before .before .before .before .before .before .loop .i) 9 (c .before .before .before .before .before .goes-on .ensures) (c .before .before .before .before .if1 .taken))
-    (found-there (c .before .before .before .read-pair .ensures) (not-false (p .right) (c .before .if2 .left))) (inl (c .if3 .taken)))
+    let at-read-pair = c .before .before .before in
+    let at-if1 = at-read-pair .before in
+    let at-goes-on = at-if1 .before in
+    let at-loop = at-goes-on .before in
+    let s = at-loop .before .before in
+    let p = at-read-pair .read-pair .result in
+    pairs-hopeless (s .args .n)
+    (pairs-wrong (s .args .n) (at-loop .loop .least) (at-loop .loop .count) (p .position) (p .value) _ _ _ (at-loop .loop .inv)
+    (goes-mark (s .args .text .now) (at-loop .loop .count) 64 (at-loop .loop .i) 9 (at-goes-on .goes-on .ensures) (at-if1 .if1 .taken))
+    (found-there (at-read-pair .read-pair .ensures) (not-false (p .right) (c .before .if2 .left))) (inl (c .if3 .taken)))
 
 returns-3 : tie.Need-returns-3 Inv-loop μ-loop
 returns-3 c =
-    let p = c .before .before .before .before .read-pair .result in
-    pairs-hopeless (c .before .before .before .before .before .before .before .before .before .args .n)
-    (pairs-wrong (c .before .before .before .before .before .before .before .before .before .args .n) (c .before .before .before .before .before .before .before .loop .least) (c .before .before .before .before .before .before .before .loop .count) (p .position) (p .value) _ _ _ (c .before .before .before .before .before .before .before .loop .inv) (goes-mark (c .before .before .before .before .before .before .before .before .before .args .text .now) (c .before .before .before .before .before .before .before .loop .count) 64 (c .before .before .before .before .before .before .before .loop .i) 9 (c .before .before .before .before .before .before .goes-on .ensures) (c .before .before .before .before .before .if1 .taken))
-    (found-there (c .before .before .before .before .read-pair .ensures) (not-false (p .right) (c .before .before .if2 .left))) (inr (c .if4 .taken)))
+    let at-read-pair = c .before .before .before .before in
+    let at-if1 = at-read-pair .before in
+    let at-goes-on = at-if1 .before in
+    let at-loop = at-goes-on .before in
+    let s = at-loop .before .before in
+    let p = at-read-pair .read-pair .result in
+    pairs-hopeless (s .args .n)
+    (pairs-wrong (s .args .n) (at-loop .loop .least) (at-loop .loop .count) (p .position) (p .value) _ _ _ (at-loop .loop .inv)
+    (goes-mark (s .args .text .now) (at-loop .loop .count) 64 (at-loop .loop .i) 9 (at-goes-on .goes-on .ensures) (at-if1 .if1 .taken))
+    (found-there (at-read-pair .read-pair .ensures) (not-false (p .right) (c .before .before .if2 .left))) (inr (c .if4 .taken)))
 
 add-least : tie.Need-add-least Inv-loop μ-loop
-add-least c = omega (arith, c .if4 .left, c .before .before .before .before .before .before .before .before .before .pre)
+add-least c =
+    let s = c .before .before .before .before .before .before .before .before .before in
+    omega (arith, c .if4 .left, s .pre)
 
 add-count : tie.Need-add-count Inv-loop μ-loop
-add-count c = omega (arith, goes-room (c .before .before .before .before .before .before .before .before .before .args .text .now) (c .before .before .before .before .before .before .before .loop .count) 64 (c .before .before .before .before .before .before .before .loop .i) 9 (c .before .before .before .before .before .before .goes-on .ensures) (c .before .before .before .before .before .if1 .taken))
+add-count c =
+    let at-if1 = c .before .before .before .before .before in
+    let at-goes-on = at-if1 .before in
+    let at-loop = at-goes-on .before in
+    let s = at-loop .before .before in
+    omega (arith, goes-room (s .args .text .now) (at-loop .loop .count) 64 (at-loop .loop .i) 9 (at-goes-on .goes-on .ensures) (at-if1 .if1 .taken))
 
 loop-less : tie.Need-loop-less Inv-loop μ-loop
-loop-less c = omega (arith, goes-room (c .before .before .before .before .before .before .before .before .before .args .text .now) (c .before .before .before .before .before .before .before .loop .count) 64 (c .before .before .before .before .before .before .before .loop .i) 9 (c .before .before .before .before .before .before .goes-on .ensures) (c .before .before .before .before .before .if1 .taken))
+loop-less c =
+    let at-if1 = c .before .before .before .before .before in
+    let at-goes-on = at-if1 .before in
+    let at-loop = at-goes-on .before in
+    let s = at-loop .before .before in
+    omega (arith, goes-room (s .args .text .now) (at-loop .loop .count) 64 (at-loop .loop .i) 9 (at-goes-on .goes-on .ensures) (at-if1 .if1 .taken))
 
 loop-again : tie.Need-loop-again Inv-loop μ-loop
 loop-again c =
-    let p = c .before .before .before .before .read-pair .result in
-    pairs-again (c .before .before .before .before .before .before .before .before .before .args .n) (c .before .before .before .before .before .before .before .loop .least) (c .before .before .before .before .before .before .before .loop .count) (p .position) (p .value) _ _ _ (c .before .before .before .before .before .before .before .loop .inv)
-    (found-there (c .before .before .before .before .read-pair .ensures) (not-false (p .right) (c .before .before .if2 .left)))
-    (goes-room (c .before .before .before .before .before .before .before .before .before .args .text .now) (c .before .before .before .before .before .before .before .loop .count) 64 (c .before .before .before .before .before .before .before .loop .i) 9 (c .before .before .before .before .before .before .goes-on .ensures) (c .before .before .before .before .before .if1 .taken)) (c .before .if3 .left) (c .if4 .left)
+    let at-read-pair = c .before .before .before .before in
+    let at-if1 = at-read-pair .before in
+    let at-goes-on = at-if1 .before in
+    let at-loop = at-goes-on .before in
+    let s = at-loop .before .before in
+    let p = at-read-pair .read-pair .result in
+    pairs-again (s .args .n) (at-loop .loop .least) (at-loop .loop .count) (p .position) (p .value) _ _ _ (at-loop .loop .inv)
+    (found-there (at-read-pair .read-pair .ensures) (not-false (p .right) (c .before .before .if2 .left)))
+    (goes-room (s .args .text .now) (at-loop .loop .count) 64 (at-loop .loop .i) 9 (at-goes-on .goes-on .ensures) (at-if1 .if1 .taken)) (c .before .if3 .left) (c .if4 .left)
 
 expect-requires : tie.Need-expect-requires Inv-loop μ-loop
 expect-requires c κs = search needs
 
 returns-4 : tie.Need-returns-4 Inv-loop μ-loop
 returns-4 c =
-    pairs-read (c .before .before .before .before .before .args .n) (c .before .before .before .loop .least) (c .before .before .before .loop .count) (c .before .before .before .loop .inv) (goes-end (c .before .before .before .before .before .args .text .now) (c .before .before .before .loop .count) 64 (c .before .before .before .loop .i) 9 (c .before .before .goes-on .ensures) (c .before .if1 .left)) (c .expect .ensures)
+    let at-loop = c .before .before .before in
+    let s = at-loop .before .before in
+    pairs-read (s .args .n) (at-loop .loop .least) (at-loop .loop .count) (at-loop .loop .inv)
+    (goes-end (s .args .text .now) (at-loop .loop .count) 64 (at-loop .loop .i) 9 (c .before .before .goes-on .ensures) (c .before .if1 .left)) (c .expect .ensures)
 
 pub read-pairs-spec : {M : Type 1} → statement M
 read-pairs-spec =

@@ -21,7 +21,9 @@ expect-requires : tie.Need-expect-requires Inv-loop μ-loop
 expect-requires c κs = search needs
 
 loop-holds : tie.Need-loop-holds Inv-loop μ-loop
-loop-holds c = row-start (c .before .before .args .into) (c .before .before .args .from) (drop (c .expect .result .next) (c .before .before .args .text .now))
+loop-holds c =
+    let s = c .before .before in
+    row-start (s .args .into) (s .args .from) (drop (c .expect .result .next) (s .args .text .now))
 
 goes-on-requires : tie.Need-goes-on-requires Inv-loop μ-loop
 goes-on-requires c κs = search needs
@@ -31,46 +33,83 @@ read-field-requires c κs = search needs
 
 returns : tie.Need-returns Inv-loop μ-loop
 returns c =
-    row-none (c .before .before .before .before .before .before .before .before .args .into) (c .before .before .before .before .before .before .before .before .args .from) (c .before .before .before .before .before .loop .count) (c .before .before .before .before .before .loop .addresses) (c .before .before .before .before .before .before .expect .ensures) (c .before .before .before .before .before .loop .inv)
-    (goes-mark (c .before .before .before .before .before .before .before .before .args .text .now) (c .before .before .before .before .before .loop .count) 4 (c .before .before .before .before .before .loop .i) 9 (c .before .before .before .before .goes-on .ensures) (c .before .before .before .if1 .taken))
-    (missing-there (c .before .before .read-field .ensures) (not-true (c .before .before .read-field .result .right) (c .if2 .taken)))
+    let at-read-field = c .before .before in
+    let at-goes-on = at-read-field .before .before in
+    let at-loop = at-goes-on .before in
+    let at-expect = at-loop .before in
+    let s = at-expect .before .before in
+    row-none (s .args .into) (s .args .from) (at-loop .loop .count) (at-loop .loop .addresses) (at-expect .expect .ensures) (at-loop .loop .inv)
+    (goes-mark (s .args .text .now) (at-loop .loop .count) 4 (at-loop .loop .i) 9 (at-goes-on .goes-on .ensures) (c .before .before .before .if1 .taken))
+    (missing-there (at-read-field .read-field .ensures) (not-true (at-read-field .read-field .result .right) (c .if2 .taken)))
 
 add-place : tie.Need-add-place Inv-loop μ-loop
-add-place c = omega (arith, c .before .before .before .before .before .before .before .before .pre, goes-room (c .before .before .before .before .before .before .before .before .args .text .now) (c .before .before .before .before .before .loop .count) 4 (c .before .before .before .before .before .loop .i) 9 (c .before .before .before .before .goes-on .ensures) (c .before .before .before .if1 .taken))
+add-place c =
+    let at-goes-on = c .before .before .before .before in
+    let at-loop = at-goes-on .before in
+    let s = at-loop .before .before .before in
+    omega (arith, s .pre, goes-room (s .args .text .now) (at-loop .loop .count) 4 (at-loop .loop .i) 9 (at-goes-on .goes-on .ensures) (c .before .before .before .if1 .taken))
 
 cast-place : tie.Need-cast-place Inv-loop μ-loop
-cast-place c = omega (arith, c .before .before .before .before .before .before .before .before .pre, goes-room (c .before .before .before .before .before .before .before .before .args .text .now) (c .before .before .before .before .before .loop .count) 4 (c .before .before .before .before .before .loop .i) 9 (c .before .before .before .before .goes-on .ensures) (c .before .before .before .if1 .taken))
+cast-place c =
+    let at-goes-on = c .before .before .before .before in
+    let at-loop = at-goes-on .before in
+    let s = at-loop .before .before .before in
+    omega (arith, s .pre, goes-room (s .args .text .now) (at-loop .loop .count) 4 (at-loop .loop .i) 9 (at-goes-on .goes-on .ensures) (c .before .before .before .if1 .taken))
 
 cast-addresses : tie.Need-cast-addresses Inv-loop μ-loop
 cast-addresses c =
-    let f = found-there (c .before .before .read-field .ensures) (not-false (c .before .before .read-field .result .right) (c .if2 .left)) in
+    let read-field = c .before .before .read-field in
+    let f = found-there (read-field .ensures) (not-false (read-field .result .right) (c .if2 .left)) in
     omega (arith, f .within, f .says)
 
 mul-addresses : tie.Need-mul-addresses Inv-loop μ-loop
-mul-addresses c = omega (arith, c .before .before .before .before .before .before .before .before .pre, goes-room (c .before .before .before .before .before .before .before .before .args .text .now) (c .before .before .before .before .before .loop .count) 4 (c .before .before .before .before .before .loop .i) 9 (c .before .before .before .before .goes-on .ensures) (c .before .before .before .if1 .taken))
+mul-addresses c =
+    let at-goes-on = c .before .before .before .before in
+    let at-loop = at-goes-on .before in
+    let s = at-loop .before .before .before in
+    omega (arith, s .pre, goes-room (s .args .text .now) (at-loop .loop .count) 4 (at-loop .loop .i) 9 (at-goes-on .goes-on .ensures) (c .before .before .before .if1 .taken))
 
 array-write-addresses : tie.Need-array-write-addresses Inv-loop μ-loop
-array-write-addresses c = omega (arith, c .before .before .before .before .before .before .before .before .pre, goes-room (c .before .before .before .before .before .before .before .before .args .text .now) (c .before .before .before .before .before .loop .count) 4 (c .before .before .before .before .before .loop .i) 9 (c .before .before .before .before .goes-on .ensures) (c .before .before .before .if1 .taken))
+array-write-addresses c =
+    let at-goes-on = c .before .before .before .before in
+    let at-loop = at-goes-on .before in
+    let s = at-loop .before .before .before in
+    omega (arith, s .pre, goes-room (s .args .text .now) (at-loop .loop .count) 4 (at-loop .loop .i) 9 (at-goes-on .goes-on .ensures) (c .before .before .before .if1 .taken))
 
 add-count : tie.Need-add-count Inv-loop μ-loop
-add-count c = omega (arith, goes-room (c .before .before .before .before .before .before .before .before .args .text .now) (c .before .before .before .before .before .loop .count) 4 (c .before .before .before .before .before .loop .i) 9 (c .before .before .before .before .goes-on .ensures) (c .before .before .before .if1 .taken))
+add-count c =
+    let at-goes-on = c .before .before .before .before in
+    let at-loop = at-goes-on .before in
+    let s = at-loop .before .before .before in
+    omega (arith, goes-room (s .args .text .now) (at-loop .loop .count) 4 (at-loop .loop .i) 9 (at-goes-on .goes-on .ensures) (c .before .before .before .if1 .taken))
 
 loop-less : tie.Need-loop-less Inv-loop μ-loop
-loop-less c = omega (arith, goes-room (c .before .before .before .before .before .before .before .before .args .text .now) (c .before .before .before .before .before .loop .count) 4 (c .before .before .before .before .before .loop .i) 9 (c .before .before .before .before .goes-on .ensures) (c .before .before .before .if1 .taken))
+loop-less c =
+    let at-goes-on = c .before .before .before .before in
+    let at-loop = at-goes-on .before in
+    let s = at-loop .before .before .before in
+    omega (arith, goes-room (s .args .text .now) (at-loop .loop .count) 4 (at-loop .loop .i) 9 (at-goes-on .goes-on .ensures) (c .before .before .before .if1 .taken))
 
 loop-again : tie.Need-loop-again Inv-loop μ-loop
 loop-again c =
-    row-again (c .before .before .before .before .before .before .before .before .args .into) (c .before .before .before .before .before .before .before .before .args .from) (c .before .before .before .before .before .loop .count) (c .before .before .read-field .result .value) (c .before .before .before .before .before .loop .addresses) (c .before .before .before .before .before .loop .inv)
-    (found-there (c .before .before .read-field .ensures) (not-false (c .before .before .read-field .result .right) (c .if2 .left)))
-    (goes-room (c .before .before .before .before .before .before .before .before .args .text .now) (c .before .before .before .before .before .loop .count) 4 (c .before .before .before .before .before .loop .i) 9 (c .before .before .before .before .goes-on .ensures) (c .before .before .before .if1 .taken))
+    let at-read-field = c .before .before in
+    let at-goes-on = at-read-field .before .before in
+    let at-loop = at-goes-on .before in
+    let s = at-loop .before .before .before in
+    row-again (s .args .into) (s .args .from) (at-loop .loop .count) (at-read-field .read-field .result .value) (at-loop .loop .addresses) (at-loop .loop .inv)
+    (found-there (at-read-field .read-field .ensures) (not-false (at-read-field .read-field .result .right) (c .if2 .left)))
+    (goes-room (s .args .text .now) (at-loop .loop .count) 4 (at-loop .loop .i) 9 (at-goes-on .goes-on .ensures) (c .before .before .before .if1 .taken))
 
 expect-requires-2 : tie.Need-expect-requires-2 Inv-loop μ-loop
 expect-requires-2 c κs = search needs
 
 returns-2 : tie.Need-returns-2 Inv-loop μ-loop
 returns-2 c =
-    row-read (c .before .before .before .before .before .before .args .into) (c .before .before .before .before .before .before .args .from) (c .before .before .before .loop .count) (c .before .before .before .loop .addresses) (c .before .before .before .before .expect .ensures) (c .before .before .before .loop .inv)
-    (goes-end (c .before .before .before .before .before .before .args .text .now) (c .before .before .before .loop .count) 4 (c .before .before .before .loop .i) 9 (c .before .before .goes-on .ensures) (c .before .if1 .left)) (c .expect2 .ensures)
+    let at-loop = c .before .before .before in
+    let at-expect = at-loop .before in
+    let s = at-expect .before .before in
+    row-read (s .args .into) (s .args .from) (at-loop .loop .count) (at-loop .loop .addresses) (at-expect .expect .ensures) (at-loop .loop .inv)
+    (goes-end (s .args .text .now) (at-loop .loop .count) 4 (at-loop .loop .i) 9 (c .before .before .goes-on .ensures) (c .before .if1 .left)) (c .expect2 .ensures)
 
 pub read-row-spec : {M : Type 1} → statement M
 read-row-spec =

@@ -25,47 +25,86 @@ goes-on-requires c κs = search needs
 
 read-row-requires : tie.Need-read-row-requires Inv-loop μ-loop
 read-row-requires c κs =
+    let s′ = c .before .before .before .before in
     let s = c .before .before .loop in
-    omega (arith, rows-total (s .count) (s .lengths) (s .total) (s .addresses) (s .inv), goes-room (c .before .before .before .before .args .text .now) (s .count) 3 (s .i) 82 (c .before .goes-on .ensures) (c .if1 .taken))
+    omega (arith, rows-total (s .count) (s .lengths) (s .total) (s .addresses) (s .inv), goes-room (s′ .args .text .now) (s .count) 3 (s .i) 82 (c .before .goes-on .ensures) (c .if1 .taken))
 
 returns : tie.Need-returns Inv-loop μ-loop
 returns c =
+    let at-read-row = c .before .before in
+    let at-goes-on = at-read-row .before .before in
+    let s′ = at-goes-on .before .before .before in
     let s = c .before .before .before .before .before .loop in
-    rows-none (s .count) (s .lengths) (s .total) (s .addresses) (s .inv) (goes-mark (c .before .before .before .before .before .before .before .args .text .now) (s .count) 3 (s .i) 82 (c .before .before .before .before .goes-on .ensures) (c .before .before .before .if1 .taken))
-    (missing-there (c .before .before .read-row .ensures) (not-true (c .before .before .read-row .result .right) (c .if2 .taken)))
+    rows-none (s .count) (s .lengths) (s .total) (s .addresses) (s .inv) (goes-mark (s′ .args .text .now) (s .count) 3 (s .i) 82 (at-goes-on .goes-on .ensures) (c .before .before .before .if1 .taken))
+    (missing-there (at-read-row .read-row .ensures) (not-true (at-read-row .read-row .result .right) (c .if2 .taken)))
 
 cast-place : tie.Need-cast-place Inv-loop μ-loop
-cast-place c = let s = c .before .before .before .before .before .loop in omega (arith, goes-room (c .before .before .before .before .before .before .before .args .text .now) (s .count) 3 (s .i) 82 (c .before .before .before .before .goes-on .ensures) (c .before .before .before .if1 .taken))
+cast-place c =
+    let at-goes-on = c .before .before .before .before in
+    let s′ = at-goes-on .before .before .before in
+    let s = c .before .before .before .before .before .loop in
+    omega (arith, goes-room (s′ .args .text .now) (s .count) 3 (s .i) 82 (at-goes-on .goes-on .ensures) (c .before .before .before .if1 .taken))
 
 mul-lengths : tie.Need-mul-lengths Inv-loop μ-loop
-mul-lengths c = let s = c .before .before .before .before .before .loop in omega (arith, goes-room (c .before .before .before .before .before .before .before .args .text .now) (s .count) 3 (s .i) 82 (c .before .before .before .before .goes-on .ensures) (c .before .before .before .if1 .taken))
+mul-lengths c =
+    let at-goes-on = c .before .before .before .before in
+    let s′ = at-goes-on .before .before .before in
+    let s = c .before .before .before .before .before .loop in
+    omega (arith, goes-room (s′ .args .text .now) (s .count) 3 (s .i) 82 (at-goes-on .goes-on .ensures) (c .before .before .before .if1 .taken))
 
 array-write-lengths : tie.Need-array-write-lengths Inv-loop μ-loop
-array-write-lengths c = let s = c .before .before .before .before .before .loop in omega (arith, goes-room (c .before .before .before .before .before .before .before .args .text .now) (s .count) 3 (s .i) 82 (c .before .before .before .before .goes-on .ensures) (c .before .before .before .if1 .taken))
+array-write-lengths c =
+    let at-goes-on = c .before .before .before .before in
+    let s′ = at-goes-on .before .before .before in
+    let s = c .before .before .before .before .before .loop in
+    omega (arith, goes-room (s′ .args .text .now) (s .count) 3 (s .i) 82 (at-goes-on .goes-on .ensures) (c .before .before .before .if1 .taken))
 
 add-total : tie.Need-add-total Inv-loop μ-loop
 add-total c =
+    let at-read-row = c .before .before .before in
+    let at-if1 = at-read-row .before in
+    let at-goes-on = at-if1 .before in
+    let s′ = at-goes-on .before .before .before in
     let s = c .before .before .before .before .before .before .loop in
-    let f = found-there (c .before .before .before .read-row .ensures) (not-false (c .before .before .before .read-row .result .right) (c .before .if2 .left)) in
-    omega (arith, rows-total (s .count) (s .lengths) (s .total) (s .addresses) (s .inv), goes-room (c .before .before .before .before .before .before .before .before .args .text .now) (s .count) 3 (s .i) 82 (c .before .before .before .before .before .goes-on .ensures) (c .before .before .before .before .if1 .taken), f .within .few, f .says .0)
+    let f = found-there (at-read-row .read-row .ensures) (not-false (at-read-row .read-row .result .right) (c .before .if2 .left)) in
+    omega (
+      arith,
+      rows-total (s .count) (s .lengths) (s .total) (s .addresses) (s .inv),
+      goes-room (s′ .args .text .now) (s .count) 3 (s .i) 82 (at-goes-on .goes-on .ensures) (at-if1 .if1 .taken),
+      f .within .few,
+      f .says .0,
+    )
 
 add-count : tie.Need-add-count Inv-loop μ-loop
-add-count c = let s = c .before .before .before .before .before .before .loop in omega (arith, goes-room (c .before .before .before .before .before .before .before .before .args .text .now) (s .count) 3 (s .i) 82 (c .before .before .before .before .before .goes-on .ensures) (c .before .before .before .before .if1 .taken))
+add-count c =
+    let at-if1 = c .before .before .before .before in
+    let at-goes-on = at-if1 .before in
+    let s′ = at-goes-on .before .before .before in
+    let s = c .before .before .before .before .before .before .loop in omega (arith, goes-room (s′ .args .text .now) (s .count) 3 (s .i) 82 (at-goes-on .goes-on .ensures) (at-if1 .if1 .taken))
 
 loop-less : tie.Need-loop-less Inv-loop μ-loop
-loop-less c = let s = c .before .before .before .before .before .before .loop in omega (arith, goes-room (c .before .before .before .before .before .before .before .before .args .text .now) (s .count) 3 (s .i) 82 (c .before .before .before .before .before .goes-on .ensures) (c .before .before .before .before .if1 .taken))
+loop-less c =
+    let at-if1 = c .before .before .before .before in
+    let at-goes-on = at-if1 .before in
+    let s′ = at-goes-on .before .before .before in
+    let s = c .before .before .before .before .before .before .loop in omega (arith, goes-room (s′ .args .text .now) (s .count) 3 (s .i) 82 (at-goes-on .goes-on .ensures) (at-if1 .if1 .taken))
 
 loop-again : tie.Need-loop-again Inv-loop μ-loop
 loop-again c =
+    let at-read-row = c .before .before .before in
+    let at-if1 = at-read-row .before in
+    let at-goes-on = at-if1 .before in
+    let s′ = at-goes-on .before .before .before in
     let s = c .before .before .before .before .before .before .loop in
-    let r = c .before .before .before .read-row .result in
-    rows-again (s .count) (s .lengths) (s .total) (s .addresses) (r .count) (r .addresses) (s .inv) (found-there (c .before .before .before .read-row .ensures) (not-false (r .right) (c .before .if2 .left)))
-    (goes-room (c .before .before .before .before .before .before .before .before .args .text .now) (s .count) 3 (s .i) 82 (c .before .before .before .before .before .goes-on .ensures) (c .before .before .before .before .if1 .taken))
+    let r = at-read-row .read-row .result in
+    rows-again (s .count) (s .lengths) (s .total) (s .addresses) (r .count) (r .addresses) (s .inv) (found-there (at-read-row .read-row .ensures) (not-false (r .right) (c .before .if2 .left)))
+    (goes-room (s′ .args .text .now) (s .count) 3 (s .i) 82 (at-goes-on .goes-on .ensures) (at-if1 .if1 .taken))
 
 returns-2 : tie.Need-returns-2 Inv-loop μ-loop
 returns-2 c =
+    let s′ = c .before .before .before .before in
     let s = c .before .before .loop in
-    rows-read (s .count) (s .lengths) (s .total) (s .addresses) (s .inv) (goes-end (c .before .before .before .before .args .text .now) (s .count) 3 (s .i) 82 (c .before .goes-on .ensures) (c .if1 .left))
+    rows-read (s .count) (s .lengths) (s .total) (s .addresses) (s .inv) (goes-end (s′ .args .text .now) (s .count) 3 (s .i) 82 (c .before .goes-on .ensures) (c .if1 .left))
 
 pub read-rows-spec : {M : Type 1} → statement M
 read-rows-spec =

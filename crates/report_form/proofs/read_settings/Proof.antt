@@ -38,9 +38,15 @@ expect-requires-2 c κs = search needs
 
 returns : tie.Need-returns
 returns c =
-    settings-reads (c .before .before .before .before .before .before .before .before .before .expect .ensures) (c .before .before .before .before .before .before .before .before .read-field .ensures) (c .before .before .before .before .before .before .before .read-field2 .ensures)
-    (reads-as (c .before .before .before .before .before .before .read-small-field .ensures) (sym (toZ-ofZ w8 (c .before .before .before .before .before .before .read-small-field .result .value) (record { sfits = c .struct-told .given .1 .0 .1 }))))
-    (c .before .before .before .before .before .read-order-field .ensures) (c .before .before .before .before .read-field3 .ensures) (c .before .before .before .read-field4 .ensures) (c .before .before .read-field5 .ensures) (c .before .expect2 .ensures)
+    let at-read-field3 = c .before .before .before .before in
+    let at-read-order-field = at-read-field3 .before in
+    let at-read-small-field = at-read-order-field .before in
+    let at-read-field2 = at-read-small-field .before in
+    let at-read-field = at-read-field2 .before in
+    let at-expect = at-read-field .before in
+    settings-reads (at-expect .expect .ensures) (at-read-field .read-field .ensures) (at-read-field2 .read-field2 .ensures)
+    (reads-as (at-read-small-field .read-small-field .ensures) (sym (toZ-ofZ w8 (at-read-small-field .read-small-field .result .value) (record { sfits = c .struct-told .given .1 .0 .1 }))))
+    (at-read-order-field .read-order-field .ensures) (at-read-field3 .read-field3 .ensures) (c .before .before .before .read-field4 .ensures) (c .before .before .read-field5 .ensures) (c .before .expect2 .ensures)
 
 pub read-settings-spec : {M : Type 1} → statement M
 read-settings-spec =

@@ -31,6 +31,7 @@ cast-t11 c =
 
 returns : tie.Need-returns
 returns c =
+    let s = c .before .before .before .before .before in
     let a = c .before .before .before .before .before .args in
     let v = c .before .read-number .result in
     let f = found-there (c .before .read-number .ensures) (c .if2 .taken) in
@@ -39,6 +40,7 @@ returns c =
 
 add-read-number : tie.Need-add-read-number
 add-read-number c =
+    let s = c .before .before .before in
     let a = c .before .before .before .args in
     omega (arith, inside (a .text .now) (a .at) (omega (arith, c .before .byte-at .ensures, c .if1 .left)))
 
@@ -52,30 +54,39 @@ minus-requires c κs =
 
 returns-2 : tie.Need-returns-2
 returns-2 c =
+    let at-read-number2 = c .before .before .before in
+    let at-if1 = at-read-number2 .before in
+    let at-byte-at = at-if1 .before in
+    let s = at-byte-at .before .before in
     let a = c .before .before .before .before .before .before .before .args in
-    let v = c .before .before .before .read-number2 .result in
+    let v = at-read-number2 .read-number2 .result in
     subst (λ (t : List ℕ). Reads smalls (λ z. z ≡ toZ w8 (ofZ w8 (c .minus .result))) (a .right) true t (drop (v .next) (a .text .now)))
-    (sym (byte-here (a .text .now) (a .at) 45 (omega arith) (sym (c .before .before .before .before .before .byte-at .ensures) ∙ c .before .before .before .before .if1 .left)))
-    (reads-found (c .before .before .before .read-number2 .ensures) (c .before .before .if3 .taken)
+    (sym (byte-here (a .text .now) (a .at) 45 (omega arith) (sym (at-byte-at .byte-at .ensures) ∙ at-if1 .if1 .left)))
+    (reads-found (at-read-number2 .read-number2 .ensures) (c .before .before .if3 .taken)
     (minus-found (drop (a .at + 1) (a .text .now)) (drop (v .next) (a .text .now)) (v .value) (toZ w8 (ofZ w8 (c .minus .result))) (c .before .if4 .taken) (sym (c .minus .ensures) ∙ sym (toZ-ofZ w8 (c .minus .result) (record { sfits = c .minus .ok })))))
 
 returns-3 : tie.Need-returns-3
 returns-3 c =
+    let s = c .before .before .before .before .before in
     let a = c .before .before .before .before .before .args in
     reads-missing (c .before .read-number .ensures) (c .if2 .left)
     (plus-missing (drop (a .at) (a .text .now)) (λ e. c .before .before .if1 .taken (c .before .before .before .byte-at .ensures ∙ sym (head-at (a .text .now) (a .at)) ∙ e)))
 
 returns-4 : tie.Need-returns-4
 returns-4 c =
+    let at-read-number2 = c .before .before in
+    let at-byte-at = at-read-number2 .before .before in
+    let s = at-byte-at .before .before in
     let a = c .before .before .before .before .before .before .args in
-    let v = c .before .before .read-number2 .result in
+    let v = at-read-number2 .read-number2 .result in
     subst (λ (t : List ℕ). Reads smalls (λ z. z ≡ pos 0) (a .right) false t (a .text .now))
-    (sym (byte-here (a .text .now) (a .at) 45 (omega arith) (sym (c .before .before .before .before .byte-at .ensures) ∙ c .before .before .before .if1 .left)))
-    (reads-spoiled (c .before .before .read-number2 .ensures) (c .before .if3 .taken)
+    (sym (byte-here (a .text .now) (a .at) 45 (omega arith) (sym (at-byte-at .byte-at .ensures) ∙ c .before .before .before .if1 .left)))
+    (reads-spoiled (at-read-number2 .read-number2 .ensures) (c .before .if3 .taken)
     (minus-zero (drop (a .at + 1) (a .text .now)) (drop (v .next) (a .text .now)) (v .value) (c .if4 .left)))
 
 returns-5 : tie.Need-returns-5
 returns-5 c =
+    let s = c .before .before .before .before .before in
     let a = c .before .before .before .before .before .args in
     subst (λ (t : List ℕ). Reads smalls (λ z. z ≡ pos 0) (a .right) false t (a .text .now))
     (sym (byte-here (a .text .now) (a .at) 45 (omega arith) (sym (c .before .before .before .byte-at .ensures) ∙ c .before .before .if1 .left)))

@@ -15,7 +15,9 @@ read-pairs-requires : tie.Need-read-pairs-requires
 read-pairs-requires c κs = search needs
 
 returns : tie.Need-returns
-returns c = word-reads (c .before .before .before .before .args .n) (c .before .before .expect .ensures) (c .before .read-small-field .ensures) (c .read-pairs .ensures)
+returns c =
+    let s = c .before .before .before .before in
+    word-reads (s .args .n) (c .before .before .expect .ensures) (c .before .read-small-field .ensures) (c .read-pairs .ensures)
 
 pub read-word-spec : {M : Type 1} → statement M
 read-word-spec =

@@ -28,30 +28,53 @@ read-word-requires c κs = search needs
 
 returns : tie.Need-returns Inv-loop μ-loop
 returns c =
-    words-none (c .before .before .before .before .before .before .before .args .n) (c .before .before .before .before .before .loop .count) (c .before .before .before .before .before .loop .inv) (goes-mark (c .before .before .before .before .before .before .before .args .text .now) (c .before .before .before .before .before .loop .count) 16 (c .before .before .before .before .before .loop .i) 87 (c .before .before .before .before .goes-on .ensures) (c .before .before .before .if1 .taken))
-    (missing-there (c .before .before .read-word .ensures) (not-true (c .before .before .read-word .result .right) (c .if2 .taken)))
+    let at-read-word = c .before .before in
+    let at-goes-on = at-read-word .before .before in
+    let at-loop = at-goes-on .before in
+    let s = at-loop .before .before in
+    words-none (s .args .n) (at-loop .loop .count) (at-loop .loop .inv)
+    (goes-mark (s .args .text .now) (at-loop .loop .count) 16 (at-loop .loop .i) 87 (at-goes-on .goes-on .ensures) (c .before .before .before .if1 .taken))
+    (missing-there (at-read-word .read-word .ensures) (not-true (at-read-word .read-word .result .right) (c .if2 .taken)))
 
 add-count : tie.Need-add-count Inv-loop μ-loop
-add-count c = omega (arith, goes-room (c .before .before .before .before .before .before .before .args .text .now) (c .before .before .before .before .before .loop .count) 16 (c .before .before .before .before .before .loop .i) 87 (c .before .before .before .before .goes-on .ensures) (c .before .before .before .if1 .taken))
+add-count c =
+    let at-goes-on = c .before .before .before .before in
+    let at-loop = at-goes-on .before in
+    let s = at-loop .before .before in
+    omega (arith, goes-room (s .args .text .now) (at-loop .loop .count) 16 (at-loop .loop .i) 87 (at-goes-on .goes-on .ensures) (c .before .before .before .if1 .taken))
 
 loop-less : tie.Need-loop-less Inv-loop μ-loop
-loop-less c = omega (arith, goes-room (c .before .before .before .before .before .before .before .args .text .now) (c .before .before .before .before .before .loop .count) 16 (c .before .before .before .before .before .loop .i) 87 (c .before .before .before .before .goes-on .ensures) (c .before .before .before .if1 .taken))
+loop-less c =
+    let at-goes-on = c .before .before .before .before in
+    let at-loop = at-goes-on .before in
+    let s = at-loop .before .before in
+    omega (arith, goes-room (s .args .text .now) (at-loop .loop .count) 16 (at-loop .loop .i) 87 (at-goes-on .goes-on .ensures) (c .before .before .before .if1 .taken))
 
 loop-again : tie.Need-loop-again Inv-loop μ-loop
 loop-again c =
-    words-again (c .before .before .before .before .before .before .before .args .n) (c .before .before .before .before .before .loop .count) (c .before .before .before .before .before .loop .inv) (found-there (c .before .before .read-word .ensures) (not-false (c .before .before .read-word .result .right) (c .if2 .left)))
-    (goes-room (c .before .before .before .before .before .before .before .args .text .now) (c .before .before .before .before .before .loop .count) 16 (c .before .before .before .before .before .loop .i) 87 (c .before .before .before .before .goes-on .ensures) (c .before .before .before .if1 .taken))
+    let at-read-word = c .before .before in
+    let at-goes-on = at-read-word .before .before in
+    let at-loop = at-goes-on .before in
+    let s = at-loop .before .before in
+    words-again (s .args .n) (at-loop .loop .count) (at-loop .loop .inv) (found-there (at-read-word .read-word .ensures) (not-false (at-read-word .read-word .result .right) (c .if2 .left)))
+    (goes-room (s .args .text .now) (at-loop .loop .count) 16 (at-loop .loop .i) 87 (at-goes-on .goes-on .ensures) (c .before .before .before .if1 .taken))
 
 returns-2 : tie.Need-returns-2 Inv-loop μ-loop
 returns-2 c =
+    let at-loop = c .before .before .before in
+    let s = at-loop .before .before in
     reads-off
-    (words-read (c .before .before .before .before .before .args .n) (c .before .before .before .loop .count) (c .before .before .before .loop .inv) (goes-end (c .before .before .before .before .before .args .text .now) (c .before .before .before .loop .count) 16 (c .before .before .before .loop .i) 87 (c .before .before .goes-on .ensures) (c .before .if1 .left))
-    (not-end {u = c .before .before .before .before .before .args .text .now} (c .before .before .before .before .before .args .text .now) (c .before .before .before .loop .i) (c .if3 .taken)))
+    (words-read (s .args .n) (at-loop .loop .count) (at-loop .loop .inv)
+    (goes-end (s .args .text .now) (at-loop .loop .count) 16 (at-loop .loop .i) 87 (c .before .before .goes-on .ensures) (c .before .if1 .left))
+    (not-end {u = s .args .text .now} (s .args .text .now) (at-loop .loop .i) (c .if3 .taken)))
 
 returns-3 : tie.Need-returns-3 Inv-loop μ-loop
 returns-3 c =
-    words-read (c .before .before .before .before .before .args .n) (c .before .before .before .loop .count) (c .before .before .before .loop .inv) (goes-end (c .before .before .before .before .before .args .text .now) (c .before .before .before .loop .count) 16 (c .before .before .before .loop .i) 87 (c .before .before .goes-on .ensures) (c .before .if1 .left))
-    (at-end (c .before .before .before .before .before .args .text .now) (c .before .before .before .loop .i) (c .if3 .left))
+    let at-loop = c .before .before .before in
+    let s = at-loop .before .before in
+    words-read (s .args .n) (at-loop .loop .count) (at-loop .loop .inv)
+    (goes-end (s .args .text .now) (at-loop .loop .count) 16 (at-loop .loop .i) 87 (c .before .before .goes-on .ensures) (c .before .if1 .left))
+    (at-end (s .args .text .now) (at-loop .loop .i) (c .if3 .left))
 
 pub read-words-spec : {M : Type 1} → statement M
 read-words-spec =

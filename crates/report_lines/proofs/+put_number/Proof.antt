@@ -46,7 +46,9 @@ put-number-put-byte-requires : (t : ℕ) → put-number-lts.Need-put-byte-requir
   put-number-below t,
   put-number.Post,
 ) (put-number-at t) put-number.Post
-put-number-put-byte-requires t c κs = omega (arith, c .before .before .before .pre .1, small-length (c .before .before .before .args .value) (c .before .if1 .taken))
+put-number-put-byte-requires t c κs =
+    let s = c .before .before .before in
+    omega (arith, s .pre .1, small-length (s .args .value) (c .before .if1 .taken))
 
 put-number-same-length : (t : ℕ) → put-number-lts.Need-same-length (
   put-byte-reads.Asked,
@@ -62,7 +64,10 @@ put-number-returns : (t : ℕ) → put-number-lts.Need-returns (
   put-number-below t,
   put-number.Post,
 ) (put-number-at t) put-number.Post
-put-number-returns t c = digit-wrote (c .before .before .before .before .before .before .args .value) (c .before .before .before .before .if1 .taken) (c .before .before .put-byte .ensures)
+put-number-returns t c =
+    let at-if1 = c .before .before .before .before in
+    let s = at-if1 .before .before in
+    digit-wrote (s .args .value) (at-if1 .if1 .taken) (c .before .before .put-byte .ensures)
 
 put-number-put-number-requires : (t : ℕ) → put-number-lts.Need-put-number-requires (
   put-byte-reads.Asked,
@@ -71,7 +76,8 @@ put-number-put-number-requires : (t : ℕ) → put-number-lts.Need-put-number-re
   put-number.Post,
 ) (put-number-at t) put-number.Post
 put-number-put-number-requires t c κs =
-    (omega (arith, c .before .before .before .pre .0, c .before .if1 .left), omega (arith, c .before .before .before .pre .1, more-length (c .before .before .before .args .value) (c .before .if1 .left)))
+    let s = c .before .before .before in
+    (omega (arith, s .pre .0, c .before .if1 .left), omega (arith, s .pre .1, more-length (s .args .value) (c .before .if1 .left)))
 
 put-number-cast-put-byte-2 : (t : ℕ) → put-number-lts.Need-cast-put-byte-2 (
   put-byte-reads.Asked,
@@ -95,7 +101,11 @@ put-number-put-byte-requires-2 : (t : ℕ) → put-number-lts.Need-put-byte-requ
   put-number-below t,
   put-number.Post,
 ) (put-number-at t) put-number.Post
-put-number-put-byte-requires-2 t c κs = omega (arith, c .before .before .before .before .before .before .before .pre .1, c .before .before .before .put-number .ensures .next, c .before .before .before .put-number .kept .0, more-length (c .before .before .before .before .before .before .before .args .value) (c .before .before .before .before .before .if1 .left))
+put-number-put-byte-requires-2 t c κs =
+    let at-put-number = c .before .before .before in
+    let at-if1 = at-put-number .before .before in
+    let s = at-if1 .before .before in
+    omega (arith, s .pre .1, at-put-number .put-number .ensures .next, at-put-number .put-number .kept .0, more-length (s .args .value) (at-if1 .if1 .left))
 
 put-number-same-length-2 : (t : ℕ) → put-number-lts.Need-same-length-2 (
   put-byte-reads.Asked,
@@ -103,7 +113,9 @@ put-number-same-length-2 : (t : ℕ) → put-number-lts.Need-same-length-2 (
   put-number-below t,
   put-number.Post,
 ) (put-number-at t) put-number.Post
-put-number-same-length-2 t c = c .before .before .put-byte2 .kept .0 ∙ c .before .before .before .before .before .before .put-number .kept .0
+put-number-same-length-2 t c =
+    let put-number = c .before .before .before .before .before .before .put-number in
+    c .before .before .put-byte2 .kept .0 ∙ put-number .kept .0
 
 put-number-returns-2 : (t : ℕ) → put-number-lts.Need-returns-2 (
   put-byte-reads.Asked,
@@ -111,7 +123,11 @@ put-number-returns-2 : (t : ℕ) → put-number-lts.Need-returns-2 (
   put-number-below t,
   put-number.Post,
 ) (put-number-at t) put-number.Post
-put-number-returns-2 t c = number-wrote (c .before .before .before .before .before .before .before .before .before .before .args .value) (c .before .before .before .before .before .before .before .before .if1 .left) (c .before .before .before .before .before .before .put-number .ensures) (c .before .before .put-byte2 .ensures)
+put-number-returns-2 t c =
+    let at-put-number = c .before .before .before .before .before .before in
+    let at-if1 = at-put-number .before .before in
+    let s = at-if1 .before .before in
+    number-wrote (s .args .value) (at-if1 .if1 .left) (at-put-number .put-number .ensures) (c .before .before .put-byte2 .ensures)
 
 pub +put-number-spec : {M : Type 1} → statement M
 +put-number-spec = close μ-put-number λ t. put-number-lts.spec (

@@ -23,13 +23,26 @@ same-length : tie.Need-same-length
 same-length c = search needs
 
 returns : tie.Need-returns
-returns c = subst (λ (b : Bool). Wrote (bchText b (c .before .before .before .before .before .before .before .args .corrected) ++ 10 ∷ []) (c .before .before .before .before .before .before .before .args .at) (now (c .before .before .before .before .before .before .before .args .out)) (c .before .before .put-text .result) (c .before .before .put-text .last .0)) (sym (c .before .before .before .before .before .if1 .taken)) (c .before .before .put-text .ensures)
+returns c =
+    let at-put-text = c .before .before in
+    let at-if1 = at-put-text .before .before .before in
+    let s = at-if1 .before .before in
+    subst
+    (λ (b : Bool). Wrote (bchText b (s .args .corrected) ++ 10 ∷ []) (s .args .at) (now (s .args .out)) (at-put-text .put-text .result) (at-put-text .put-text .last .0))
+    (sym (at-if1 .if1 .taken)) (at-put-text .put-text .ensures)
 
 same-length-2 : tie.Need-same-length-2
 same-length-2 c = search needs
 
 returns-2 : tie.Need-returns-2
-returns-2 c = subst (λ (b : Bool). Wrote (bchText b (c .before .before .before .before .before .before .args .corrected) ++ 10 ∷ []) (c .before .before .before .before .before .before .args .at) (now (c .before .before .before .before .before .before .args .out)) (c .before .before .put-field .result) (c .before .before .put-field .last .0)) (sym (c .before .before .before .before .if1 .left)) (c .before .before .put-field .ensures)
+returns-2 c =
+    let at-put-field = c .before .before in
+    let at-if1 = at-put-field .before .before in
+    let s = at-if1 .before .before in
+    subst
+    (λ (b : Bool).
+    Wrote (bchText b (s .args .corrected) ++ 10 ∷ []) (s .args .at) (now (s .args .out)) (at-put-field .put-field .result) (at-put-field .put-field .last .0))
+    (sym (at-if1 .if1 .left)) (at-put-field .put-field .ensures)
 
 pub put-bch-spec : {M : Type 1} → statement M
 put-bch-spec =

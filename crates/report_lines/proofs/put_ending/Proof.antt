@@ -26,13 +26,23 @@ same-length : tie.Need-same-length
 same-length c = search needs
 
 returns : tie.Need-returns
-returns c = subst (λ (b : Bool). Wrote (endingText b ++ 9 ∷ []) (c .before .before .before .before .before .before .before .args .at) (now (c .before .before .before .before .before .before .before .args .out)) (c .before .before .put-text .result) (c .before .before .put-text .last .0)) (sym (c .before .before .before .before .before .if1 .taken)) (c .before .before .put-text .ensures)
+returns c =
+    let at-put-text = c .before .before in
+    let at-if1 = at-put-text .before .before .before in
+    let s = at-if1 .before .before in
+    subst (λ (b : Bool). Wrote (endingText b ++ 9 ∷ []) (s .args .at) (now (s .args .out)) (at-put-text .put-text .result) (at-put-text .put-text .last .0))
+    (sym (at-if1 .if1 .taken)) (at-put-text .put-text .ensures)
 
 same-length-2 : tie.Need-same-length-2
 same-length-2 c = search needs
 
 returns-2 : tie.Need-returns-2
-returns-2 c = subst (λ (b : Bool). Wrote (endingText b ++ 9 ∷ []) (c .before .before .before .before .before .before .before .args .at) (now (c .before .before .before .before .before .before .before .args .out)) (c .before .before .put-text2 .result) (c .before .before .put-text2 .last .0)) (sym (c .before .before .before .before .before .if1 .left)) (c .before .before .put-text2 .ensures)
+returns-2 c =
+    let at-put-text2 = c .before .before in
+    let at-if1 = at-put-text2 .before .before .before in
+    let s = at-if1 .before .before in
+    subst (λ (b : Bool). Wrote (endingText b ++ 9 ∷ []) (s .args .at) (now (s .args .out)) (at-put-text2 .put-text2 .result) (at-put-text2 .put-text2 .last .0))
+    (sym (at-if1 .if1 .left)) (at-put-text2 .put-text2 .ensures)
 
 pub put-ending-spec : {M : Type 1} → statement M
 put-ending-spec =

@@ -21,7 +21,12 @@ same-length : tie.Need-same-length
 same-length c = search needs
 
 returns : tie.Need-returns
-returns c = subst (λ (n : ℕ). Wrote (stateText n ++ 9 ∷ []) (c .before .before .before .before .before .before .before .args .at) (now (c .before .before .before .before .before .before .before .args .out)) (c .before .before .put-text .result) (c .before .before .put-text .last .0)) (sym (c .before .before .before .before .before .if1 .taken)) (c .before .before .put-text .ensures)
+returns c =
+    let at-put-text = c .before .before in
+    let at-if1 = at-put-text .before .before .before in
+    let s = at-if1 .before .before in
+    subst (λ (n : ℕ). Wrote (stateText n ++ 9 ∷ []) (s .args .at) (now (s .args .out)) (at-put-text .put-text .result) (at-put-text .put-text .last .0))
+    (sym (at-if1 .if1 .taken)) (at-put-text .put-text .ensures)
 
 slice-aggregate-put-text-2 : tie.Need-slice-aggregate-put-text-2
 slice-aggregate-put-text-2 c = search needs
@@ -33,7 +38,12 @@ same-length-2 : tie.Need-same-length-2
 same-length-2 c = search needs
 
 returns-2 : tie.Need-returns-2
-returns-2 c = subst (λ (n : ℕ). Wrote (stateText n ++ 9 ∷ []) (c .before .before .before .before .before .before .before .before .args .at) (now (c .before .before .before .before .before .before .before .before .args .out)) (c .before .before .put-text2 .result) (c .before .before .put-text2 .last .0)) (sym (c .before .before .before .before .before .if2 .taken)) (c .before .before .put-text2 .ensures)
+returns-2 c =
+    let at-put-text2 = c .before .before in
+    let at-if2 = at-put-text2 .before .before .before in
+    let s = at-if2 .before .before .before in
+    subst (λ (n : ℕ). Wrote (stateText n ++ 9 ∷ []) (s .args .at) (now (s .args .out)) (at-put-text2 .put-text2 .result) (at-put-text2 .put-text2 .last .0))
+    (sym (at-if2 .if2 .taken)) (at-put-text2 .put-text2 .ensures)
 
 slice-aggregate-put-text-3 : tie.Need-slice-aggregate-put-text-3
 slice-aggregate-put-text-3 c = search needs
@@ -45,7 +55,12 @@ same-length-3 : tie.Need-same-length-3
 same-length-3 c = search needs
 
 returns-3 : tie.Need-returns-3
-returns-3 c = subst (λ (n : ℕ). Wrote (stateText n ++ 9 ∷ []) (c .before .before .before .before .before .before .before .before .before .args .at) (now (c .before .before .before .before .before .before .before .before .before .args .out)) (c .before .before .put-text3 .result) (c .before .before .put-text3 .last .0)) (sym (c .before .before .before .before .before .if3 .taken)) (c .before .before .put-text3 .ensures)
+returns-3 c =
+    let at-put-text3 = c .before .before in
+    let at-if3 = at-put-text3 .before .before .before in
+    let s = at-if3 .before .before .before .before in
+    subst (λ (n : ℕ). Wrote (stateText n ++ 9 ∷ []) (s .args .at) (now (s .args .out)) (at-put-text3 .put-text3 .result) (at-put-text3 .put-text3 .last .0))
+    (sym (at-if3 .if3 .taken)) (at-put-text3 .put-text3 .ensures)
 
 slice-aggregate-put-text-4 : tie.Need-slice-aggregate-put-text-4
 slice-aggregate-put-text-4 c = search needs
@@ -57,7 +72,14 @@ same-length-4 : tie.Need-same-length-4
 same-length-4 c = search needs
 
 returns-4 : tie.Need-returns-4
-returns-4 c = subst (λ (t : List ℕ). Wrote (t ++ 9 ∷ []) (c .before .before .before .before .before .before .before .before .before .args .at) (now (c .before .before .before .before .before .before .before .before .before .args .out)) (c .before .before .put-text4 .result) (c .before .before .put-text4 .last .0)) (unmet (c .before .before .before .before .before .before .before .before .before .args .state) (c .before .before .before .before .before .before .before .if1 .left) (c .before .before .before .before .before .before .if2 .left) (c .before .before .before .before .before .if3 .left)) (c .before .before .put-text4 .ensures)
+returns-4 c =
+    let at-put-text4 = c .before .before in
+    let at-if3 = at-put-text4 .before .before .before in
+    let at-if2 = at-if3 .before in
+    let at-if1 = at-if2 .before in
+    let s = at-if1 .before .before in
+    subst (λ (t : List ℕ). Wrote (t ++ 9 ∷ []) (s .args .at) (now (s .args .out)) (at-put-text4 .put-text4 .result) (at-put-text4 .put-text4 .last .0))
+    (unmet (s .args .state) (at-if1 .if1 .left) (at-if2 .if2 .left) (at-if3 .if3 .left)) (at-put-text4 .put-text4 .ensures)
 
 pub put-state-spec : {M : Type 1} → statement M
 put-state-spec =

@@ -20,23 +20,31 @@ shared-slice-read-out : tie.Need-shared-slice-read-out Inv-loop μ-loop
 shared-slice-read-out c = c .before .loop-test .taken
 
 add-out : tie.Need-add-out Inv-loop μ-loop
-add-out c = omega (arith, c .before .before .before .pre, c .before .before .before .good .0 .0, c .before .loop-test .taken)
+add-out c =
+    let s = c .before .before .before in
+    omega (arith, s .pre, s .good .0 .0, c .before .loop-test .taken)
 
 slice-write-out : tie.Need-slice-write-out Inv-loop μ-loop
 slice-write-out c =
+    let at-loop = c .before .before in
+    let s = at-loop .before in
     let a = c .before .before .before .args in
-    omega (arith, c .before .before .before .pre, copied-length (a .text .now) (a .at) (a .out .now) (c .before .before .loop .out) (c .before .before .loop .i) (c .before .before .loop .inv), c .before .loop-test .taken)
+    omega (arith, s .pre, copied-length (a .text .now) (a .at) (a .out .now) (at-loop .loop .out) (at-loop .loop .i) (at-loop .loop .inv), c .before .loop-test .taken)
 
 add-i : tie.Need-add-i Inv-loop μ-loop
-add-i c = omega (arith, c .before .before .before .pre, c .before .before .before .good .0 .0, c .before .loop-test .taken)
+add-i c =
+    let s = c .before .before .before in
+    omega (arith, s .pre, s .good .0 .0, c .before .loop-test .taken)
 
 loop-less : tie.Need-loop-less Inv-loop μ-loop
 loop-less c = omega (arith, c .before .loop-test .taken)
 
 loop-again : tie.Need-loop-again Inv-loop μ-loop
 loop-again c =
+    let at-loop = c .before .before in
+    let s = at-loop .before in
     let a = c .before .before .before .args in
-    copied-again (a .text .now) (a .at) (a .out .now) (c .before .before .loop .out) (c .before .before .loop .i) (c .before .before .loop .inv) (c .before .loop-test .taken)
+    copied-again (a .text .now) (a .at) (a .out .now) (at-loop .loop .out) (at-loop .loop .i) (at-loop .loop .inv) (c .before .loop-test .taken)
 
 add-result : tie.Need-add-result Inv-loop μ-loop
 add-result c = omega (arith, c .before .before .pre, c .before .before .good .0 .0, c .before .loop .inv .bound)

@@ -12,13 +12,19 @@ put-ending-requires : tie.Need-put-ending-requires
 put-ending-requires c κs = search needs
 
 put-field-requires : tie.Need-put-field-requires
-put-field-requires c κs = omega (arith, c .before .before .before .before .before .before .pre, c .before .before .before .put-ending .ensures .next, c .before .before .before .put-ending .kept .0, ending-length (c .before .before .before .before .before .before .args .stopped))
+put-field-requires c κs =
+    let at-put-ending = c .before .before .before in
+    let s = at-put-ending .before .before .before in
+    omega (arith, s .pre, at-put-ending .put-ending .ensures .next, at-put-ending .put-ending .kept .0, ending-length (s .args .stopped))
 
 same-length : tie.Need-same-length
 same-length c = search needs
 
 returns : tie.Need-returns
-returns c = wrote-line (endingText (c .before .before .before .before .before .before .before .before .before .args .stopped)) (c .before .before .before .before .before .before .put-ending .ensures) (c .before .before .put-field .ensures)
+returns c =
+    let at-put-ending = c .before .before .before .before .before .before in
+    let s = at-put-ending .before .before .before in
+    wrote-line (endingText (s .args .stopped)) (at-put-ending .put-ending .ensures) (c .before .before .put-field .ensures)
 
 pub write-first-spec : {M : Type 1} → statement M
 write-first-spec = tie.close (tie.spec put-ending-requires put-field-requires same-length returns)

@@ -13,13 +13,18 @@ put-text-requires : tie.Need-put-text-requires
 put-text-requires c κs = search needs
 
 put-field-requires : tie.Need-put-field-requires
-put-field-requires c κs = omega (arith, c .before .before .before .before .before .before .before .pre, c .before .before .before .put-text .ensures .next, c .before .before .before .put-text .kept .0)
+put-field-requires c κs =
+    let at-put-text = c .before .before .before in
+    let s = at-put-text .before .before .before .before in
+    omega (arith, s .pre, at-put-text .put-text .ensures .next, at-put-text .put-text .kept .0)
 
 same-length : tie.Need-same-length
 same-length c = search needs
 
 returns : tie.Need-returns
-returns c = wrote-then (c .before .before .before .before .before .before .put-text .ensures) (c .before .before .put-field .ensures)
+returns c =
+    let put-text = c .before .before .before .before .before .before .put-text in
+    wrote-then (put-text .ensures) (c .before .before .put-field .ensures)
 
 pub write-refused-spec : {M : Type 1} → statement M
 write-refused-spec =

@@ -22,8 +22,10 @@ write-words-requires c κs = search needs
 returns : tie.Need-returns
 unfolding linesFor
 returns c =
-    let r = c .before .before .before .before .before .before .args .ran in
-    wrote-all (firstLine (r .stopped) (r .rounds)) (firstLines r (r .words)) (c .before .before .before .before .write-head .ensures) (c .before .write-words .ensures)
+    let at-write-head = c .before .before .before .before in
+    let s = at-write-head .before .before in
+    let r = s .args .ran in
+    wrote-all (firstLine (r .stopped) (r .rounds)) (firstLines r (r .words)) (at-write-head .write-head .ensures) (c .before .write-words .ensures)
 
 pub accepted-spec : {M : Type 1} → statement M
 accepted-spec =

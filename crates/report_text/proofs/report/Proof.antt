@@ -26,21 +26,27 @@ refused-requires c κs = search needs
 
 returns : tie.Need-returns
 returns c =
-    let n = refused (c .before .before .before .before .read .ensures) (c .before .if1 .taken) in
+    let read = c .before .before .before .before .read in
+    let n = refused (read .ensures) (c .before .if1 .taken) in
     inl (record { none = n .none; answer = c .refused .ensures })
 
 slice-aggregate-run : tie.Need-slice-aggregate-run
 slice-aggregate-run c = search needs
 
 run-requires : tie.Need-run-requires
-run-requires c κs = (limits (accepted (c .before .before .before .before .read .ensures) (c .before .if1 .left)), long-enough (c .before .before .before .before .read .kept .1 .0) (length-replicate {A = ℤ} 17952 (pos 0)))
+run-requires c κs =
+    let read = c .before .before .before .before .read in
+    (limits (accepted (read .ensures) (c .before .if1 .left)), long-enough (read .kept .1 .0) (length-replicate {A = ℤ} 17952 (pos 0)))
 
 lines-requires : tie.Need-lines-requires
-lines-requires c κs = run-writable (accepted (c .before .before .before .before .before .read .ensures) (c .before .before .if1 .left)) (c .run .ensures)
+lines-requires c κs =
+    let read = c .before .before .before .before .before .read in
+    run-writable (accepted (read .ensures) (c .before .before .if1 .left)) (c .run .ensures)
 
 returns-2 : tie.Need-returns-2
 returns-2 c =
-    let d = accepted (c .before .before .before .before .before .before .read .ensures) (c .before .before .before .if1 .left) in
+    let read = c .before .before .before .before .before .before .read in
+    let d = accepted (read .ensures) (c .before .before .before .if1 .left) in
     inr
     (record {
       description = d .description;

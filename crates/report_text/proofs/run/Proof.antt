@@ -30,16 +30,22 @@ array-share-prefix-lengths : tie.Need-array-share-prefix-lengths
 array-share-prefix-lengths c = search needs
 
 slice-aggregate-core : tie.Need-slice-aggregate-core
-slice-aggregate-core c = let s = c .before .before .before .before .before .before .before in sym (length-take-le (s .args .r .rows) (s .args .r .lengths) (omega (arith, s .pre .0 .rows, s .pre .0 .lengths)))
+slice-aggregate-core c =
+    let s = c .before .before .before .before .before .before .before in
+    sym (length-take-le (s .args .r .rows) (s .args .r .lengths) (omega (arith, s .pre .0 .rows, s .pre .0 .lengths)))
 
 array-share-prefix-addresses : tie.Need-array-share-prefix-addresses
 array-share-prefix-addresses c = search needs
 
 slice-aggregate-core-2 : tie.Need-slice-aggregate-core-2
-slice-aggregate-core-2 c = let s = c .before .before .before .before .before .before .before .before in sym (length-take-le (s .args .r .total) (s .args .r .addresses) (omega (arith, s .pre .0 .total, s .pre .0 .addresses)))
+slice-aggregate-core-2 c =
+    let s = c .before .before .before .before .before .before .before .before in
+    sym (length-take-le (s .args .r .total) (s .args .r .addresses) (omega (arith, s .pre .0 .total, s .pre .0 .addresses)))
 
 slice-aggregate-core-3 : tie.Need-slice-aggregate-core-3
-slice-aggregate-core-3 c = let s = c .before .before .before .before .before .before .before .before .before in sym (length-take-le (s .args .r .words * s .args .r .n) (s .args .soft .now) (omega (arith, s .pre .1, size-fits (s .args .r) (s .pre .0))))
+slice-aggregate-core-3 c =
+    let s = c .before .before .before .before .before .before .before .before .before in
+    sym (length-take-le (s .args .r .words * s .args .r .n) (s .args .soft .now) (omega (arith, s .pre .1, size-fits (s .args .r) (s .pre .0))))
 
 slice-aggregate-core-4 : tie.Need-slice-aggregate-core-4
 slice-aggregate-core-4 c = search needs
@@ -55,7 +61,8 @@ core-requires c κs = search needs
 
 returns : tie.Need-returns
 returns c =
-    run-on (c .before .before .before .before .before .before .before .before .before .before .settings .ensures) (c .before .before .before .core .ensures) (length-replicate {A = ℕ} 17952 0) (length-replicate {A = ℤ} 49356 (pos 0)) (length-replicate {A = ℕ} 4114 0)
+    let settings = c .before .before .before .before .before .before .before .before .before .before .settings in
+    run-on (settings .ensures) (c .before .before .before .core .ensures) (length-replicate {A = ℕ} 17952 0) (length-replicate {A = ℤ} 49356 (pos 0)) (length-replicate {A = ℕ} 4114 0)
 
 pub run-spec : {M : Type 1} → statement M
 run-spec =

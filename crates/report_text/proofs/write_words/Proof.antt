@@ -47,9 +47,10 @@ element-copy-out-write-line-4 c = search needs
 
 write-line-requires : tie.Need-write-line-requires Inv-loop μ-loop
 write-line-requires c κs =
+    let loop-test = c .before .before .before .before .before .loop-test in
     let s = c .before .before .before .before .before .before .before .before in
     let l = c .before .before .before .before .before .before .loop in
-    (omega (arith, s .pre .0 .few, s .pre .1, l .inv .place, c .before .before .before .before .before .loop-test .taken, wrote-length (l .inv .wrote)), s .pre .0 .states (l .w))
+    (omega (arith, s .pre .0 .few, s .pre .1, l .inv .place, loop-test .taken, wrote-length (l .inv .wrote)), s .pre .0 .states (l .w))
 
 add-w : tie.Need-add-w Inv-loop μ-loop
 add-w c = search needs
@@ -60,18 +61,21 @@ loop-less c = search needs
 loop-again : tie.Need-loop-again Inv-loop μ-loop
 unfolding resultIn
 loop-again c =
+    let at-loop-test = c .before .before .before .before .before .before .before .before in
+    let s = at-loop-test .before .before .before in
     let a = c .before .before .before .before .before .before .before .before .before .before .before .args in
     let l = c .before .before .before .before .before .before .before .before .before .loop in
-    writing-again (a .t3) (a .at) (a .out .now) (l .next) (l .out) (l .w) (l .inv) (c .before .before .before .before .before .before .before .before .loop-test .taken) (c .before .before .write-line .ensures)
+    writing-again (a .t3) (a .at) (a .out .now) (l .next) (l .out) (l .w) (l .inv) (at-loop-test .loop-test .taken) (c .before .before .write-line .ensures)
 
 same-length : tie.Need-same-length Inv-loop μ-loop
 same-length c = wrote-length (c .before .loop .inv .wrote)
 
 returns : tie.Need-returns Inv-loop μ-loop
 returns c =
+    let s = c .before .before .before in
     let a = c .before .before .before .args in
     let l = c .before .loop in
-    writing-end (a .t3) (a .at) (a .out .now) (l .next) (l .out) (l .w) (c .before .before .before .pre .0 .few) (l .inv) (c .loop-test .left)
+    writing-end (a .t3) (a .at) (a .out .now) (l .next) (l .out) (l .w) (s .pre .0 .few) (l .inv) (c .loop-test .left)
 
 pub write-words-spec : {M : Type 1} → statement M
 write-words-spec =

@@ -40,10 +40,14 @@ chunk-requires c κs =
     )
 
 add-at : tie.Need-add-at Inv-loop μ-loop
-add-at c = let w = c .before .before .before .chunk .ensures .0 in record { fits = omega (arith, w .1, c .before .before .before .before .before .before .before .before .before .before .fits .lanes .fits) }
+add-at c =
+    let s = c .before .before .before .before .before .before .before .before .before .before in
+    let w = c .before .before .before .chunk .ensures .0 in record { fits = omega (arith, w .1, s .fits .lanes .fits) }
 
 loop-less : tie.Need-loop-less Inv-loop μ-loop
-loop-less c = let w = c .before .before .before .chunk .ensures .0 in omega (arith, w .0, w .1, c .before .before .before .before .before .before .before .loop-test .taken)
+loop-less c =
+    let loop-test = c .before .before .before .before .before .before .before .loop-test in
+    let w = c .before .before .before .chunk .ensures .0 in omega (arith, w .0, w .1, loop-test .taken)
 
 loop-again : tie.Need-loop-again Inv-loop μ-loop
 loop-again c =

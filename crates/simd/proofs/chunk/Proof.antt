@@ -27,8 +27,12 @@ same-length-3 c = search needs
 
 returns : tie.Need-returns
 returns c =
-    let s = c .before .before .before .before .before .before .before .before .before in
-    ((omega arith, omega (arith, s .pre .1 .0, c .before .before .before .before .before .before .before .if1 .taken)), part-offset (λ o. checkColumn o (var (s .args .rows .now)) (s .args .s) (s .args .d) (s .args .n)) (plain (s .args .offset) (s .fits .offset)) (c .before .before .before .two-chunks .ensures))
+    let if1 = c .before .before .before .before .before .before .before .if1 in
+    let s = c .before .before .before .before .before .before .before .before .before in (
+      (omega arith, omega (arith, s .pre .1 .0, if1 .taken)),
+      part-offset (λ o. checkColumn o (var (s .args .rows .now)) (s .args .s) (s .args .d) (s .args .n)) (plain (s .args .offset) (s .fits .offset))
+          (c .before .before .before .two-chunks .ensures),
+    )
 
 sub-width : tie.Need-sub-width
 sub-width c = search needs

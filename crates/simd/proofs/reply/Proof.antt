@@ -40,8 +40,10 @@ reply-requires c κs = let s = c .before .before .before .before .before in s .p
 
 add-u : tie.Need-add-u Inv-loop μ-loop
 add-u c =
+    let at-loop-test = c .before .before .before .before .before in
+    let at-loop = at-loop-test .before in
     let s = c .before .before .before .before .before .before .before .before in
-    record { fits = omega (arith, row-fits (s .pre .0) (s .args .n + (s .args .s + c .before .before .before .before .before .before .loop .k)) (omega (arith, s .pre .0 .edges, c .before .before .before .before .before .loop-test .taken)), s .good) }
+    record { fits = omega (arith, row-fits (s .pre .0) (s .args .n + (s .args .s + at-loop .loop .k)) (omega (arith, s .pre .0 .edges, at-loop-test .loop-test .taken)), s .good) }
 
 store-lanes-requires : tie.Need-store-lanes-requires Inv-loop μ-loop
 store-lanes-requires c κs =

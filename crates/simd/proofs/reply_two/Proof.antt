@@ -37,10 +37,14 @@ load-requires-2 : tie.Need-load-requires-2 Inv-loop μ-loop
 load-requires-2 c κs = let s = c .before .before .before .before .before in omega (arith, s .pre .1 .0 .1 .1, s .pre .0 .degree, c .before .before .loop-test .taken)
 
 reply-requires : tie.Need-reply-requires Inv-loop μ-loop
-reply-requires c κs = c .before .before .before .before .before .before .pre .1 .1 .0
+reply-requires c κs =
+    let s = c .before .before .before .before .before .before in
+    s .pre .1 .1 .0
 
 reply-requires-2 : tie.Need-reply-requires-2 Inv-loop μ-loop
-reply-requires-2 c κs = c .before .before .before .before .before .before .before .pre .1 .1 .1
+reply-requires-2 c κs =
+    let s = c .before .before .before .before .before .before .before in
+    s .pre .1 .1 .1
 
 add-r : tie.Need-add-r Inv-loop μ-loop
 add-r c =
@@ -53,8 +57,10 @@ store-requires : tie.Need-store-requires Inv-loop μ-loop
 store-requires c κs =
     let t = c .before .before .before .before .before .before .before .before in
     let h = t .before in
-    let s = h .before .before in
-    (omega (arith, row-room (s .pre .0) (s .args .n + (s .args .s + h .loop .k)) (omega (arith, s .pre .0 .edges, t .loop-test .taken)), h .loop .inv .1 .0), (omega (arith, s .pre .1 .0 .0), omega arith))
+    let s = h .before .before in (
+      omega (arith, row-room (s .pre .0) (s .args .n + (s .args .s + h .loop .k)) (omega (arith, s .pre .0 .edges, t .loop-test .taken)), h .loop .inv .1 .0),
+      (omega (arith, s .pre .1 .0 .0), omega arith),
+    )
 
 store-requires-2 : tie.Need-store-requires-2 Inv-loop μ-loop
 store-requires-2 c κs =
@@ -78,8 +84,16 @@ store-requires-3 c κs =
     let w = w2 .before .before .before in
     let t = w .before .before .before .before .before .before .before .before .before in
     let h = t .before in
-    let s = h .before .before in
-    (omega (arith, row-room (s .pre .0) (s .args .n + (s .args .s + h .loop .k)) (omega (arith, s .pre .0 .edges, t .loop-test .taken)), w .store .kept, w2 .store2 .kept, h .loop .inv .1 .0), (omega (arith, s .pre .1 .0 .0), omega arith))
+    let s = h .before .before in (
+      omega (
+        arith,
+        row-room (s .pre .0) (s .args .n + (s .args .s + h .loop .k)) (omega (arith, s .pre .0 .edges, t .loop-test .taken)),
+        w .store .kept,
+        w2 .store2 .kept,
+        h .loop .inv .1 .0,
+      ),
+      (omega (arith, s .pre .1 .0 .0), omega arith),
+    )
 
 add-store-2 : tie.Need-add-store-2 Inv-loop μ-loop
 add-store-2 c =
@@ -106,7 +120,10 @@ add-k c =
     record { fits = omega (arith, t .loop-test .taken, s .fits .d .fits) }
 
 loop-less : tie.Need-loop-less Inv-loop μ-loop
-loop-less c = omega (arith, c .before .before .before .before .before .before .before .before .before .before .before .before .before .before .before .before .before .before .before .before .before .loop-test .taken)
+loop-less c =
+    let loop-test =
+    c .before .before .before .before .before .before .before .before .before .before .before .before .before .before .before .before .before .before .before .before .before .loop-test in
+    omega (arith, loop-test .taken)
 
 loop-again : tie.Need-loop-again Inv-loop μ-loop
 loop-again c =

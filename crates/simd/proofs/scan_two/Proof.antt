@@ -11,7 +11,9 @@ use Rattle.simd.proofs.scan_two.Tie as tie
 
 abbrev Inv-loop : tie.InvT-loop
 Inv-loop rows s d a t₀ u₀ n lanes at one₀ two₀ k₀ t u one two k =
-    (k ≤ d) × (((length t ≡ length t₀) × (length u ≡ length u₀)) × (Scan (var rows) s n lanes at a k t (one .min1) (one .min2) (one .sign) × Scan (var rows) s n lanes (at + 16) a k u (two .min1) (two .min2) (two .sign)))
+    (k ≤ d) ×
+    (((length t ≡ length t₀) × (length u ≡ length u₀)) ×
+    (Scan (var rows) s n lanes at a k t (one .min1) (one .min2) (one .sign) × Scan (var rows) s n lanes (at + 16) a k u (two .min1) (two .min2) (two .sign)))
 
 abbrev μ-loop : tie.MeasureT-loop
 μ-loop rows s d a t₀ u₀ n lanes at one₀ two₀ k₀ t u one two k = d - k
@@ -51,24 +53,29 @@ load-requires c κs =
 load-requires-2 : tie.Need-load-requires-2 Inv-loop μ-loop
 load-requires-2 c κs =
     let s = c .before .before .before .before .before in
-    load-room (s .pre .0) (s .args .n + (s .args .s + c .before .before .before .loop .k)) (s .args .at) (omega (arith, s .pre .0 .edges, c .before .before .loop-test .taken)) (omega (arith, s .pre .1 .0))
+    load-room (s .pre .0) (s .args .n + (s .args .s + c .before .before .before .loop .k)) (s .args .at)
+    (omega (arith, s .pre .0 .edges, c .before .before .loop-test .taken)) (omega (arith, s .pre .1 .0))
 
 add-load : tie.Need-add-load Inv-loop μ-loop
 add-load c = search needs
 
 load-requires-3 : tie.Need-load-requires-3 Inv-loop μ-loop
 load-requires-3 c κs =
+    let at-variable = c .before .before in
+    let at-loop = at-variable .before .before in
     let s = c .before .before .before .before .before .before in
-    let v : c .before .before .variable .result < s .args .n = omega (arith, c .before .before .variable .ensures, value-row (s .pre .0) (c .before .before .before .before .loop .k) (c .before .before .before .loop-test .taken)) in
-    load-room (s .pre .0) (c .before .before .variable .result) (s .args .at + 16) (omega arith) (omega (arith, s .pre .1 .0))
+    let v : at-variable .variable .result < s .args .n = omega (arith, at-variable .variable .ensures, value-row (s .pre .0) (at-loop .loop .k) (c .before .before .before .loop-test .taken)) in
+    load-room (s .pre .0) (at-variable .variable .result) (s .args .at + 16) (omega arith) (omega (arith, s .pre .1 .0))
 
 add-load-2 : tie.Need-add-load-2 Inv-loop μ-loop
 add-load-2 c = search needs
 
 load-requires-4 : tie.Need-load-requires-4 Inv-loop μ-loop
 load-requires-4 c κs =
+    let at-loop-test = c .before .before .before .before in
+    let at-loop = at-loop-test .before in
     let s = c .before .before .before .before .before .before .before in
-    load-room (s .pre .0) (s .args .n + (s .args .s + c .before .before .before .before .before .loop .k)) (s .args .at + 16) (omega (arith, s .pre .0 .edges, c .before .before .before .before .loop-test .taken)) (omega (arith, s .pre .1 .0))
+    load-room (s .pre .0) (s .args .n + (s .args .s + at-loop .loop .k)) (s .args .at + 16) (omega (arith, s .pre .0 .edges, at-loop-test .loop-test .taken)) (omega (arith, s .pre .1 .0))
 
 scan-requires : tie.Need-scan-requires Inv-loop μ-loop
 scan-requires c κs = search needs
@@ -97,7 +104,9 @@ add-k c =
     record { fits = omega (arith, t .loop-test .taken, s .fits .d .fits) }
 
 loop-less : tie.Need-loop-less Inv-loop μ-loop
-loop-less c = omega (arith, c .before .before .before .before .before .before .before .before .before .before .before .before .before .before .before .loop-test .taken)
+loop-less c =
+    let loop-test = c .before .before .before .before .before .before .before .before .before .before .before .before .before .before .before .loop-test in
+    omega (arith, loop-test .taken)
 
 loop-again : tie.Need-loop-again Inv-loop μ-loop
 loop-again c =

@@ -9,7 +9,8 @@ use Rattle.simd_layered.proofs.answer.Statement.{statement}
 use Rattle.simd_layered.proofs.answer.Tie as tie
 
 abbrev Inv-loop : tie.InvT-loop
-Inv-loop rows s d a₀ t n lanes at w place flags sign least m1 m2 edges k₀ a k = (k ≤ d) × ((length a ≡ length a₀) × Told (sharedIn flags) w (var rows) s n (length rows) place lanes at t sign least m1 m2 a₀ k a)
+Inv-loop rows s d a₀ t n lanes at w place flags sign least m1 m2 edges k₀ a k =
+    (k ≤ d) × ((length a ≡ length a₀) × Told (sharedIn flags) w (var rows) s n (length rows) place lanes at t sign least m1 m2 a₀ k a)
 
 abbrev μ-loop : tie.MeasureT-loop
 μ-loop rows s d a₀ t n lanes at w place flags sign least m1 m2 edges k₀ a k = d - k
@@ -24,7 +25,8 @@ loop-holds c =
       search needs,
       (
         refl,
-        told-start (sharedIn (a .flags .now)) (a .w) (var (a .rows .now)) (a .s) (a .n) (length (a .rows .now)) (a .place) (a .lanes) (a .at) (a .t .now) (a .sign) (a .least) (a .m1) (a .m2) (a .a .now),
+        told-start (sharedIn (a .flags .now)) (a .w) (var (a .rows .now)) (a .s) (a .n) (length (a .rows .now)) (a .place) (a .lanes) (a .at) (a .t .now) (a .sign)
+            (a .least) (a .m1) (a .m2) (a .a .now),
       ),
     )
 
@@ -52,96 +54,164 @@ load-requires-2 c κs =
     omega (arith, load-room (s .pre .0 .0) (s .args .n + (s .args .s + h .loop .k)) (s .args .at) (omega (arith, s .pre .0 .0 .edges, q)) r, h .loop .inv .1 .0)
 
 reply-requires : tie.Need-reply-requires Inv-loop μ-loop
-reply-requires c κs = c .before .before .before .before .before .before .before .pre .1 .1 .1
+reply-requires c κs =
+    let s = c .before .before .before .before .before .before .before in
+    s .pre .1 .1 .1
 
 add-f : tie.Need-add-f Inv-loop μ-loop
 add-f c =
+    let at-loop-test = c .before .before .before .before .before .before .before in
+    let at-loop = at-loop-test .before in
     let s = c .before .before .before .before .before .before .before .before .before .before in
-    let q : c .before .before .before .before .before .before .before .before .loop .k < s .args .d = c .before .before .before .before .before .before .before .loop-test .taken in
+    let q : at-loop .loop .k < s .args .d = at-loop-test .loop-test .taken in
     record { fits = omega (arith, rows-fit s, s .pre .0 .0 .edges, s .pre .1 .1 .0, q, s .good) }
 
 add-tu : tie.Need-add-tu Inv-loop μ-loop
 add-tu c =
+    let at-loop-test = c .before .before .before .before .before .before .before in
+    let at-loop = at-loop-test .before in
     let s = c .before .before .before .before .before .before .before .before .before .before in
-    let q : c .before .before .before .before .before .before .before .before .loop .k < s .args .d = c .before .before .before .before .before .before .before .loop-test .taken in
+    let q : at-loop .loop .k < s .args .d = at-loop-test .loop-test .taken in
     record { fits = omega (arith, rows-fit s, s .pre .0 .0 .edges, s .pre .1 .1 .0, q, s .good) }
 
 add-tu-2 : tie.Need-add-tu-2 Inv-loop μ-loop
 add-tu-2 c =
+    let at-loop-test = c .before .before .before .before .before .before .before in
+    let at-loop = at-loop-test .before in
     let s = c .before .before .before .before .before .before .before .before .before .before in
-    let q : c .before .before .before .before .before .before .before .before .loop .k < s .args .d = c .before .before .before .before .before .before .before .loop-test .taken in
+    let q : at-loop .loop .k < s .args .d = at-loop-test .loop-test .taken in
     record { fits = omega (arith, rows-fit s, s .pre .0 .0 .edges, s .pre .1 .1 .0, q, s .good) }
 
 store-lanes-requires : tie.Need-store-lanes-requires Inv-loop μ-loop
 store-lanes-requires c κs =
+    let loop-test = c .before .before .before .before .before .before .before .before .loop-test in
     let s = c .before .before .before .before .before .before .before .before .before .before .before in
     let h = c .before .before .before .before .before .before .before .before .before in
-    let q : h .loop .k < s .args .d = c .before .before .before .before .before .before .before .before .loop-test .taken in (
+    let q : h .loop .k < s .args .d = loop-test .taken in (
       omega (arith, row-room (s .pre .0 .0) (s .args .n + length (s .args .rows .now) + (s .args .place + h .loop .k)) (omega (arith, s .pre .0 .0 .edges, s .pre .1 .1 .0, q)), h .loop .inv .1 .0),
       (s .pre .1 .0 .0, s .pre .1 .0 .1 .0),
     )
 
 mul-ou : tie.Need-mul-ou Inv-loop μ-loop
 mul-ou c =
+    let at-loop-test = c .before .before .before .before .before .before .before .before .before .before in
+    let at-loop = at-loop-test .before in
     let s = c .before .before .before .before .before .before .before .before .before .before .before .before .before in
-    let q : c .before .before .before .before .before .before .before .before .before .before .before .loop .k < s .args .d = c .before .before .before .before .before .before .before .before .before .before .loop-test .taken in
+    let q : at-loop .loop .k < s .args .d = at-loop-test .loop-test .taken in
     record { fits = omega (arith, rows-fit s, s .pre .0 .0 .edges, s .pre .1 .1 .0, q, s .good) }
 
 add-ou : tie.Need-add-ou Inv-loop μ-loop
 add-ou c =
+    let at-loop-test = c .before .before .before .before .before .before .before .before .before .before in
+    let at-loop = at-loop-test .before in
     let s = c .before .before .before .before .before .before .before .before .before .before .before .before .before in
-    let q : c .before .before .before .before .before .before .before .before .before .before .before .loop .k < s .args .d = c .before .before .before .before .before .before .before .before .before .before .loop-test .taken in
+    let q : at-loop .loop .k < s .args .d = at-loop-test .loop-test .taken in
     record { fits = omega (arith, rows-fit s, s .pre .0 .0 .edges, s .pre .1 .1 .0, q, s .good) }
 
 add-ou-2 : tie.Need-add-ou-2 Inv-loop μ-loop
 add-ou-2 c =
+    let at-loop-test = c .before .before .before .before .before .before .before .before .before .before in
+    let at-loop = at-loop-test .before in
     let s = c .before .before .before .before .before .before .before .before .before .before .before .before .before in
-    let q : c .before .before .before .before .before .before .before .before .before .before .before .loop .k < s .args .d = c .before .before .before .before .before .before .before .before .before .before .loop-test .taken in
+    let q : at-loop .loop .k < s .args .d = at-loop-test .loop-test .taken in
     record { fits = omega (arith, rows-fit s, s .pre .0 .0 .edges, s .pre .1 .1 .0, q, s .good) }
 
 store-lanes-requires-2 : tie.Need-store-lanes-requires-2 Inv-loop μ-loop
 store-lanes-requires-2 c κs =
+    let loop-test = c .before .before .before .before .before .before .before .before .before .before .before .loop-test in
     let s = c .before .before .before .before .before .before .before .before .before .before .before .before .before .before in
     let h = c .before .before .before .before .before .before .before .before .before .before .before .before in
-    let q : h .loop .k < s .args .d = c .before .before .before .before .before .before .before .before .before .before .before .loop-test .taken in (
-      omega (arith, row-room (s .pre .0 .0) (s .args .n + 2 * length (s .args .rows .now) + (s .args .place + h .loop .k)) (omega (arith, s .pre .0 .0 .edges, s .pre .1 .1 .0, q)), c .before .before .store-lanes .kept, h .loop .inv .1 .0),
+    let q : h .loop .k < s .args .d = loop-test .taken in (
+      omega (
+        arith,
+        row-room (s .pre .0 .0) (s .args .n + 2 * length (s .args .rows .now) + (s .args .place + h .loop .k)) (omega (arith, s .pre .0 .0 .edges, s .pre .1 .1 .0, q)),
+        c .before .before .store-lanes .kept,
+        h .loop .inv .1 .0,
+      ),
       (s .pre .1 .0 .0, s .pre .1 .0 .1 .0),
     )
 
 store-lanes-requires-3 : tie.Need-store-lanes-requires-3 Inv-loop μ-loop
 store-lanes-requires-3 c κs =
+    let at-store-lanes = c .before .before .before .before .before in
+    let at-loop-test = at-store-lanes .before .before .before .before .before .before .before .before .before in
     let s = c .before .before .before .before .before .before .before .before .before .before .before .before .before .before .before .before .before in
     let h = c .before .before .before .before .before .before .before .before .before .before .before .before .before .before .before in
-    let q : h .loop .k < s .args .d = c .before .before .before .before .before .before .before .before .before .before .before .before .before .before .loop-test .taken in (
-      omega (arith, row-room (s .pre .0 .0) (s .args .n + (s .args .s + h .loop .k)) (omega (arith, s .pre .0 .0 .edges, s .pre .1 .1 .0, q)), c .before .before .before .before .before .store-lanes .kept, c .before .before .store-lanes2 .kept, h .loop .inv .1 .0),
+    let q : h .loop .k < s .args .d = at-loop-test .loop-test .taken in (
+      omega (
+        arith,
+        row-room (s .pre .0 .0) (s .args .n + (s .args .s + h .loop .k)) (omega (arith, s .pre .0 .0 .edges, s .pre .1 .1 .0, q)),
+        at-store-lanes .store-lanes .kept,
+        c .before .before .store-lanes2 .kept,
+        h .loop .inv .1 .0,
+      ),
       (s .pre .1 .0 .0, s .pre .1 .0 .1 .0),
     )
 
 store-value-requires : tie.Need-store-value-requires Inv-loop μ-loop
 store-value-requires c κs =
-    let s = c .before .before .before .before .before .before .before .before .before .before .before .before .before .before .before .before .before .before .before .before in
+    let at-store-lanes2 = c .before .before .before .before .before in
+    let at-store-lanes = at-store-lanes2 .before .before .before in
+    let at-loop-test = at-store-lanes .before .before .before .before .before .before .before .before .before in
+    let s =
+    c .before .before .before .before .before .before .before .before .before .before .before .before .before .before .before .before .before .before .before .before in
     let h = c .before .before .before .before .before .before .before .before .before .before .before .before .before .before .before .before .before .before in
     let v = c .before .before .before .before .before .before .before .before .before .before .before .before .before .before .before .before .variable in
-    let q : v .result < s .args .n = omega (arith, v .ensures, value-row (s .pre .0 .0) (h .loop .k) (c .before .before .before .before .before .before .before .before .before .before .before .before .before .before .before .before .before .loop-test .taken)) in
-    ((omega (arith, row-room (s .pre .0 .0) (v .result) (omega arith), c .before .before .before .before .before .before .before .before .store-lanes .kept, c .before .before .before .before .before .store-lanes2 .kept, c .before .before .store-lanes3 .kept, h .loop .inv .1 .0), omega (arith, q, s .pre .0 .1)), (s .pre .1 .0 .0, s .pre .1 .0 .1 .0))
+    let q : v .result < s .args .n = omega (arith, v .ensures, value-row (s .pre .0 .0) (h .loop .k) (at-loop-test .loop-test .taken)) in (
+      (
+        omega (
+          arith,
+          row-room (s .pre .0 .0) (v .result) (omega arith),
+          at-store-lanes .store-lanes .kept,
+          at-store-lanes2 .store-lanes2 .kept,
+          c .before .before .store-lanes3 .kept,
+          h .loop .inv .1 .0,
+        ),
+        omega (arith, q, s .pre .0 .1),
+      ),
+      (s .pre .1 .0 .0, s .pre .1 .0 .1 .0),
+    )
 
 add-k : tie.Need-add-k Inv-loop μ-loop
-add-k c = record { fits = omega (arith, c .before .before .before .before .before .before .before .before .before .before .before .before .before .before .before .before .before .before .before .loop-test .taken, c .before .before .before .before .before .before .before .before .before .before .before .before .before .before .before .before .before .before .before .before .before .before .fits .d .fits) }
+add-k c =
+    let at-loop-test = c .before .before .before .before .before .before .before .before .before .before .before .before .before .before .before .before .before .before .before in
+    let s = at-loop-test .before .before .before in
+    record { fits = omega (arith, at-loop-test .loop-test .taken, s .fits .d .fits) }
 
 loop-less : tie.Need-loop-less Inv-loop μ-loop
-loop-less c = omega (arith, c .before .before .before .before .before .before .before .before .before .before .before .before .before .before .before .before .before .before .before .loop-test .taken)
+loop-less c =
+    let loop-test = c .before .before .before .before .before .before .before .before .before .before .before .before .before .before .before .before .before .before .before .loop-test in
+    omega (arith, loop-test .taken)
 
 loop-again : tie.Need-loop-again Inv-loop μ-loop
 loop-again c =
-    let s = c .before .before .before .before .before .before .before .before .before .before .before .before .before .before .before .before .before .before .before .before .before .before in
-    let h = c .before .before .before .before .before .before .before .before .before .before .before .before .before .before .before .before .before .before .before .before in
-    let q : h .loop .k < s .args .d = c .before .before .before .before .before .before .before .before .before .before .before .before .before .before .before .before .before .before .before .loop-test .taken in (
+    let at-store-lanes3 = c .before .before .before .before in
+    let at-store-lanes2 = at-store-lanes3 .before .before .before in
+    let at-store-lanes = at-store-lanes2 .before .before .before in
+    let at-reply = at-store-lanes .before .before .before .before in
+    let at-load2 = at-reply .before in
+    let at-load = at-load2 .before .before in
+    let at-variable = at-load .before in
+    let at-loop-test = at-variable .before in
+    let s =
+    c .before .before .before .before .before .before .before .before .before .before .before .before .before .before .before .before .before .before .before .before .before .before in
+    let h =
+    c .before .before .before .before .before .before .before .before .before .before .before .before .before .before .before .before .before .before .before .before in
+    let q : h .loop .k < s .args .d = at-loop-test .loop-test .taken in (
       omega (arith, q),
       (
-        omega (arith, c .before .before .before .before .before .before .before .before .before .before .store-lanes .kept, c .before .before .before .before .before .before .before .store-lanes2 .kept, c .before .before .before .before .store-lanes3 .kept, c .before .store-value .kept, h .loop .inv .1 .0),
-        told-again (s .pre .1 .0 .1 .0 .few) (omega (arith, s .pre .0 .0 .edges, q)) (λ k l. value-row (s .pre .0 .0) k (omega (arith, l, q)), (omega (arith, s .pre .0 .0 .edges, q), omega (arith, s .pre .1 .1 .0, q)))
-            (h .loop .inv .1 .1) (c .before .before .before .before .before .before .before .before .before .before .before .before .before .before .before .before .before .before .variable .ensures) (c .before .before .before .before .before .before .before .before .before .before .before .before .before .before .before .before .before .load .ensures) (c .before .before .before .before .before .before .before .before .before .before .before .before .before .before .before .load2 .ensures) (c .before .before .before .before .before .before .before .before .before .before .before .before .before .before .reply .ensures)
-            (c .before .before .before .before .before .before .before .before .before .before .store-lanes .ensures) (c .before .before .before .before .before .before .before .store-lanes2 .ensures) (c .before .before .before .before .store-lanes3 .ensures) (c .before .store-value .ensures),
+        omega (
+          arith,
+          at-store-lanes .store-lanes .kept,
+          at-store-lanes2 .store-lanes2 .kept,
+          at-store-lanes3 .store-lanes3 .kept,
+          c .before .store-value .kept,
+          h .loop .inv .1 .0,
+        ),
+        told-again (s .pre .1 .0 .1 .0 .few) (omega (arith, s .pre .0 .0 .edges, q))
+            (λ k l. value-row (s .pre .0 .0) k (omega (arith, l, q)), (omega (arith, s .pre .0 .0 .edges, q), omega (arith, s .pre .1 .1 .0, q))) (h .loop .inv .1 .1)
+            (at-variable .variable .ensures) (at-load .load .ensures) (at-load2 .load2 .ensures) (at-reply .reply .ensures) (at-store-lanes .store-lanes .ensures)
+            (at-store-lanes2 .store-lanes2 .ensures) (at-store-lanes3 .store-lanes3 .ensures) (c .before .store-value .ensures),
       ),
     )
 

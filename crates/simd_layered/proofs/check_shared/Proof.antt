@@ -26,7 +26,11 @@ loop-holds c =
       search needs,
       (
         refl,
-        ((refl, refl), upto-start (runColumn (sharedIn (a .flags .now)) (toZ w8 (ofZ w8 (a .offset))) (var (a .rows .now)) (a .s) (a .d) (a .n) (length (a .rows .now)) (a .place)) (a .lanes) (a .a .now)),
+        (
+          (refl, refl),
+          upto-start (runColumn (sharedIn (a .flags .now)) (toZ w8 (ofZ w8 (a .offset))) (var (a .rows .now)) (a .s) (a .d) (a .n) (length (a .rows .now)) (a .place))
+              (a .lanes) (a .a .now),
+        ),
       ),
     )
 
@@ -39,10 +43,14 @@ chunk-requires c κs =
     )
 
 add-at : tie.Need-add-at Inv-loop μ-loop
-add-at c = let w = c .before .before .before .chunk .ensures .0 in record { fits = omega (arith, w .1, c .before .before .before .before .before .before .before .before .before .before .fits .lanes .fits) }
+add-at c =
+    let s = c .before .before .before .before .before .before .before .before .before .before in
+    let w = c .before .before .before .chunk .ensures .0 in record { fits = omega (arith, w .1, s .fits .lanes .fits) }
 
 loop-less : tie.Need-loop-less Inv-loop μ-loop
-loop-less c = let w = c .before .before .before .chunk .ensures .0 in omega (arith, w .0, w .1, c .before .before .before .before .before .before .before .loop-test .taken)
+loop-less c =
+    let loop-test = c .before .before .before .before .before .before .before .loop-test in
+    let w = c .before .before .before .chunk .ensures .0 in omega (arith, w .0, w .1, loop-test .taken)
 
 loop-again : tie.Need-loop-again Inv-loop μ-loop
 loop-again c =
@@ -68,8 +76,11 @@ returns : tie.Need-returns Inv-loop μ-loop
 returns c =
     let s = c .before .before .before in
     let h = c .before in
-    subst (λ (o : ℤ). Checked (sharedIn (s .args .flags .now)) (s .args .rows .now) (s .args .s) (s .args .d) (s .args .n) (s .args .lanes) (s .args .place) o (s .args .a .now) (h .loop .a)) (plain (s .args .offset) (s .fits .offset))
-    (checked (s .pre .0 .0) (s .pre .1 .1 .1) (upto-end (omega (arith, c .loop-test .left)) (h .loop .inv .1 .1 .1)))
+    subst
+    (λ (o : ℤ).
+    Checked (sharedIn (s .args .flags .now)) (s .args .rows .now) (s .args .s) (s .args .d) (s .args .n) (s .args .lanes) (s .args .place) o (s .args .a .now)
+    (h .loop .a))
+    (plain (s .args .offset) (s .fits .offset)) (checked (s .pre .0 .0) (s .pre .1 .1 .1) (upto-end (omega (arith, c .loop-test .left)) (h .loop .inv .1 .1 .1)))
 
 pub check-shared-spec : {M : Type 1} → statement M
 check-shared-spec =

@@ -27,8 +27,13 @@ same-length-3 c = search needs
 
 returns : tie.Need-returns
 returns c =
-    let s = c .before .before .before .before .before .before .before .before .before in
-    ((omega arith, omega (arith, s .pre .1 .0 .0, c .before .before .before .before .before .before .before .if1 .taken)), part-offset (λ o. runColumn (sharedIn (s .args .flags .now)) o (var (s .args .rows .now)) (s .args .s) (s .args .d) (s .args .n) (length (s .args .rows .now)) (s .args .place)) (plain (s .args .offset) (s .fits .offset)) (c .before .before .before .two-chunks .ensures))
+    let if1 = c .before .before .before .before .before .before .before .if1 in
+    let s = c .before .before .before .before .before .before .before .before .before in (
+      (omega arith, omega (arith, s .pre .1 .0 .0, if1 .taken)),
+      part-offset
+          (λ o. runColumn (sharedIn (s .args .flags .now)) o (var (s .args .rows .now)) (s .args .s) (s .args .d) (s .args .n) (length (s .args .rows .now)) (s .args .place))
+          (plain (s .args .offset) (s .fits .offset)) (c .before .before .before .two-chunks .ensures),
+    )
 
 sub-width : tie.Need-sub-width
 sub-width c = search needs
@@ -41,8 +46,9 @@ scan-requires c κs = let s = c .before .before .before .before .before in (s .p
 
 finish-requires : tie.Need-finish-requires
 finish-requires c κs =
+    let width = c .before .before .before .before .before .before .width in
     let s = c .before .before .before .before .before .before .before .before .before in
-    let w = c .before .before .before .before .before .before .width .ensures in
+    let w = width .ensures in
     let k = c .before .before .before .scan in
     (s .pre .0, ((omega (arith, w .0, s .pre .1 .0 .0), (w .1, omega (arith, k .kept, s .pre .1 .0 .1 .0))), (s .pre .1 .1, k .ensures)))
 
@@ -54,9 +60,14 @@ same-length-5 c = search needs
 
 returns-2 : tie.Need-returns-2
 returns-2 c =
+    let width = c .before .before .before .before .before .before .before .before .width in
     let s = c .before .before .before .before .before .before .before .before .before .before .before in
-    let w = c .before .before .before .before .before .before .before .before .width .ensures in
-    ((w .1 .some, omega (arith, w .0, s .pre .1 .0 .0)), part-offset (λ o. runColumn (sharedIn (s .args .flags .now)) o (var (s .args .rows .now)) (s .args .s) (s .args .d) (s .args .n) (length (s .args .rows .now)) (s .args .place)) (plain (s .args .offset) (s .fits .offset)) (c .before .finish .ensures))
+    let w = width .ensures in (
+      (w .1 .some, omega (arith, w .0, s .pre .1 .0 .0)),
+      part-offset
+          (λ o. runColumn (sharedIn (s .args .flags .now)) o (var (s .args .rows .now)) (s .args .s) (s .args .d) (s .args .n) (length (s .args .rows .now)) (s .args .place))
+          (plain (s .args .offset) (s .fits .offset)) (c .before .finish .ensures),
+    )
 
 pub chunk-spec : {M : Type 1} → statement M
 chunk-spec =

@@ -20,6 +20,7 @@ same-length c = search needs
 
 returns-2 : tie.Need-returns-2
 returns-2 c =
+    let s = c .before .before .before .before .before in
     let a = c .before .before .before .before .before .args in
     stored-unless (sharedIn (a .flags .now) (a .v)) (c .before .before .before .if1 .left) (c .before .store-lanes .ensures)
 

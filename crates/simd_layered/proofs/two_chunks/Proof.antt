@@ -26,7 +26,9 @@ finish-requires c κs =
     )
 
 add-finish : tie.Need-add-finish
-add-finish c = let s = c .before .before .before .before .before .before .before .before .before .before .before .before .before .before .before in record { fits = omega (arith, s .pre .1 .0 .0, s .fits .lanes .fits) }
+add-finish c =
+    let s = c .before .before .before .before .before .before .before .before .before .before .before .before .before .before .before in
+    record { fits = omega (arith, s .pre .1 .0 .0, s .fits .lanes .fits) }
 
 finish-requires-2 : tie.Need-finish-requires-2
 finish-requires-2 c κs =
@@ -51,8 +53,11 @@ same-length-3 c = search needs
 
 returns : tie.Need-returns
 returns c =
+    let finish = c .before .before .before .before .before .finish in
     let s = c .before .before .before .before .before .before .before .before .before .before .before .before .before .before .before .before .before in
-    part-offset (λ o. runColumn (sharedIn (s .args .flags .now)) o (var (s .args .rows .now)) (s .args .s) (s .args .d) (s .args .n) (length (s .args .rows .now)) (s .args .place)) (plain (s .args .offset) (s .fits .offset)) (two-parts (s .pre .1 .0 .0) (c .before .before .before .before .before .finish .ensures) (c .before .finish2 .ensures))
+    part-offset
+    (λ o. runColumn (sharedIn (s .args .flags .now)) o (var (s .args .rows .now)) (s .args .s) (s .args .d) (s .args .n) (length (s .args .rows .now)) (s .args .place))
+    (plain (s .args .offset) (s .fits .offset)) (two-parts (s .pre .1 .0 .0) (finish .ensures) (c .before .finish2 .ensures))
 
 pub two-chunks-spec : {M : Type 1} → statement M
 two-chunks-spec =

@@ -24,13 +24,18 @@ slice-relend-prefix-replay-word : tie.Need-slice-relend-prefix-replay-word
 slice-relend-prefix-replay-word c = search needs
 
 slice-aggregate-replay-word : tie.Need-slice-aggregate-replay-word
-slice-aggregate-replay-word c = sym (length-take-le (c .before .before .before .four .result - 192) (c .before .before .before .before .before .before .before .args .message .now) (omega arith))
+slice-aggregate-replay-word c =
+    let s = c .before .before .before .before .before .before .before in
+    sym (length-take-le (c .before .before .before .four .result - 192) (s .args .message .now) (omega arith))
 
 slice-relend-prefix-replay-word-2 : tie.Need-slice-relend-prefix-replay-word-2
 slice-relend-prefix-replay-word-2 c = search needs
 
 slice-aggregate-replay-word-2 : tie.Need-slice-aggregate-replay-word-2
-slice-aggregate-replay-word-2 c = sym (length-take-le (c .before .before .before .before .four .result) (c .before .before .before .before .before .before .before .before .args .word .now) (omega arith))
+slice-aggregate-replay-word-2 c =
+    let at-four = c .before .before .before .before in
+    let s = at-four .before .before .before .before in
+    sym (length-take-le (at-four .four .result) (s .args .word .now) (omega arith))
 
 replay-word-requires : tie.Need-replay-word-requires
 replay-word-requires c κs =

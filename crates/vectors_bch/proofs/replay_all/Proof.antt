@@ -8,7 +8,8 @@ use Rattle.vectors_bch.proofs.replay_all.Statement.{statement}
 use Rattle.vectors_bch.proofs.replay_all.Tie as tie
 
 abbrev Inv-loop : tie.InvT-loop
-Inv-loop vector₀ message₀ word₀ compared₀ differ₀ vector message word compared differ = (compared ≤ 10000) × (differ ≤ compared) × (length vector ≡ length vector₀) × (length message ≡ length message₀) × (length word ≡ length word₀)
+Inv-loop vector₀ message₀ word₀ compared₀ differ₀ vector message word compared differ =
+    (compared ≤ 10000) × (differ ≤ compared) × (length vector ≡ length vector₀) × (length message ≡ length message₀) × (length word ≡ length word₀)
 
 abbrev μ-loop : tie.MeasureT-loop
 μ-loop vector₀ message₀ word₀ compared₀ differ₀ vector message word compared differ = 10000 - compared
