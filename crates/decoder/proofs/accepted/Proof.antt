@@ -52,9 +52,9 @@ slice-reshare-prefix-decoded c = search needs
 slice-aggregate-decoded : tie.Need-slice-aggregate-decoded
 slice-aggregate-decoded c =
     let at-build = c .before .before .before in
-    let s′ = at-build .before .before .before .before .before .before .before .before .before in
-    let s : length (at-build .build .last .1 .1 .1 .0) ≡ s′ .args .e + s′ .args .plan .p + 1 = at-build .build .kept .1 .1 .1 .0 ∙ length-take-le _ (s′ .args .index .now) (s′ .pre .0 .index-fits) in
-    sym (ap length (take-at (at-build .build .last .1 .1 .1 .0) _ _ s) ∙ s)
+    let s = at-build .before .before .before .before .before .before .before .before .before in
+    let e : length (at-build .build .last .1 .1 .1 .0) ≡ s .args .e + s .args .plan .p + 1 = at-build .build .kept .1 .1 .1 .0 ∙ length-take-le _ (s .args .index .now) (s .pre .0 .index-fits) in
+    sym (ap length (take-at (at-build .build .last .1 .1 .1 .0) _ _ e) ∙ e)
 
 slice-relend-prefix-decoded : tie.Need-slice-relend-prefix-decoded
 slice-relend-prefix-decoded c =
@@ -72,15 +72,15 @@ decoded-requires : tie.Need-decoded-requires
 decoded-requires c κs =
     let at-build = c .before .before .before .before .before in
     let at-work-need = at-build .before .before .before in
-    let s′ = at-work-need .before .before .before .before .before .before in
-    let P = s′ .pre .0 in
-    let s : length (at-build .build .last .1 .1 .1 .0) ≡ s′ .args .e + s′ .args .plan .p + 1 = at-build .build .kept .1 .1 .1 .0 ∙ length-take-le _ (s′ .args .index .now) (P .index-fits) in
-    let is = take-at (at-build .build .last .1 .1 .1 .0) (drop (s′ .args .e + s′ .args .plan .p + 1) (s′ .args .index .now)) _ s ∙ at-build .build .ensures in
-    let h : at-work-need .work-need .result ≤ length (s′ .args .work .now) = omega (arith, P .work-fits, at-work-need .work-need .ensures) in (
-      (given-so _ _ _ _ _ _ _ _ P _ is, P .out-fits, s′ .pre .1),
+    let s = at-work-need .before .before .before .before .before .before in
+    let P = s .pre .0 in
+    let e : length (at-build .build .last .1 .1 .1 .0) ≡ s .args .e + s .args .plan .p + 1 = at-build .build .kept .1 .1 .1 .0 ∙ length-take-le _ (s .args .index .now) (P .index-fits) in
+    let is = take-at (at-build .build .last .1 .1 .1 .0) (drop (s .args .e + s .args .plan .p + 1) (s .args .index .now)) _ e ∙ at-build .build .ensures in
+    let h : at-work-need .work-need .result ≤ length (s .args .work .now) = omega (arith, P .work-fits, at-work-need .work-need .ensures) in (
+      (given-so _ _ _ _ _ _ _ _ P _ is, P .out-fits, s .pre .1),
       (
         edges-so _ _ _ _ _ _ _ _ P _ is,
-        omega (arith, work-so _ _ _ _ _ _ _ _ P _ is (at-work-need .work-need .result) (at-work-need .work-need .ensures), length-take-le (at-work-need .work-need .result) (s′ .args .work .now) h),
+        omega (arith, work-so _ _ _ _ _ _ _ _ P _ is (at-work-need .work-need .result) (at-work-need .work-need .ensures), length-take-le (at-work-need .work-need .result) (s .args .work .now) h),
       ),
     )
 
@@ -88,21 +88,21 @@ slice-relend-prefix-clear-work : tie.Need-slice-relend-prefix-clear-work
 slice-relend-prefix-clear-work c =
     let at-decoded = c .before .before .before in
     let at-work-need = at-decoded .before .before .before .before .before .before .before .before .before in
-    let s′ = at-work-need .before .before .before .before .before .before in
-    let h : at-work-need .work-need .result ≤ length (s′ .args .work .now) = omega (arith, s′ .pre .0 .work-fits, at-work-need .work-need .ensures) in
-    let s : length (at-decoded .decoded .last .1 .1 .1 .1 .1 .1 .1 .1 .1 .1 .0) ≡ at-work-need .work-need .result =
-    at-decoded .decoded .kept .1 .1 .1 .1 .1 .1 .1 .1 .1 .1 .0 ∙ length-take-le _ (s′ .args .work .now) h in
-    omega (arith, h, prefix-length (at-work-need .work-need .result) (s′ .args .work .now) (at-decoded .decoded .last .1 .1 .1 .1 .1 .1 .1 .1 .1 .1 .0) h s)
+    let s = at-work-need .before .before .before .before .before .before in
+    let h : at-work-need .work-need .result ≤ length (s .args .work .now) = omega (arith, s .pre .0 .work-fits, at-work-need .work-need .ensures) in
+    let e : length (at-decoded .decoded .last .1 .1 .1 .1 .1 .1 .1 .1 .1 .1 .0) ≡ at-work-need .work-need .result =
+    at-decoded .decoded .kept .1 .1 .1 .1 .1 .1 .1 .1 .1 .1 .0 ∙ length-take-le _ (s .args .work .now) h in
+    omega (arith, h, prefix-length (at-work-need .work-need .result) (s .args .work .now) (at-decoded .decoded .last .1 .1 .1 .1 .1 .1 .1 .1 .1 .1 .0) h e)
 
 slice-aggregate-clear-work : tie.Need-slice-aggregate-clear-work
 slice-aggregate-clear-work c =
     let at-decoded = c .before .before .before .before in
     let at-work-need = at-decoded .before .before .before .before .before .before .before .before .before in
-    let s′ = at-work-need .before .before .before .before .before .before in
-    let h : at-work-need .work-need .result ≤ length (s′ .args .work .now) = omega (arith, s′ .pre .0 .work-fits, at-work-need .work-need .ensures) in
-    let s : length (at-decoded .decoded .last .1 .1 .1 .1 .1 .1 .1 .1 .1 .1 .0) ≡ at-work-need .work-need .result =
-    at-decoded .decoded .kept .1 .1 .1 .1 .1 .1 .1 .1 .1 .1 .0 ∙ length-take-le _ (s′ .args .work .now) h in
-    sym (ap length (take-at (at-decoded .decoded .last .1 .1 .1 .1 .1 .1 .1 .1 .1 .1 .0) _ _ s) ∙ s)
+    let s = at-work-need .before .before .before .before .before .before in
+    let h : at-work-need .work-need .result ≤ length (s .args .work .now) = omega (arith, s .pre .0 .work-fits, at-work-need .work-need .ensures) in
+    let e : length (at-decoded .decoded .last .1 .1 .1 .1 .1 .1 .1 .1 .1 .1 .0) ≡ at-work-need .work-need .result =
+    at-decoded .decoded .kept .1 .1 .1 .1 .1 .1 .1 .1 .1 .1 .0 ∙ length-take-le _ (s .args .work .now) h in
+    sym (ap length (take-at (at-decoded .decoded .last .1 .1 .1 .1 .1 .1 .1 .1 .1 .1 .0) _ _ e) ∙ e)
 
 clear-work-requires : tie.Need-clear-work-requires
 clear-work-requires c κs = search needs
@@ -110,17 +110,17 @@ clear-work-requires c κs = search needs
 slice-relend-prefix-clear-index : tie.Need-slice-relend-prefix-clear-index
 slice-relend-prefix-clear-index c =
     let at-build = c .before .before .before .before .before .before .before .before .before .before .before .before in
-    let s′ = at-build .before .before .before .before .before .before .before .before .before in
-    let P = s′ .pre .0 in
-    let s : length (at-build .build .last .1 .1 .1 .0) ≡ s′ .args .e + s′ .args .plan .p + 1 = at-build .build .kept .1 .1 .1 .0 ∙ length-take-le _ (s′ .args .index .now) (P .index-fits) in
-    omega (arith, P .index-fits, prefix-length (s′ .args .e + s′ .args .plan .p + 1) (s′ .args .index .now) (at-build .build .last .1 .1 .1 .0) (P .index-fits) s)
+    let s = at-build .before .before .before .before .before .before .before .before .before in
+    let P = s .pre .0 in
+    let e : length (at-build .build .last .1 .1 .1 .0) ≡ s .args .e + s .args .plan .p + 1 = at-build .build .kept .1 .1 .1 .0 ∙ length-take-le _ (s .args .index .now) (P .index-fits) in
+    omega (arith, P .index-fits, prefix-length (s .args .e + s .args .plan .p + 1) (s .args .index .now) (at-build .build .last .1 .1 .1 .0) (P .index-fits) e)
 
 slice-aggregate-clear-index : tie.Need-slice-aggregate-clear-index
 slice-aggregate-clear-index c =
     let at-build = c .before .before .before .before .before .before .before .before .before .before .before .before .before in
-    let s′ = at-build .before .before .before .before .before .before .before .before .before in
-    let s : length (at-build .build .last .1 .1 .1 .0) ≡ s′ .args .e + s′ .args .plan .p + 1 = at-build .build .kept .1 .1 .1 .0 ∙ length-take-le _ (s′ .args .index .now) (s′ .pre .0 .index-fits) in
-    sym (ap length (take-at (at-build .build .last .1 .1 .1 .0) _ _ s) ∙ s)
+    let s = at-build .before .before .before .before .before .before .before .before .before in
+    let e : length (at-build .build .last .1 .1 .1 .0) ≡ s .args .e + s .args .plan .p + 1 = at-build .build .kept .1 .1 .1 .0 ∙ length-take-le _ (s .args .index .now) (s .pre .0 .index-fits) in
+    sym (ap length (take-at (at-build .build .last .1 .1 .1 .0) _ _ e) ∙ e)
 
 clear-index-requires : tie.Need-clear-index-requires
 clear-index-requires c κs = search needs
@@ -140,22 +140,22 @@ returns c =
     let at-decoded = at-clear-work .before .before .before .before .before in
     let at-build = at-decoded .before .before .before .before .before .before in
     let at-work-need = at-build .before .before .before in
-    let s′ = at-work-need .before .before .before .before .before .before in
-    let P = s′ .pre .0 in
-    let s : length (at-build .build .last .1 .1 .1 .0) ≡ s′ .args .e + s′ .args .plan .p + 1 =
-    at-build .build .kept .1 .1 .1 .0 ∙ length-take-le _ (s′ .args .index .now) (P .index-fits) in
-    let h : at-work-need .work-need .result ≤ length (s′ .args .work .now) = omega (arith, P .work-fits, at-work-need .work-need .ensures) in
+    let s = at-work-need .before .before .before .before .before .before in
+    let P = s .pre .0 in
+    let e : length (at-build .build .last .1 .1 .1 .0) ≡ s .args .e + s .args .plan .p + 1 =
+    at-build .build .kept .1 .1 .1 .0 ∙ length-take-le _ (s .args .index .now) (P .index-fits) in
+    let h : at-work-need .work-need .result ≤ length (s .args .work .now) = omega (arith, P .work-fits, at-work-need .work-need .ensures) in
     let t : length (at-decoded .decoded .last .1 .1 .1 .1 .1 .1 .1 .1 .1 .1 .0) ≡ at-work-need .work-need .result =
-    at-decoded .decoded .kept .1 .1 .1 .1 .1 .1 .1 .1 .1 .1 .0 ∙ length-take-le _ (s′ .args .work .now) h in
-    accepts _ _ _ _ _ _ _ _ (P .fair .some-lanes) _ _ _ (decoded-to (plain (s′ .args .offset) (s′ .fits .offset)) (at-decoded .decoded .ensures)) _ _ _ _
-    (cleared (pos 0) (at-work-need .work-need .result) (s′ .args .work .now) (at-decoded .decoded .last .1 .1 .1 .1 .1 .1 .1 .1 .1 .1 .0) _ h t
+    at-decoded .decoded .kept .1 .1 .1 .1 .1 .1 .1 .1 .1 .1 .0 ∙ length-take-le _ (s .args .work .now) h in
+    accepts _ _ _ _ _ _ _ _ (P .fair .some-lanes) _ _ _ (decoded-to (plain (s .args .offset) (s .fits .offset)) (at-decoded .decoded .ensures)) _ _ _ _
+    (cleared (pos 0) (at-work-need .work-need .result) (s .args .work .now) (at-decoded .decoded .last .1 .1 .1 .1 .1 .1 .1 .1 .1 .1 .0) _ h t
     (at-clear-work .clear-work .ensures)
-    ∙ ap (λ (m : ℕ). replicate m (pos 0) ++ drop m (s′ .args .work .now))
-    (at-work-need .work-need .ensures ∙ ap (λ (z : ℕ). workNeed (s′ .args .plan .n) z (s′ .args .plan .lanes)) (P .edges)))
-    (cleared 0 (s′ .args .e + s′ .args .plan .p + 1) (s′ .args .index .now) (at-build .build .last .1 .1 .1 .0) _ (P .index-fits) s
+    ∙ ap (λ (m : ℕ). replicate m (pos 0) ++ drop m (s .args .work .now))
+    (at-work-need .work-need .ensures ∙ ap (λ (z : ℕ). workNeed (s .args .plan .n) z (s .args .plan .lanes)) (P .edges)))
+    (cleared 0 (s .args .e + s .args .plan .p + 1) (s .args .index .now) (at-build .build .last .1 .1 .1 .0) _ (P .index-fits) e
     (c .before .before .clear-index .ensures)
-    ∙ ap (λ (m : ℕ). replicate m 0 ++ drop m (s′ .args .index .now))
-    (index-need (s′ .args .plan .p) (s′ .args .e) ∙ ap (λ (z : ℕ). indexNeed (s′ .args .plan .p) z) (P .edges)))
+    ∙ ap (λ (m : ℕ). replicate m 0 ++ drop m (s .args .index .now))
+    (index-need (s .args .plan .p) (s .args .e) ∙ ap (λ (z : ℕ). indexNeed (s .args .plan .p) z) (P .edges)))
 
 pub accepted-spec : {M : Type 1} → statement M
 accepted-spec =

@@ -15,7 +15,9 @@ div-words : tie.Need-div-words
 div-words c = search needs
 
 mul-if1 : tie.Need-mul-if1
-mul-if1 c = omega (arith, mul-le-mul-right {m = c .before .args .lent .soft / c .before .args .n} {n = 4096} (c .before .args .n) (c .before .pre .5), c .before .pre)
+mul-if1 c =
+    let s = c .before in
+    omega (arith, mul-le-mul-right {m = s .args .lent .soft / s .args .n} {n = 4096} (s .args .n) (s .pre .5), s .pre)
 
 returns : tie.Need-returns
 unfolding tooShort outNeed

@@ -118,16 +118,14 @@ leave-requires c κs =
 
 mul-held : tie.Need-mul-held Inv-loop μ-loop
 mul-held c =
-    let at-loop-test =
-    c .before .before .before .before .before .before .before .before .before .before .before .before .before .before .before .before .before .before .before .before .before .before in
+    let at-loop-test = c .before .before .before .before .before .before .before .before .before .before .before .before .before .before .before .before .before .before .before .before .before .before in
     let at-loop = at-loop-test .before in
     let s = at-loop .before .before .before .before .before .before .before .before .before .before in
     omega (arith, at-loop-test .loop-test .taken, at-loop .loop .inv .0, s .pre .0 .memory .few-lanes)
 
 array-write-held : tie.Need-array-write-held Inv-loop μ-loop
 array-write-held c =
-    let at-loop-test =
-    c .before .before .before .before .before .before .before .before .before .before .before .before .before .before .before .before .before .before .before .before .before .before in
+    let at-loop-test = c .before .before .before .before .before .before .before .before .before .before .before .before .before .before .before .before .before .before .before .before .before .before in
     let at-loop = at-loop-test .before in
     let s = at-loop .before .before .before .before .before .before .before .before .before .before in
     omega (arith, at-loop-test .loop-test .taken, at-loop .loop .inv .0, s .pre .0 .memory .few-lanes, at-loop .loop .inv .3 .sized .held-fit)

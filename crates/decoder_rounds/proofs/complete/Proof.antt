@@ -18,8 +18,7 @@ rounds-requires c κs =
 
 close-requires : tie.Need-close-requires
 close-requires c κs =
-    let at-rounds =
-    c .before .before .before .before .before .before .before .before .before .before .before .before .before .before .before .before .before .before .before .before .before .before in
+    let at-rounds = c .before .before .before .before .before .before .before .before .before .before .before .before .before .before .before .before .before .before .before .before .before .before in
     let s = at-rounds .before .before .before .before .before .before .before .before .before .before .before .before .before .before .before .before .before .before in (
       working _ _ _ _ _ (s .pre .0 .0) _ (omega (arith, s .pre .1 .0 .1, at-rounds .rounds .kept .1 .1 .1 .1 .1 .1 .1 .1 .1 .1 .1 .0)),
       (room-on (s .pre .1 .1 .0) (at-rounds .rounds .ensures .same), (at-rounds .rounds .ensures .sized, at-rounds .rounds .ensures .readied)),
@@ -31,50 +30,43 @@ same-length c = search needs
 same-length-2 : tie.Need-same-length-2
 same-length-2 c =
     let at-close = c .before .before .before .before .before .before .before .before .before .before .before .before in
-    let at-rounds =
-    at-close .before .before .before .before .before .before .before .before .before .before .before .before .before .before .before .before .before .before .before .before .before .before .before in
+    let at-rounds = at-close .before .before .before .before .before .before .before .before .before .before .before .before .before .before .before .before .before .before .before .before .before .before .before in
     at-close .close .ensures .same .out ∙ at-rounds .rounds .ensures .same .out
 
 same-length-3 : tie.Need-same-length-3
 same-length-3 c =
     let at-close = c .before .before .before .before .before .before .before .before .before .before .before .before in
-    let at-rounds =
-    at-close .before .before .before .before .before .before .before .before .before .before .before .before .before .before .before .before .before .before .before .before .before .before .before in
+    let at-rounds = at-close .before .before .before .before .before .before .before .before .before .before .before .before .before .before .before .before .before .before .before .before .before .before .before in
     at-close .close .ensures .same .state ∙ at-rounds .rounds .ensures .same .state
 
 same-length-4 : tie.Need-same-length-4
 same-length-4 c =
     let at-close = c .before .before .before .before .before .before .before .before .before .before .before .before in
-    let at-rounds =
-    at-close .before .before .before .before .before .before .before .before .before .before .before .before .before .before .before .before .before .before .before .before .before .before .before in
+    let at-rounds = at-close .before .before .before .before .before .before .before .before .before .before .before .before .before .before .before .before .before .before .before .before .before .before .before in
     at-close .close .ensures .same .iterations ∙ at-rounds .rounds .ensures .same .iterations
 
 same-length-5 : tie.Need-same-length-5
 same-length-5 c =
     let at-close = c .before .before .before .before .before .before .before .before .before .before .before .before in
-    let at-rounds =
-    at-close .before .before .before .before .before .before .before .before .before .before .before .before .before .before .before .before .before .before .before .before .before .before .before in
+    let at-rounds = at-close .before .before .before .before .before .before .before .before .before .before .before .before .before .before .before .before .before .before .before .before .before .before .before in
     at-close .close .ensures .same .unsatisfied ∙ at-rounds .rounds .ensures .same .unsatisfied
 
 same-length-6 : tie.Need-same-length-6
 same-length-6 c =
     let at-close = c .before .before .before .before .before .before .before .before .before .before .before .before in
-    let at-rounds =
-    at-close .before .before .before .before .before .before .before .before .before .before .before .before .before .before .before .before .before .before .before .before .before .before .before in
+    let at-rounds = at-close .before .before .before .before .before .before .before .before .before .before .before .before .before .before .before .before .before .before .before .before .before .before .before in
     at-close .close .ensures .same .check ∙ at-rounds .rounds .ensures .same .check
 
 same-length-7 : tie.Need-same-length-7
 same-length-7 c =
     let at-close = c .before .before .before .before .before .before .before .before .before .before .before .before in
-    let at-rounds =
-    at-close .before .before .before .before .before .before .before .before .before .before .before .before .before .before .before .before .before .before .before .before .before .before .before in
+    let at-rounds = at-close .before .before .before .before .before .before .before .before .before .before .before .before .before .before .before .before .before .before .before .before .before .before .before in
     at-close .close .ensures .same .bch ∙ at-rounds .rounds .ensures .same .bch
 
 returns : tie.Need-returns
 returns c =
     let at-close = c .before .before .before .before .before .before .before .before .before .before .before .before in
-    let at-rounds =
-    at-close .before .before .before .before .before .before .before .before .before .before .before .before .before .before .before .before .before .before .before .before .before .before .before in
+    let at-rounds = at-close .before .before .before .before .before .before .before .before .before .before .before .before .before .before .before .before .before .before .before .before .before .before .before in
     let s = at-rounds .before .before .before .before .before .before .before .before .before .before .before .before .before .before .before .before .before .before in
     finishes-to _ _ _ _ _ _
     (λ i.

@@ -69,8 +69,7 @@ advance-requires c κs =
 
 add-rounds : tie.Need-add-rounds Inv-loop μ-loop
 add-rounds c =
-    let at-if2 =
-    c .before .before .before .before .before .before .before .before .before .before .before .before .before .before .before .before .before .before .before .before .before in
+    let at-if2 = c .before .before .before .before .before .before .before .before .before .before .before .before .before .before .before .before .before .before .before .before .before in
     let at-load = at-if2 .before .before .before .before in
     let at-assign = at-load .before .before .before .before .before .before .before .before .before .before .before .before .before .before .before .before in
     let at-loop = at-assign .before .before .before .before .before .before .before in
@@ -82,8 +81,7 @@ add-rounds c =
 
 loop-less : tie.Need-loop-less Inv-loop μ-loop
 loop-less c =
-    let at-if2 =
-    c .before .before .before .before .before .before .before .before .before .before .before .before .before .before .before .before .before .before .before .before .before in
+    let at-if2 = c .before .before .before .before .before .before .before .before .before .before .before .before .before .before .before .before .before .before .before .before .before in
     let at-load = at-if2 .before .before .before .before in
     let at-assign = at-load .before .before .before .before .before .before .before .before .before .before .before .before .before .before .before .before in
     let at-loop = at-assign .before .before .before .before .before .before .before in
@@ -114,8 +112,7 @@ loop-again c =
 same-length : tie.Need-same-length Inv-loop μ-loop
 same-length c =
     let at-load = c .before .before .before .before .before in
-    let at-loop =
-    at-load .before .before .before .before .before .before .before .before .before .before .before .before .before .before .before .before .before .before .before .before .before .before .before in
+    let at-loop = at-load .before .before .before .before .before .before .before .before .before .before .before .before .before .before .before .before .before .before .before .before .before .before .before in
     at-load .load .kept .1 .1 .1 .1 .1 .1 .0 ∙ at-loop .loop .inv .0
 
 same-length-2 : tie.Need-same-length-2 Inv-loop μ-loop

@@ -83,8 +83,7 @@ state-of-requires c κs = search needs
 
 note-requires : tie.Need-note-requires
 note-requires c κs =
-    let s =
-    c .before .before .before .before .before .before .before .before .before .before .before .before .before .before .before .before .before .before .before .before .before .before .before .before in (
+    let s = c .before .before .before .before .before .before .before .before .before .before .before .before .before .before .before .before .before .before .before .before .before .before .before .before in (
       omega (arith, s .pre .1 .state, s .pre .0 .0 .fair .few-words, s .pre .0 .1),
       omega (arith, s .pre .1 .iterations, s .pre .0 .0 .fair .few-words, s .pre .0 .1),
       omega (arith, s .pre .1 .unsatisfied, s .pre .0 .0 .fair .few-words, s .pre .0 .1),
@@ -116,24 +115,24 @@ returns c =
     let at-state-of = at-note .before .before .before .before .before .before in
     let at-soft-part = at-state-of .before .before .before .before in
     let at-soft-unmet = at-soft-part .before .before .before in
-    let s′ = at-soft-unmet .before .before .before .before .before .before .before .before .before .before .before .before in
-    let G = s′ .pre .0 .0 in
-    let n = s′ .args .plan .n in
-    let w = s′ .args .w in
+    let s = at-soft-unmet .before .before .before .before .before .before .before .before .before .before .before .before in
+    let G = s .pre .0 .0 in
+    let n = s .args .plan .n in
+    let w = s .args .w in
     let u = at-soft-unmet .soft-unmet .result in
-    let own-is = own n w (s′ .args .soft .now) in
+    let own-is = own n w (s .args .soft .now) in
     let x : View = record { state = at-state-of .state-of .result; iterations = 0; unsatisfied = u .count; check = u .check; bch = at-soft-part .soft-part .result; bits = at-soft-part .soft-part .last .1 .1 .0 } in
-    let bits-are = at-soft-part .soft-part .ensures .1 ∙ ap (λ (s : List ℤ). corrected (s′ .args .plan .first) (s′ .args .plan .size) (bitsOf n (begin n s))) own-is in
+    let bits-are = at-soft-part .soft-part .ensures .1 ∙ ap (λ (q : List ℤ). corrected (s .args .plan .first) (s .args .plan .size) (bitsOf n (begin n q))) own-is in
     let long : length (x .bits) ≡ n = ap length bits-are ∙ corrected-length _ _ _ ∙ bits-length n _ in
-    let room = s′ .pre .1 in
-    let few : w < 4096 = omega (arith, G .fair .few-words, s′ .pre .0 .1) in
-    let fits : w * n + n ≤ length (s′ .args .out .now) = omega (arith, word-ends n w _ (s′ .pre .0 .1), room .out) in
+    let room = s .pre .1 in
+    let few : w < 4096 = omega (arith, G .fair .few-words, s .pre .0 .1) in
+    let fits : w * n + n ≤ length (s .args .out .now) = omega (arith, word-ends n w _ (s .pre .0 .1), room .out) in
     let k-is : w * n + n - w * n ≡ n = omega arith in
     let e = at-note .note .ensures in (
       written-only _ _ w _ _ x room few fits _ (e .0) (e .1) (e .2) (e .3) (e .4) refl k-is long,
       subst (Ends _ n _ _ _ _ 0) (sym (written-view _ _ w _ _ x room few fits _ (e .0) (e .1) (e .2) (e .3) (e .4) refl k-is long))
           (ended _ n _ _ _ _ 0 x (counted-to (sym (G .coded .checks)) (ap (begin n) own-is) (at-soft-unmet .soft-unmet .ensures)) refl (at-state-of .state-of .ensures)
-          (at-soft-part .soft-part .ensures .0 ∙ ap (λ (s : List ℤ). bchOf (s′ .args .plan .first) (s′ .args .plan .size) (bitsOf n (begin n s))) own-is) bits-are),
+          (at-soft-part .soft-part .ensures .0 ∙ ap (λ (q : List ℤ). bchOf (s .args .plan .first) (s .args .plan .size) (bitsOf n (begin n q))) own-is) bits-are),
     )
 
 pub finish-soft-spec : {M : Type 1} → statement M

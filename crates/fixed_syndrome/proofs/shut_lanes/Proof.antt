@@ -6,7 +6,8 @@ use Prim.Native.Nat.{ℕ, _-_, _≤_}
 use lib.Dec.{eqb, ltb}
 use lib.ListN.{length, length-set}
 use Rattle.laws.specs.Stores.{grown}
-use Rattle.fixed_syndrome.specs.Met.{flag, Shut}
+use Rattle.fixed_lanes.specs.Clear.{on}
+use Rattle.fixed_syndrome.specs.Met.{Shut}
 use Rattle.fixed_syndrome.proofs.shut_lanes.Statement.{statement}
 use Rattle.fixed_syndrome.proofs.shut_lanes.Tie as tie
 
@@ -39,7 +40,7 @@ loop-again c =
     let h = c .before .before in
     let s = h .before .args in (
       search needs,
-      (simp length-set (omega arith), record { is = grown 0 (λ (k x : ℕ). eqb x 0 ≡ (ltb k (s .lanes) && flag (s .t1) k)) (h .loop .v) (h .loop .i) _ (omega arith) (h .loop .inv .1 .1 .is) (c .shut .ensures) }),
+      (simp length-set (omega arith), record { is = grown 0 (λ (k x : ℕ). eqb x 0 ≡ (ltb k (s .lanes) && on (s .t1) k)) (h .loop .v) (h .loop .i) _ (omega arith) (h .loop .inv .1 .1 .is) (c .shut .ensures) }),
     )
 
 returns : tie.Need-returns Inv-loop μ-loop

@@ -29,14 +29,14 @@ sub-q c =
 check-rows-requires : tie.Need-check-rows-requires
 unfolding allOf
 check-rows-requires c κs =
-    let s′ = c .before .before .before .before in
-    let s = sizes (s′ .args .n) (s′ .args .lens .now) (s′ .args .addrs .now) (s′ .pre .0) in (
-      c-inside (s′ .args .n) (s′ .args .lens .now) (s′ .args .addrs .now) (s′ .pre .0) (s′ .args .c) (s′ .pre .1),
-      s .2,
-      s .3,
-      s .0,
-      s .5,
-      info-room (s′ .args .n) (s′ .args .lens .now) (s′ .args .addrs .now) (s′ .pre .0) (s′ .args .c) (s′ .args .out .now) (s′ .pre .2),
+    let s = c .before .before .before .before in
+    let e = sizes (s .args .n) (s .args .lens .now) (s .args .addrs .now) (s .pre .0) in (
+      c-inside (s .args .n) (s .args .lens .now) (s .args .addrs .now) (s .pre .0) (s .args .c) (s .pre .1),
+      e .2,
+      e .3,
+      e .0,
+      e .5,
+      info-room (s .args .n) (s .args .lens .now) (s .args .addrs .now) (s .pre .0) (s .args .c) (s .args .out .now) (s .pre .2),
     )
 
 add-put-stairs : tie.Need-add-put-stairs

@@ -23,9 +23,9 @@ wide-requires c κs = search needs
 
 loop-holds : tie.Need-loop-holds Inv-loop μ-loop
 loop-holds c =
-    let s′ = c .before .before .before in
-    let s = row-start (s′ .args .q) (s′ .args .c) (s′ .args .first) (s′ .args .row .now) (s′ .pre .0) (s′ .pre .1) (s′ .args .out .now) (length (s′ .args .row .now)) refl in
-    (omega arith, s .0, s .1)
+    let s = c .before .before .before in
+    let e = row-start (s .args .q) (s .args .c) (s .args .first) (s .args .row .now) (s .pre .0) (s .pre .1) (s .args .out .now) (length (s .args .row .now)) refl in
+    (omega arith, e .0, e .1)
 
 sub-i : tie.Need-sub-i Inv-loop μ-loop
 sub-i c = search needs

@@ -24,8 +24,8 @@ sub-q c =
 
 counts-requires : tie.Need-counts-requires
 counts-requires c κs =
-    let s′ = c .before .before in
-    let s = sizes (s′ .args .n) (s′ .args .lens .now) (s′ .args .addrs .now) (s′ .pre .0) in (s .2, s .3, s .4)
+    let s = c .before .before in
+    let e = sizes (s .args .n) (s .args .lens .now) (s .args .addrs .now) (s .pre .0) in (e .2, e .3, e .4)
 
 rem-wide : tie.Need-rem-wide
 rem-wide c =
@@ -37,15 +37,15 @@ wide-requires c κs = search needs
 
 mul-wide : tie.Need-mul-wide
 mul-wide c =
-    let s′ = c .before .before .before .before in
-    let s = sizes (s′ .args .n) (s′ .args .lens .now) (s′ .args .addrs .now) (s′ .pre .0) in
-    omega (arith, (c .wide .ensures), s .3, mod-lt (s′ .args .c) {m = (s′ .args .n) / 374 - length (s′ .args .lens .now)} (s .2))
+    let s = c .before .before .before .before in
+    let e = sizes (s .args .n) (s .args .lens .now) (s .args .addrs .now) (s .pre .0) in
+    omega (arith, (c .wide .ensures), e .3, mod-lt (s .args .c) {m = (s .args .n) / 374 - length (s .args .lens .now)} (e .2))
 
 array-read-wide : tie.Need-array-read-wide
 array-read-wide c =
-    let s′ = c .before .before .before .before in
-    let s = sizes (s′ .args .n) (s′ .args .lens .now) (s′ .args .addrs .now) (s′ .pre .0) in
-    omega (arith, (c .wide .ensures), s .3, mod-lt (s′ .args .c) {m = (s′ .args .n) / 374 - length (s′ .args .lens .now)} (s .2))
+    let s = c .before .before .before .before in
+    let e = sizes (s .args .n) (s .args .lens .now) (s .args .addrs .now) (s .pre .0) in
+    omega (arith, (c .wide .ensures), e .3, mod-lt (s .args .c) {m = (s .args .n) / 374 - length (s .args .lens .now)} (e .2))
 
 wide-requires-2 : tie.Need-wide-requires-2
 wide-requires-2 c κs = search needs

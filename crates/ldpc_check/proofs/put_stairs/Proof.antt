@@ -26,10 +26,11 @@ same-length c = search needs
 
 returns : tie.Need-returns
 returns c =
-    let s =
-    stair-one (c .before .args .out .now) (c .before .args .n) (c .before .args .k) (c .before .args .c) (c .before .args .v) (c .before .pre .0) (c .if1 .taken)
-    (c .before .pre .1) in
-    (s .1, s .2)
+    let s = c .before in
+    let e =
+    stair-one (s .args .out .now) (s .args .n) (s .args .k) (s .args .c) (s .args .v) (s .pre .0) (c .if1 .taken)
+    (s .pre .1) in
+    (e .1, e .2)
 
 sub-out : tie.Need-sub-out
 sub-out c = search needs
@@ -69,10 +70,11 @@ same-length-2 c = search needs
 
 returns-2 : tie.Need-returns-2
 returns-2 c =
-    let s =
-    stair-two (c .before .args .out .now) (c .before .args .n) (c .before .args .k) (c .before .args .c) (c .before .args .v) (c .before .pre .0) (c .if1 .left)
-    (c .before .pre .1) in
-    (s .1, s .2)
+    let s = c .before in
+    let e =
+    stair-two (s .args .out .now) (s .args .n) (s .args .k) (s .args .c) (s .args .v) (s .pre .0) (c .if1 .left)
+    (s .pre .1) in
+    (e .1, e .2)
 
 pub put-stairs-spec : {M : Type 1} → statement M
 put-stairs-spec =

@@ -72,23 +72,23 @@ put-rows-requires c κs =
     let at-wide2 = at-ends .before in
     let at-counts = at-wide2 .before .before .before in
     let at-wide = at-counts .before in
-    let s′ = at-wide .before .before .before .before in
-    let l : length (at-ends .ends .last .0) ≡ suc (pOf (s′ .args .n) (s′ .args .lens .now)) + eOf (s′ .args .n) (s′ .args .lens .now) (s′ .args .addrs .now) =
-    omega (arith, (s′ .pre .1)) in
+    let s = at-wide .before .before .before .before in
+    let l : length (at-ends .ends .last .0) ≡ suc (pOf (s .args .n) (s .args .lens .now)) + eOf (s .args .n) (s .args .lens .now) (s .args .addrs .now) =
+    omega (arith, (s .pre .1)) in
     let b =
-    base-fits (s′ .args .n) (s′ .args .lens .now) (s′ .args .addrs .now) (s′ .pre .0) (at-wide .wide .result) (at-wide2 .wide2 .result) (at-wide .wide .ensures)
+    base-fits (s .args .n) (s .args .lens .now) (s .args .addrs .now) (s .pre .0) (at-wide .wide .result) (at-wide2 .wide2 .result) (at-wide .wide .ensures)
     (at-wide2 .wide2 .ensures) (at-counts .counts .result) (at-ends .ends .last .0) (at-counts .counts .ensures .below) l (at-ends .ends .ensures .0)
     (at-ends .ends .ensures .1) in
-    let s =
-    sizes (s′ .args .n) (s′ .args .lens .now) (s′ .args .addrs .now) (s′ .pre .0) (at-wide .wide .result) (at-wide2 .wide2 .result) (at-wide .wide .ensures)
+    let e =
+    sizes (s .args .n) (s .args .lens .now) (s .args .addrs .now) (s .pre .0) (at-wide .wide .result) (at-wide2 .wide2 .result) (at-wide .wide .ensures)
     (at-wide2 .wide2 .ensures) in (
       omega arith,
-      s .0,
-      counts-ready (s′ .args .n) (s′ .args .lens .now) (s′ .args .addrs .now) (s′ .pre .0) .1,
-      s .1,
-      s .2,
-      s .3,
-      meets-ready (s′ .args .n) (s′ .args .lens .now) (s′ .args .addrs .now) (s′ .pre .0) (at-wide .wide .result) (at-wide2 .wide2 .result) (at-wide .wide .ensures)
+      e .0,
+      counts-ready (s .args .n) (s .args .lens .now) (s .args .addrs .now) (s .pre .0) .1,
+      e .1,
+      e .2,
+      e .3,
+      meets-ready (s .args .n) (s .args .lens .now) (s .args .addrs .now) (s .pre .0) (at-wide .wide .result) (at-wide2 .wide2 .result) (at-wide .wide .ensures)
           (at-wide2 .wide2 .ensures) (at-counts .counts .result) (at-ends .ends .last .0) (at-counts .counts .ensures .below) l (at-ends .ends .ensures .0)
           (at-ends .ends .ensures .1) (at-put-stairs .put-stairs .last .0) (at-put-stairs .put-stairs .ensures),
     )

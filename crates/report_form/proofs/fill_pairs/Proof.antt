@@ -37,76 +37,76 @@ cast-place c = search needs
 
 add-place : tie.Need-add-place Inv-loop μ-loop
 add-place c =
-    let s′ = c .before .before .before .before .before .before in
+    let s = c .before .before .before .before .before .before in
     let good = c .before .before .before .before .before .before .good in
     let a = c .before .before .before .before .before .before .args in
-    let s = c .before .before .before .before .loop in
+    let e = c .before .before .before .before .loop in
     let r = c .before .read-pair .result in
     let b : r .position < a .n =
-    filling-below (a .n) (a .base) (drop (a .at) (a .text .now)) (a .words .now) (drop (s .i) (a .text .now)) (s .count) (s .words) (r .position) (r .value) (s .inv)
-    (goes-mark (a .text .now) (s .count) 64 (s .i) 9 (c .before .before .before .goes-on .ensures) (c .before .before .if1 .taken)) (c .before .read-pair .ensures) (s′ .pre .1) in
-    omega (arith, s′ .pre .0, good .1 .1 .1 .0 .0)
+    filling-below (a .n) (a .base) (drop (a .at) (a .text .now)) (a .words .now) (drop (e .i) (a .text .now)) (e .count) (e .words) (r .position) (r .value) (e .inv)
+    (goes-mark (a .text .now) (e .count) 64 (e .i) 9 (c .before .before .before .goes-on .ensures) (c .before .before .if1 .taken)) (c .before .read-pair .ensures) (s .pre .1) in
+    omega (arith, s .pre .0, good .1 .1 .1 .0 .0)
 
 slice-set-from-value : tie.Need-slice-set-from-value Inv-loop μ-loop
 slice-set-from-value c =
     let at-read-pair = c .before .before in
     let at-goes-on = at-read-pair .before .before in
-    let s′ = at-goes-on .before .before .before in
+    let s = at-goes-on .before .before .before in
     let a = c .before .before .before .before .before .before .before .args in
-    let s = c .before .before .before .before .before .loop in
+    let e = c .before .before .before .before .before .loop in
     let r = at-read-pair .read-pair .result in
     let b : r .position < a .n =
-    filling-below (a .n) (a .base) (drop (a .at) (a .text .now)) (a .words .now) (drop (s .i) (a .text .now)) (s .count) (s .words) (r .position) (r .value) (s .inv)
-    (goes-mark (a .text .now) (s .count) 64 (s .i) 9 (at-goes-on .goes-on .ensures) (c .before .before .before .if1 .taken)) (at-read-pair .read-pair .ensures) (s′ .pre .1) in
-    omega (arith, s′ .pre .0, s .inv .same)
+    filling-below (a .n) (a .base) (drop (a .at) (a .text .now)) (a .words .now) (drop (e .i) (a .text .now)) (e .count) (e .words) (r .position) (r .value) (e .inv)
+    (goes-mark (a .text .now) (e .count) 64 (e .i) 9 (at-goes-on .goes-on .ensures) (c .before .before .before .if1 .taken)) (at-read-pair .read-pair .ensures) (s .pre .1) in
+    omega (arith, s .pre .0, e .inv .same)
 
 add-count : tie.Need-add-count Inv-loop μ-loop
 add-count c =
     let at-goes-on = c .before .before .before .before in
-    let s′ = at-goes-on .before .before .before in
-    let s = c .before .before .before .before .before .loop in
-    omega (arith, goes-room (s′ .args .text .now) (s .count) 64 (s .i) 9 (at-goes-on .goes-on .ensures) (c .before .before .before .if1 .taken))
+    let s = at-goes-on .before .before .before in
+    let e = c .before .before .before .before .before .loop in
+    omega (arith, goes-room (s .args .text .now) (e .count) 64 (e .i) 9 (at-goes-on .goes-on .ensures) (c .before .before .before .if1 .taken))
 
 loop-less : tie.Need-loop-less Inv-loop μ-loop
 loop-less c =
     let at-goes-on = c .before .before .before .before in
-    let s′ = at-goes-on .before .before .before in
-    let s = c .before .before .before .before .before .loop in
-    omega (arith, goes-room (s′ .args .text .now) (s .count) 64 (s .i) 9 (at-goes-on .goes-on .ensures) (c .before .before .before .if1 .taken))
+    let s = at-goes-on .before .before .before in
+    let e = c .before .before .before .before .before .loop in
+    omega (arith, goes-room (s .args .text .now) (e .count) 64 (e .i) 9 (at-goes-on .goes-on .ensures) (c .before .before .before .if1 .taken))
 
 loop-again : tie.Need-loop-again Inv-loop μ-loop
 loop-again c =
     let at-read-pair = c .before .before in
     let at-goes-on = at-read-pair .before .before in
-    let s′ = at-goes-on .before .before .before in
+    let s = at-goes-on .before .before .before in
     let a = c .before .before .before .before .before .before .before .args in
-    let s = c .before .before .before .before .before .loop in
+    let q = c .before .before .before .before .before .loop in
     let r = at-read-pair .read-pair .result in
     let e = sym (toZ-ofZ w8 (r .value) (record { sfits = c .struct-told .given .1 .1 .0 .1 })) in
-    filling-again (a .n) (a .base) (drop (a .at) (a .text .now)) (a .words .now) (drop (s .i) (a .text .now)) (s .count) (s .words) (r .position) (toZ w8 (ofZ w8 (r .value))) (s .inv)
-    (goes-mark (a .text .now) (s .count) 64 (s .i) 9 (at-goes-on .goes-on .ensures) (c .before .before .before .if1 .taken))
+    filling-again (a .n) (a .base) (drop (a .at) (a .text .now)) (a .words .now) (drop (q .i) (a .text .now)) (q .count) (q .words) (r .position) (toZ w8 (ofZ w8 (r .value))) (q .inv)
+    (goes-mark (a .text .now) (q .count) 64 (q .i) 9 (at-goes-on .goes-on .ensures) (c .before .before .before .if1 .taken))
     (reads-as (at-read-pair .read-pair .ensures) (ap (pairFrom (r .position)) e))
 
 add-result : tie.Need-add-result Inv-loop μ-loop
 add-result c =
-    let s′ = c .before .before .before .before in
+    let s = c .before .before .before .before in
     let a = c .before .before .before .before .args in
-    let s = c .before .before .loop in
-    let x = s′ .pre .1 in
-    let e = no-pair (s .inv .left (x .pairs) (x .rest) (x .at-place)) (goes-end (a .text .now) (s .count) 64 (s .i) 9 (c .before .goes-on .ensures) (c .if1 .left)) .0 in
-    let h : getD (a .text .now) (s .i) 0 ≡ 10 = sym (head-at (a .text .now) (s .i)) ∙ ap (λ (l : List ℕ). getD l 0 0) e in
-    omega (arith, inside (a .text .now) (s .i) (omega arith))
+    let q = c .before .before .loop in
+    let x = s .pre .1 in
+    let e = no-pair (q .inv .left (x .pairs) (x .rest) (x .at-place)) (goes-end (a .text .now) (q .count) 64 (q .i) 9 (c .before .goes-on .ensures) (c .if1 .left)) .0 in
+    let h : getD (a .text .now) (q .i) 0 ≡ 10 = sym (head-at (a .text .now) (q .i)) ∙ ap (λ (l : List ℕ). getD l 0 0) e in
+    omega (arith, inside (a .text .now) (q .i) (omega arith))
 
 same-length : tie.Need-same-length Inv-loop μ-loop
 same-length c = c .before .before .loop .inv .same
 
 returns : tie.Need-returns Inv-loop μ-loop
 returns c =
-    let s′ = c .before .before .before .before in
+    let s = c .before .before .before .before in
     let a = c .before .before .before .before .args in
-    let s = c .before .before .loop in
+    let e = c .before .before .loop in
     λ ps rest x.
-    filled-here (a .text .now) (s .i) rest (no-pair (s .inv .left ps rest x) (goes-end (a .text .now) (s .count) 64 (s .i) 9 (c .before .goes-on .ensures) (c .if1 .left)))
+    filled-here (a .text .now) (e .i) rest (no-pair (e .inv .left ps rest x) (goes-end (a .text .now) (e .count) 64 (e .i) 9 (c .before .goes-on .ensures) (c .if1 .left)))
 
 pub fill-pairs-spec : {M : Type 1} → statement M
 fill-pairs-spec =

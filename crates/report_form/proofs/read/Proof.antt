@@ -99,21 +99,21 @@ returns-3 c =
     let at-expect2 = at-if1 .before .before in
     let at-read-field = at-expect2 .before in
     let at-expect = at-read-field .before in
-    let s′ = at-expect .before .before in
+    let s = at-expect .before .before in
     let n = at-read-field .read-field .result .value in
-    let s = at-read-settings .read-settings .result in
+    let e = at-read-settings .read-settings .result in
     let r = at-read-rows .read-rows .result in
     let ok = not-false (at-read-words .read-words .result .right) (at-if2 .if2 .left) in
     let ok′ = right-before (at-read-words .read-words .ensures) ok in
     let ok″ = right-before (at-read-settings .read-settings .ensures) ok′ in
     let f = found-there (at-read-words .read-words .ensures) ok in
     inr
-    (one-description n (r .count) (r .lengths) (r .total) (r .addresses) (s .lanes) (s .iterations) (toZ w8 (ofZ w8 (s .offset))) (s .layered) (s .step) (s .rounds) (s .first) (s .bits) (at-read-words .read-words .result .value)
+    (one-description n (r .count) (r .lengths) (r .total) (r .addresses) (e .lanes) (e .iterations) (toZ w8 (ofZ w8 (e .offset))) (e .layered) (e .step) (e .rounds) (e .first) (e .bits) (at-read-words .read-words .result .value)
     (found-there (head-reads (at-expect .expect .ensures) (at-read-field .read-field .ensures) (at-expect2 .expect2 .ensures)) (not-false (at-expect2 .expect2 .result .right) (at-if1 .if1 .left)))
     (listed-there rows RowsWithin rows-within (at-read-rows .read-rows .ensures) ok″)
-    (settings-as (found-there (at-read-settings .read-settings .ensures) ok′) (sym (toZ-ofZ w8 (s .offset) (record { sfits = c .struct-told .given .1 .1 .1 .0 .1 }))))
+    (settings-as (found-there (at-read-settings .read-settings .ensures) ok′) (sym (toZ-ofZ w8 (e .offset) (record { sfits = c .struct-told .given .1 .1 .1 .0 .1 }))))
     f
-    (s′ .args .words .now) (at-fill-words .fill-words .last .1 .1 .1 .0) (s′ .pre) (at-fill-words .fill-words .ensures (f .it .0) (words-at n f)))
+    (s .args .words .now) (at-fill-words .fill-words .last .1 .1 .1 .0) (s .pre) (at-fill-words .fill-words .ensures (f .it .0) (words-at n f)))
 
 pub read-spec : {M : Type 1} → statement M
 read-spec =

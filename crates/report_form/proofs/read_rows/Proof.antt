@@ -25,52 +25,52 @@ goes-on-requires c κs = search needs
 
 read-row-requires : tie.Need-read-row-requires Inv-loop μ-loop
 read-row-requires c κs =
-    let s′ = c .before .before .before .before in
-    let s = c .before .before .loop in
-    omega (arith, rows-total (s .count) (s .lengths) (s .total) (s .addresses) (s .inv), goes-room (s′ .args .text .now) (s .count) 3 (s .i) 82 (c .before .goes-on .ensures) (c .if1 .taken))
+    let s = c .before .before .before .before in
+    let e = c .before .before .loop in
+    omega (arith, rows-total (e .count) (e .lengths) (e .total) (e .addresses) (e .inv), goes-room (s .args .text .now) (e .count) 3 (e .i) 82 (c .before .goes-on .ensures) (c .if1 .taken))
 
 returns : tie.Need-returns Inv-loop μ-loop
 returns c =
     let at-read-row = c .before .before in
     let at-goes-on = at-read-row .before .before in
-    let s′ = at-goes-on .before .before .before in
-    let s = c .before .before .before .before .before .loop in
-    rows-none (s .count) (s .lengths) (s .total) (s .addresses) (s .inv) (goes-mark (s′ .args .text .now) (s .count) 3 (s .i) 82 (at-goes-on .goes-on .ensures) (c .before .before .before .if1 .taken))
+    let s = at-goes-on .before .before .before in
+    let e = c .before .before .before .before .before .loop in
+    rows-none (e .count) (e .lengths) (e .total) (e .addresses) (e .inv) (goes-mark (s .args .text .now) (e .count) 3 (e .i) 82 (at-goes-on .goes-on .ensures) (c .before .before .before .if1 .taken))
     (missing-there (at-read-row .read-row .ensures) (not-true (at-read-row .read-row .result .right) (c .if2 .taken)))
 
 cast-place : tie.Need-cast-place Inv-loop μ-loop
 cast-place c =
     let at-goes-on = c .before .before .before .before in
-    let s′ = at-goes-on .before .before .before in
-    let s = c .before .before .before .before .before .loop in
-    omega (arith, goes-room (s′ .args .text .now) (s .count) 3 (s .i) 82 (at-goes-on .goes-on .ensures) (c .before .before .before .if1 .taken))
+    let s = at-goes-on .before .before .before in
+    let e = c .before .before .before .before .before .loop in
+    omega (arith, goes-room (s .args .text .now) (e .count) 3 (e .i) 82 (at-goes-on .goes-on .ensures) (c .before .before .before .if1 .taken))
 
 mul-lengths : tie.Need-mul-lengths Inv-loop μ-loop
 mul-lengths c =
     let at-goes-on = c .before .before .before .before in
-    let s′ = at-goes-on .before .before .before in
-    let s = c .before .before .before .before .before .loop in
-    omega (arith, goes-room (s′ .args .text .now) (s .count) 3 (s .i) 82 (at-goes-on .goes-on .ensures) (c .before .before .before .if1 .taken))
+    let s = at-goes-on .before .before .before in
+    let e = c .before .before .before .before .before .loop in
+    omega (arith, goes-room (s .args .text .now) (e .count) 3 (e .i) 82 (at-goes-on .goes-on .ensures) (c .before .before .before .if1 .taken))
 
 array-write-lengths : tie.Need-array-write-lengths Inv-loop μ-loop
 array-write-lengths c =
     let at-goes-on = c .before .before .before .before in
-    let s′ = at-goes-on .before .before .before in
-    let s = c .before .before .before .before .before .loop in
-    omega (arith, goes-room (s′ .args .text .now) (s .count) 3 (s .i) 82 (at-goes-on .goes-on .ensures) (c .before .before .before .if1 .taken))
+    let s = at-goes-on .before .before .before in
+    let e = c .before .before .before .before .before .loop in
+    omega (arith, goes-room (s .args .text .now) (e .count) 3 (e .i) 82 (at-goes-on .goes-on .ensures) (c .before .before .before .if1 .taken))
 
 add-total : tie.Need-add-total Inv-loop μ-loop
 add-total c =
     let at-read-row = c .before .before .before in
     let at-if1 = at-read-row .before in
     let at-goes-on = at-if1 .before in
-    let s′ = at-goes-on .before .before .before in
-    let s = c .before .before .before .before .before .before .loop in
+    let s = at-goes-on .before .before .before in
+    let e = c .before .before .before .before .before .before .loop in
     let f = found-there (at-read-row .read-row .ensures) (not-false (at-read-row .read-row .result .right) (c .before .if2 .left)) in
     omega (
       arith,
-      rows-total (s .count) (s .lengths) (s .total) (s .addresses) (s .inv),
-      goes-room (s′ .args .text .now) (s .count) 3 (s .i) 82 (at-goes-on .goes-on .ensures) (at-if1 .if1 .taken),
+      rows-total (e .count) (e .lengths) (e .total) (e .addresses) (e .inv),
+      goes-room (s .args .text .now) (e .count) 3 (e .i) 82 (at-goes-on .goes-on .ensures) (at-if1 .if1 .taken),
       f .within .few,
       f .says .0,
     )
@@ -79,32 +79,32 @@ add-count : tie.Need-add-count Inv-loop μ-loop
 add-count c =
     let at-if1 = c .before .before .before .before in
     let at-goes-on = at-if1 .before in
-    let s′ = at-goes-on .before .before .before in
-    let s = c .before .before .before .before .before .before .loop in omega (arith, goes-room (s′ .args .text .now) (s .count) 3 (s .i) 82 (at-goes-on .goes-on .ensures) (at-if1 .if1 .taken))
+    let s = at-goes-on .before .before .before in
+    let e = c .before .before .before .before .before .before .loop in omega (arith, goes-room (s .args .text .now) (e .count) 3 (e .i) 82 (at-goes-on .goes-on .ensures) (at-if1 .if1 .taken))
 
 loop-less : tie.Need-loop-less Inv-loop μ-loop
 loop-less c =
     let at-if1 = c .before .before .before .before in
     let at-goes-on = at-if1 .before in
-    let s′ = at-goes-on .before .before .before in
-    let s = c .before .before .before .before .before .before .loop in omega (arith, goes-room (s′ .args .text .now) (s .count) 3 (s .i) 82 (at-goes-on .goes-on .ensures) (at-if1 .if1 .taken))
+    let s = at-goes-on .before .before .before in
+    let e = c .before .before .before .before .before .before .loop in omega (arith, goes-room (s .args .text .now) (e .count) 3 (e .i) 82 (at-goes-on .goes-on .ensures) (at-if1 .if1 .taken))
 
 loop-again : tie.Need-loop-again Inv-loop μ-loop
 loop-again c =
     let at-read-row = c .before .before .before in
     let at-if1 = at-read-row .before in
     let at-goes-on = at-if1 .before in
-    let s′ = at-goes-on .before .before .before in
-    let s = c .before .before .before .before .before .before .loop in
+    let s = at-goes-on .before .before .before in
+    let e = c .before .before .before .before .before .before .loop in
     let r = at-read-row .read-row .result in
-    rows-again (s .count) (s .lengths) (s .total) (s .addresses) (r .count) (r .addresses) (s .inv) (found-there (at-read-row .read-row .ensures) (not-false (r .right) (c .before .if2 .left)))
-    (goes-room (s′ .args .text .now) (s .count) 3 (s .i) 82 (at-goes-on .goes-on .ensures) (at-if1 .if1 .taken))
+    rows-again (e .count) (e .lengths) (e .total) (e .addresses) (r .count) (r .addresses) (e .inv) (found-there (at-read-row .read-row .ensures) (not-false (r .right) (c .before .if2 .left)))
+    (goes-room (s .args .text .now) (e .count) 3 (e .i) 82 (at-goes-on .goes-on .ensures) (at-if1 .if1 .taken))
 
 returns-2 : tie.Need-returns-2 Inv-loop μ-loop
 returns-2 c =
-    let s′ = c .before .before .before .before in
-    let s = c .before .before .loop in
-    rows-read (s .count) (s .lengths) (s .total) (s .addresses) (s .inv) (goes-end (s′ .args .text .now) (s .count) 3 (s .i) 82 (c .before .goes-on .ensures) (c .if1 .left))
+    let s = c .before .before .before .before in
+    let e = c .before .before .loop in
+    rows-read (e .count) (e .lengths) (e .total) (e .addresses) (e .inv) (goes-end (s .args .text .now) (e .count) 3 (e .i) 82 (c .before .goes-on .ensures) (c .if1 .left))
 
 pub read-rows-spec : {M : Type 1} → statement M
 read-rows-spec =

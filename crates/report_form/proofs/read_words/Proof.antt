@@ -18,7 +18,9 @@ abbrev μ-loop : tie.MeasureT-loop
 μ-loop text right at n i₀ count₀ i count = 16 - count
 
 loop-holds : tie.Need-loop-holds Inv-loop μ-loop
-loop-holds c = words-start (c .before .args .n) (drop (c .before .args .at) (c .before .args .text .now)) (c .before .pre)
+loop-holds c =
+    let s = c .before in
+    words-start (s .args .n) (drop (s .args .at) (s .args .text .now)) (s .pre)
 
 goes-on-requires : tie.Need-goes-on-requires Inv-loop μ-loop
 goes-on-requires c κs = search needs

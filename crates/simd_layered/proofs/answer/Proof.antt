@@ -153,8 +153,7 @@ store-value-requires c κs =
     let at-store-lanes2 = c .before .before .before .before .before in
     let at-store-lanes = at-store-lanes2 .before .before .before in
     let at-loop-test = at-store-lanes .before .before .before .before .before .before .before .before .before in
-    let s =
-    c .before .before .before .before .before .before .before .before .before .before .before .before .before .before .before .before .before .before .before .before in
+    let s = c .before .before .before .before .before .before .before .before .before .before .before .before .before .before .before .before .before .before .before .before in
     let h = c .before .before .before .before .before .before .before .before .before .before .before .before .before .before .before .before .before .before in
     let v = c .before .before .before .before .before .before .before .before .before .before .before .before .before .before .before .before .variable in
     let q : v .result < s .args .n = omega (arith, v .ensures, value-row (s .pre .0 .0) (h .loop .k) (at-loop-test .loop-test .taken)) in (
@@ -193,10 +192,8 @@ loop-again c =
     let at-load = at-load2 .before .before in
     let at-variable = at-load .before in
     let at-loop-test = at-variable .before in
-    let s =
-    c .before .before .before .before .before .before .before .before .before .before .before .before .before .before .before .before .before .before .before .before .before .before in
-    let h =
-    c .before .before .before .before .before .before .before .before .before .before .before .before .before .before .before .before .before .before .before .before in
+    let s = c .before .before .before .before .before .before .before .before .before .before .before .before .before .before .before .before .before .before .before .before .before .before in
+    let h = c .before .before .before .before .before .before .before .before .before .before .before .before .before .before .before .before .before .before .before .before in
     let q : h .loop .k < s .args .d = at-loop-test .loop-test .taken in (
       omega (arith, q),
       (
