@@ -36,7 +36,7 @@ pub record Exact (w w′ : List ℕ) (r : Decoded) : Type 0 where
   -- and then the word has exactly that codeword's bits, and the count is the number of positions changed,
   pub to-it : (v : List ℕ) → Near w v → (lowBits w′ ≡ lowBits v) × (r ≡ Corrected (distance w v))
   pub count : (k : ℕ) → r ≡ Corrected k → Near w w′ × (distance w w′ ≡ k)
-  -- and that codeword is the only one within 12;
+  -- and that codeword is the only one within 12 (a fact of the code, whatever was answered: `minimum-distance`);
   pub only : (u v : List ℕ) → Near w u → Near w v → lowBits u ≡ lowBits v
   -- the other bits of its bytes are as they were
   pub rest : highBits w′ ≡ highBits w

@@ -1,8 +1,8 @@
-pub mod AtAlpha
-pub mod Product
-pub mod Powers
-pub mod Steps
-pub mod Filling
-pub mod Raised
-pub mod Search
-pub mod Horner
+mod AtAlpha
+mod Product
+mod Powers
+mod Steps
+mod Filling
+mod Raised
+mod Search
+mod Horner

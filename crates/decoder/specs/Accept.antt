@@ -17,7 +17,8 @@ use Rattle.fixed_code.specs.Code.{codeOf, edges-at}
 use Rattle.schedule.specs.Status.{largest, longest}
 use Rattle.schedule.specs.Status as schedule
 use Rattle.schedule.specs.Demand.{Demand}
-use Rattle.schedule.specs.Theorem.{input-order, input-count, demand-in-input-order}
+use Rattle.schedule.specs.Run.{input-order}
+use Rattle.schedule.specs.Theorem.{input-count, demand-in-input-order}
 use Rattle.decoder_refuse.specs.Refusal.{workNeed, indexNeed}
 use Rattle.decoder_words.specs.Book.{Book, View, book, view, ownPart, Room}
 use Rattle.decoder_words.specs.Given.{Fair, Given}

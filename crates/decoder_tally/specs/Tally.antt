@@ -9,7 +9,8 @@ use lib.Seq.{getD-take, length-take-le, ext-getD}
 use Rattle.schedule.specs.Status.{sum}
 use Rattle.laws.specs.Choice.{by-cond}
 use Rattle.laws.specs.Stores.{grown}
-use Rattle.schedule.specs.Theorem.{counting, length-counting, getD-counting, input-order, input-is}
+use Rattle.schedule.specs.Run.{counting, input-order}
+use Rattle.schedule.specs.Theorem.{length-counting, getD-counting, input-is}
 use Rattle.outcome.specs.Outcome.{isFinished, keptOf, lostOf}
 use Rattle.outcome.specs.Laws.{kept-or-lost}
 

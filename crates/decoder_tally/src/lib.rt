@@ -3,7 +3,7 @@ ghost use mathlib.Core.Path.{_≡_};
 ghost use Prim.Native.Nat.{ℕ, _≤_};
 ghost use lib.IntN.{pos};
 ghost use lib.ListN.{length, getD, replicate};
-ghost use Rattle.schedule.specs.Theorem.{input-order};
+ghost use Rattle.schedule.specs.Run.{input-order};
 ghost use Rattle.decoder_tally.specs.Tally.{givenIn, keptIn, lostIn};
 
 // 0, 1, 2, ..

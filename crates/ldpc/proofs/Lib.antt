@@ -1,1 +1,1 @@
-pub mod Exits
+mod Exits

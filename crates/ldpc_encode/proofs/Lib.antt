@@ -1,4 +1,4 @@
-pub mod Bytes
-pub mod Bits
-pub mod Rows
-pub mod Residue
+mod Bytes
+mod Bits
+mod Rows
+mod Residue

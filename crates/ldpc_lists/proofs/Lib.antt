@@ -1,4 +1,4 @@
-pub mod One
-pub mod Loops
-pub mod Stairs
-pub mod Built
+mod One
+mod Loops
+mod Stairs
+mod Built

@@ -12,7 +12,7 @@ use lib.Dec.{ltb}
 use lib.ListN.{length, getD, length-append}
 use lib.Seq.{ext-getD}
 use Rattle.laws.specs.Choice.{by-cond, same, same-self}
-unfoldable pub use Rattle.schedule.specs.Run.{counting, input-order}
+use Rattle.schedule.specs.Run.{counting, input-order}
 use Rattle.schedule.specs.Run.{Words, Lane, empty, holds, Left, State, Ending, finished, stopped, Result, held, run}
 use Rattle.schedule.specs.Alone.{Ends, ends-so}
 use Rattle.schedule.specs.Status.{Status, waiting, holding, done, spent, lane-words, log-words, all-words, status, times, count, sum, largest, given, longest, case, Where}

@@ -9,7 +9,8 @@ use lib.ListN.{length, take, length-replicate}
 use lib.Seq.{length-take-le}
 use Rattle.laws.specs.Signed.{plain}
 use Rattle.schedule.specs.Status.{count}
-use Rattle.schedule.specs.Theorem.{input-order, input-once}
+use Rattle.schedule.specs.Run.{input-order}
+use Rattle.schedule.specs.Theorem.{input-once}
 use Rattle.decoder_assign.specs.Assign.{Ordered}
 use Rattle.decoder.specs.Accept.{order-so, order-is, zero-blank, zero-room, finished-so, iterations-few, next-le, decoded-to}
 use Rattle.decoder.proofs.decoded.Statement.{statement}

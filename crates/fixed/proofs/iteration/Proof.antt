@@ -1,3 +1,4 @@
+-- `fixed::iteration` meets its contract. Assumes nothing.
 use native.Mathlib.Omega.{arith}
 use borrow.Author.Needs.{needs}
 use Rattle.laws.specs.Signed.{plain}

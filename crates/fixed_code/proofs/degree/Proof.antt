@@ -1,3 +1,4 @@
+-- `fixed_code::degree` meets its contract. Assumes nothing.
 use borrow.Author.Needs.{needs}
 use native.Mathlib.Omega.{arith}
 use Rattle.fixed_code.proofs.degree.Statement.{statement}

@@ -1,3 +1,4 @@
+-- `fixed_code::start` meets its contract. Assumes nothing.
 use native.Mathlib.Omega.{arith}
 use borrow.Author.Needs.{needs}
 use Rattle.fixed_code.proofs.start.Statement.{statement}

@@ -1,3 +1,4 @@
+-- `fixed_conflicts::span` meets its contract. Assumes nothing.
 use native.Mathlib.Omega.{arith}
 use Prim.Native.Nat.{_+_, _*_}
 use mathlib.Core.Path.{refl}

@@ -1,3 +1,4 @@
+-- `fixed_conflicts::spans` meets its contract. Assumes nothing.
 use borrow.Author.Needs.{needs}
 use native.Mathlib.Omega.{arith}
 use mathlib.Core.Path.{ap, subst}

@@ -1,3 +1,4 @@
+-- `fixed_delta::gathered` meets its contract. Assumes nothing.
 use mathlib.Core.Path.{sym, ap, _∙_}
 use mathlib.Core.Bool.{Bool, cond}
 use lib.IntN.{_+ℤ_, _-ℤ_}

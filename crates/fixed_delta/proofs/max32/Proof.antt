@@ -1,3 +1,4 @@
+-- `fixed_delta::max32` meets its contract. Assumes nothing.
 use mathlib.Core.Path.{sym, ap, _∙_}
 use mathlib.Core.Bool.{Bool, cond}
 use mir.Syntax.{w32}

@@ -1,3 +1,4 @@
+-- `fixed_delta::sat` meets its contract. Assumes nothing.
 use borrow.Author.Needs.{needs, sfits-of}
 use mathlib.Core.Path.{_≡_, ap, _∙_}
 use lib.IntN.{ℤ, pos, negsuc}

@@ -1,3 +1,4 @@
+-- `fixed_lanes::clear_messages` meets its contract. Assumes nothing.
 use borrow.Author.Needs.{needs}
 use borrow.Author.Tests.{not-true}
 use native.Mathlib.Omega.{arith}

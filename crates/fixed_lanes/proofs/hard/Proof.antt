@@ -1,3 +1,4 @@
+-- `fixed_lanes::hard` meets its contract. Assumes nothing.
 use borrow.Author.Needs.{needs}
 use native.Mathlib.Omega.{arith}
 use mathlib.Core.Path.{refl, ap, sym, _∙_}

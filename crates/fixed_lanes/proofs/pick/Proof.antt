@@ -1,3 +1,4 @@
+-- `fixed_lanes::pick` meets its contract. Assumes nothing.
 use mathlib.Core.Path.{sym, ap, _∙_}
 use mathlib.Core.Bool.{Bool, cond}
 use Rattle.laws.specs.Signed.{plain}

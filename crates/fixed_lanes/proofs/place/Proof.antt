@@ -1,3 +1,4 @@
+-- `fixed_lanes::place` meets its contract. Assumes nothing.
 use borrow.Author.Needs.{needs}
 use mathlib.Core.Path.{sym, subst}
 use Prim.Native.Nat.{_+_, _*_}

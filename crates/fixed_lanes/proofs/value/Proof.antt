@@ -1,3 +1,4 @@
+-- `fixed_lanes::value` meets its contract. Assumes nothing.
 use borrow.Author.Needs.{needs}
 use Prim.Native.Nat.{_+_, _*_}
 use lib.ListN.{getD}

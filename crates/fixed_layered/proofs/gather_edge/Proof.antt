@@ -1,3 +1,4 @@
+-- `fixed_layered::gather_edge` meets its contract. Assumes nothing.
 use native.Mathlib.Omega.{arith}
 use borrow.Author.Needs.{needs}
 use mathlib.Core.Path.{refl, subst}

@@ -1,3 +1,4 @@
+-- `fixed_layered::run` meets its contract. Assumes nothing.
 use borrow.Author.Needs.{needs}
 use Prim.Native.Nat.{_/_}
 use borrow.Author.Tests.{not-true}

@@ -1,3 +1,4 @@
+-- `fixed_syndrome::none_left` meets its contract. Assumes nothing.
 use borrow.Author.Needs.{needs}
 use mathlib.Core.Path.{sym, ap, _∙_}
 use mathlib.Core.Bool.{Bool, not, _&&_}

@@ -1,3 +1,4 @@
+-- `lane_math::flip` meets its contract. Assumes nothing.
 use Rattle.laws.specs.Signed.{xor-sign}
 use Rattle.lane_math.proofs.flip.Statement.{statement}
 use Rattle.lane_math.proofs.flip.Tie as tie

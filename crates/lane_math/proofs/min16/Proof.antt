@@ -1,3 +1,4 @@
+-- `lane_math::min16` meets its contract. Assumes nothing.
 use mathlib.Core.Path.{sym, ap, _∙_}
 use mathlib.Core.Bool.{Bool, cond}
 use mir.Syntax.{w16}

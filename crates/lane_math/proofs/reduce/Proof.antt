@@ -1,3 +1,4 @@
+-- `lane_math::reduce` meets its contract. Assumes nothing.
 use borrow.Author.Needs.{needs, sfits-of}
 use mathlib.Core.Path.{_≡_, ap, _∙_}
 use Prim.Native.Nat.{min}

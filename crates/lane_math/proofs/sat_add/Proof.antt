@@ -1,3 +1,4 @@
+-- `lane_math::sat_add` meets its contract. Assumes nothing.
 use borrow.Author.Needs.{needs, sfits-of}
 use mathlib.Core.Path.{ap, _∙_}
 use lib.IntN.{_+ℤ_}

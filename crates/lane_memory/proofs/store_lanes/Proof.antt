@@ -1,3 +1,4 @@
+-- `lane_memory::store_lanes` meets its contract. Assumes nothing.
 use native.Mathlib.Omega.{arith}
 use borrow.Author.Needs.{needs}
 use mathlib.Core.Path.{sym}

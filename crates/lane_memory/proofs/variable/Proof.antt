@@ -1,3 +1,4 @@
+-- `lane_memory::variable` meets its contract. Assumes nothing.
 use native.Mathlib.Omega.{arith}
 use borrow.Author.Needs.{needs}
 use Rattle.lane_memory.proofs.variable.Statement.{statement}

@@ -1,3 +1,4 @@
+-- `outcome::correct` meets its contract. Assumes nothing.
 use mathlib.Core.Path.{_∙_}
 use Rattle.outcome.specs.Laws.{result-whole, corrected-whole}
 use borrow.Author.Needs.{needs}

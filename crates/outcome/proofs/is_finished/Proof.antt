@@ -1,3 +1,4 @@
+-- `outcome::is_finished` meets its contract. Assumes nothing.
 use mathlib.Core.Path.{sym}
 use borrow.Author.Tests.{eq-eqb, ne-eqb}
 use Rattle.outcome.specs.Outcome.{isFinished}

@@ -1,3 +1,4 @@
+-- `outcome::kept_of` meets its contract. Assumes nothing.
 use mathlib.Core.Path.{sym, _∙_}
 use borrow.Author.Tests.{eq-eqb, ne-eqb}
 use Rattle.outcome.specs.Outcome.{keptOf, isLost, lost}

@@ -1,3 +1,4 @@
+-- `outcome::lost_of` meets its contract. Assumes nothing.
 use mathlib.Core.Path.{sym, _∙_}
 use borrow.Author.Tests.{eq-eqb, ne-eqb}
 use Rattle.outcome.specs.Outcome.{lostOf, isLost, lost}

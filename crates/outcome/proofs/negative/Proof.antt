@@ -1,3 +1,4 @@
+-- `outcome::negative` meets its contract. Assumes nothing.
 use borrow.Author.Needs.{sfits-of, needs}
 use Rattle.laws.specs.Signed.{plain}
 use mathlib.Core.Path.{_≡_, refl, ap, _∙_}

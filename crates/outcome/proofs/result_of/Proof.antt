@@ -1,3 +1,4 @@
+-- `outcome::result_of` meets its contract. Assumes nothing.
 use mathlib.Core.Path.{sym, ap}
 use Rattle.outcome.specs.Outcome.{bchResult, lost}
 use borrow.Author.Needs.{needs}

@@ -1,3 +1,4 @@
+-- `outcome::soft_bits` meets its contract. Assumes nothing.
 use borrow.Author.Needs.{sfits-of, needs}
 use lib.IntN.{ℤ}
 use Rattle.laws.specs.Signed.{plain}

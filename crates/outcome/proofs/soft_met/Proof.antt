@@ -1,3 +1,4 @@
+-- `outcome::soft_met` meets its contract. Assumes nothing.
 use Rattle.lane_math.specs.Check.{Word}
 use Rattle.lane_math.specs.Iteration.{Code}
 use mathlib.Core.Path.{_≡_, sym}

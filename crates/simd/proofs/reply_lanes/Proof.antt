@@ -1,3 +1,4 @@
+-- `simd::reply_lanes` meets its contract. Assumes nothing.
 use native.Mathlib.Omega.{arith}
 use borrow.Author.Needs.{needs}
 use mathlib.Core.Path.{sym, subst}

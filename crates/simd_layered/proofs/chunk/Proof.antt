@@ -1,3 +1,4 @@
+-- `simd_layered::chunk` meets its contract. Assumes nothing.
 use native.Mathlib.Omega.{arith}
 use borrow.Author.Needs.{needs}
 use lib.ListN.{length}

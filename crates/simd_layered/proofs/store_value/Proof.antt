@@ -1,3 +1,4 @@
+-- `simd_layered::store_value` meets its contract. Assumes nothing.
 use borrow.Author.Needs.{needs}
 use Rattle.lane_memory.specs.Room.{sharedIn}
 use Rattle.simd_layered.specs.Checked.{stored-none, stored-unless}

@@ -1,3 +1,4 @@
+-- `simd_layered::two_chunks` meets its contract. Assumes nothing.
 use native.Mathlib.Omega.{arith}
 use borrow.Author.Needs.{needs}
 use mathlib.Core.Path.{refl, sym}
