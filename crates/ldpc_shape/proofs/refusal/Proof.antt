@@ -39,8 +39,8 @@ sum-of-requires : tie.Need-sum-of-requires
 sum-of-requires c κs =
     let at-if1 = c .before .before .before .before in
     let at-bad-length = at-if1 .before in
-    let s = small _ (sym (at-if1 .if1 .left) ∙ (at-bad-length .bad-length .ensures)) in
-    (omega (arith, s, (c .before .before .before .wide .ensures), (c .before .before .if2 .left)), sym (c .before .any-long .ensures) ∙ (c .if3 .left))
+    let h = small _ (sym (at-if1 .if1 .left) ∙ (at-bad-length .bad-length .ensures)) in
+    (omega (arith, h, (c .before .before .before .wide .ensures), (c .before .before .if2 .left)), sym (c .before .any-long .ensures) ∙ (c .if3 .left))
 
 returns-4 : tie.Need-returns-4
 returns-4 c =
@@ -74,9 +74,9 @@ counts-requires c κs =
     let at-wide = at-if2 .before in
     let at-if1 = at-wide .before in
     let at-bad-length = at-if1 .before in
-    let s = small _ (sym (at-if1 .if1 .left) ∙ (at-bad-length .bad-length .ensures)) in
-    let f = sum-fits _ (omega (arith, s, (at-wide .wide .ensures), (at-if2 .if2 .left))) (sym (c .before .before .before .any-long .ensures) ∙ (c .before .before .if3 .left)) in
-    (omega (arith, (at-wide .wide .ensures), (at-if2 .if2 .left)), omega (arith, s), omega (arith, f, (c .before .sum-of .ensures), (c .if4 .left)))
+    let h = small _ (sym (at-if1 .if1 .left) ∙ (at-bad-length .bad-length .ensures)) in
+    let f = sum-fits _ (omega (arith, h, (at-wide .wide .ensures), (at-if2 .if2 .left))) (sym (c .before .before .before .any-long .ensures) ∙ (c .before .before .if3 .left)) in
+    (omega (arith, (at-wide .wide .ensures), (at-if2 .if2 .left)), omega (arith, h), omega (arith, f, (c .before .sum-of .ensures), (c .if4 .left)))
 
 any-many-requires : tie.Need-any-many-requires
 any-many-requires c κs =
