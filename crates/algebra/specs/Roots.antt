@@ -6,8 +6,10 @@ use Prim.Native.Nat.{ℕ, zero, suc, _+_, _-_, _<_}
 use native.Mathlib.Nat.{not-suc-le-zero, le-of-suc-le-suc, le-refl}
 use native.Mathlib.Decide.{ℕ-discrete}
 use native.Mathlib.Omega.{arith}
-use Rattle.algebra.specs.Ring.{Ring, Field, ⊠-lc, zero-⊞, dist-⊠, ⊠-zero, zero-⊠, ⊞-self-l, ⊞-swap, ⊞-cancel, square-add}
-use Rattle.algebra.specs.Series.{sum, sum-ext, sum-add, sum-mul, sum-zero, pow, pow-add, eval, eval-zero}
+use Rattle.algebra.specs.Ring.{Ring, Field}
+use Rattle.algebra.specs.RingLaws.{⊠-lc, zero-⊞, dist-⊠, ⊠-zero, zero-⊠, ⊞-self-l, ⊞-swap, ⊞-cancel, square-add}
+use Rattle.algebra.specs.Series.{pow, eval}
+use Rattle.algebra.specs.SeriesLaws.{sum, sum-ext, sum-add, sum-mul, sum-zero, pow-add, eval-zero}
 
 -- the first n of a sequence differ
 abbrev pub Distinct {ℓ} : {F : Type ℓ} → ℕ → (ℕ → F) → Type ℓ

@@ -6,17 +6,18 @@ use Prim.Native.Nat.{ℕ, _+_, _≤_, _<_}
 use native.Mathlib.Decide.{ℕ-discrete, decLe}
 use native.Mathlib.Omega.{arith}
 use lib.ListN.{length, getD}
-use Rattle.algebra.specs.Series.{pow}
-use Rattle.algebra.specs.Values.{ev}
-use Rattle.algebra.specs.Massey.{Shortest, gen-ext, shortest-ext}
-use Rattle.gf16.specs.Alpha.{R16, α}
+use Rattle.algebra.specs.Series.{pow, ev}
+use Rattle.algebra.specs.Massey.{gen-ext, shortest-ext}
+use Rattle.algebra.specs.Register.{Shortest}
+use Rattle.gf16.specs.Field16.{R16, α}
 use Rattle.gf16.specs.Roots16.{by-remainder}
 use Rattle.bch_remainder.specs.Word.{number, remainderOf}
 use Rattle.bch_remainder.specs.Laws.{number-lt}
 use Rattle.bch_locator.specs.Element.{poly}
 use Rattle.bch_locator.specs.Register.{Register-of}
 use Rattle.bch_locator.specs.Places.{Places-of}
-use Rattle.bch.specs.Decode.{syndrome, flipped, flips, answerBy, leftBy, register, any-answer, any-left}
+use Rattle.bch.specs.Decode.{syndrome, flipped, flips, answerBy, leftBy, register}
+use Rattle.bch.specs.DecodeLaws.{any-answer, any-left}
 use Rattle.bch.specs.Places.{flipAll}
 use Rattle.bch.specs.Answers.{Located}
 use Rattle.bch.proofs.FlipLoop.{flipAll-flipped}

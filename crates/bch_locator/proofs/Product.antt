@@ -9,8 +9,9 @@ use lib.Pow.{pow-pos, pow-mono, field, shr-shr, shl-shr}
 use lib.Bits.{bitXor}
 use Rattle.laws.specs.Xor.{_⊕_, ⊕-comm, ⊕-lt, two-cases, two-pos}
 use Rattle.laws.specs.Poly.{clmul}
-use Rattle.algebra.specs.Values.{ev, ev-clmul}
-use Rattle.gf16.specs.Alpha.{R16, α}
+use Rattle.algebra.specs.Values.{ev-clmul}
+use Rattle.algebra.specs.Series.{ev}
+use Rattle.gf16.specs.Field16.{R16, α}
 use Rattle.bch_locator.specs.Element.{toEl}
 use Rattle.bch_locator.proofs.AtAlpha.{ev-itself}
 

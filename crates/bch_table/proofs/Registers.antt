@@ -14,7 +14,8 @@ use lib.Seq.{getD-append-add, ext-getD}
 use lib.Pow.{pow-mono, pow-lt, shl-lt}
 use Rattle.laws.specs.Xor.{_⊕_, two-pos}
 use Rattle.laws.specs.Poly.{rem, into, shifted, rem-zero, rem-add, rem-digits, ⊕-join, ⊕-shift}
-use Rattle.bch_table.specs.Generator.{generator, generator-is}
+use Rattle.bch_table.specs.Generator.{generator}
+use Rattle.bch_table.specs.GeneratorLaws.{generator-is}
 use Rattle.bch_table.specs.Table.{timesPower, wordOf, byteTable, table-length, table-at, after-three}
 use Rattle.bch_table.proofs.Entries.{table}
 

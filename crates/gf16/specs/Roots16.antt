@@ -13,16 +13,19 @@ use lib.ListN.{getD, length}
 use Rattle.laws.specs.Xor.{_⊕_}
 use Rattle.laws.specs.Tests.{below, below-at}
 use Rattle.laws.specs.Poly.{clmul, clmul-lt, rem, quo, division, rem-lt}
-use Rattle.bch_table.specs.Generator.{masks, product, generator, generator-lt, generator-top}
-use Rattle.algebra.specs.Gf.{mul, mulN, xt}
-use Rattle.algebra.specs.Ring.{⊠-zero, zero-⊠, zero-⊞}
-use Rattle.algebra.specs.GfField.{El, gf-ring, gf-field, el-path}
-use Rattle.algebra.specs.Series.{pow, pow-add}
+use Rattle.bch_table.specs.Generator.{masks, product, generator}
+use Rattle.bch_table.specs.GeneratorLaws.{generator-lt, generator-top}
+use Rattle.algebra.specs.Gf.{mul, mulN, xt, El}
+use Rattle.algebra.specs.RingLaws.{⊠-zero, zero-⊠, zero-⊞}
+use Rattle.algebra.specs.GfField.{gf-ring, gf-field}
+use Rattle.algebra.specs.GfLaws.{el-path}
+use Rattle.algebra.specs.Series.{pow, ev, bit}
+use Rattle.algebra.specs.SeriesLaws.{pow-add}
 use Rattle.algebra.specs.Power.{fast, digit, fast-pow, pow-mod}
 use Rattle.algebra.specs.Roots.{Distinct}
-use Rattle.algebra.specs.Values.{ev, bit, ev-add, ev-square, ev-clmul, ev-more, multiple}
-use Rattle.gf16.specs.Field16.{gf16}
-use Rattle.gf16.specs.Alpha.{R16, α, α-full, α-distinct}
+use Rattle.algebra.specs.Values.{ev-add, ev-square, ev-clmul, ev-more, multiple}
+use Rattle.gf16.specs.Field16.{gf16, R16, α}
+use Rattle.gf16.specs.Alpha.{α-full, α-distinct}
 
 -- ---- entry i vanishes at alpha^(2i - 1), computed; here i counts from 0
 entries : T (below 12 (λ i. eqb ((ev R16 17 (getD masks i 0) (fast R16 16 α (2 * i + 1))) .0) 0))
