@@ -1,17 +1,23 @@
--- What each test of the code shows of the entry points' answers, and that encoding gives a codeword.
+-- What each test of the code shows of the entry points' answers; that encoding gives a codeword; and that what `decode` promises holds.
 use mathlib.Core.Path.{_≡_, refl, sym, ap, ap₂, _∙_, subst}
-use mathlib.Core.Logic.{if-pos, if-neg}
+use mathlib.Core.Logic.{_≢_, ite, if-pos, if-neg}
 use mathlib.Core.List.{List, _++_, append-assoc}
 use Prim.Native.Nat.{ℕ, suc, _+_, _-_, _≤_, _<_}
-use native.Mathlib.Decide.{ℕ-discrete, decLt}
+use native.Mathlib.Decide.{ℕ-discrete, decLe, decLt}
 use native.Mathlib.Omega.{arith}
 use lib.ListN.{length, take, drop, length-append}
 use lib.Seq.{take-length, take-at, drop-at, drop-drop}
 use Rattle.laws.specs.Lists.{lent-from, back-from}
-use Rattle.bch_remainder.specs.Word.{parityOf, parityBits, Codeword, encoded}
-use Rattle.bch_remainder.specs.Laws.{encoded-codeword, length-bits}
-use Rattle.bch.specs.Answers.{wordRefusal, messageRefusal, encodedOf, outIf, encodeOut, Located}
+use Rattle.algebra.specs.Gf.{El}
+use Rattle.bch_remainder.specs.Word.{parityOf, remainderOf, parityBits, Codeword, encoded}
+use Rattle.bch_remainder.specs.Laws.{encoded-codeword, length-bits, remainder-codeword}
+use Rattle.bch.specs.Decode.{flips, answerBy, leftBy, Located, register, answerOf, leftOf}
+use Rattle.bch.specs.DecodeLaws.{located-by}
+use Rattle.bch.specs.Exact.{Exact}
+use Rattle.bch.specs.ExactLaws.{exact, codeword-kept}
+use Rattle.bch.specs.Answers.{wordRefusal, messageRefusal, encodedOf, outIf, encodeOut, decodedNumber, decodedOf, wordOut, Decodes}
 use Rattle.bch.specs.declared.Decoded.{Decoded}
+use Rattle.bch.specs.declared.Decoded.the-variants.{Corrected, Uncorrectable, Refused}
 use Rattle.bch.specs.declared.Encoded.the-variants as encode
 
 -- ---- what each test of the code shows
@@ -68,9 +74,6 @@ encoded-bytes m out copied part d e f =
     ∙ ap₂ (λ (x y : List ℕ). x ++ y) (ap (take k) c ∙ take-at m (drop k out) k refl)
     (f ∙ ap (λ (l : List ℕ). d ++ drop 192 l) (lent-from k copied ∙ r) ∙ ap (λ (l : List ℕ). d ++ l) (drop-drop 192 k out))
 
-pub located-to : {w v : List ℕ} (v′ : List ℕ) (r : Decoded) → v′ ≡ v → Located w v r → Located w v′ r
-located-to {w} v′ r e L = subst (λ (x : List ℕ). Located w x r) (sym e) L
-
 -- encoding gives a codeword: what `encode` writes, without the tail
 pub encode-codeword : (m out : List ℕ) → messageRefusal (length m) (length m + 192) (length out) ≡ 0 → Codeword (take (length m + 192) (encodeOut m out))
 unfolding encodeOut
@@ -83,3 +86,89 @@ encode-codeword m out f = subst Codeword (sym front) (encoded-codeword m)
     front =
         ap (take (length m + 192)) whole
         ∙ take-at (encoded m) (drop (length m + 192) out) (length m + 192) (length-append m (parityBits (parityOf m)) ∙ ap (λ (k : ℕ). length m + k) (length-bits 192 (parityOf m)))
+
+-- ---- decoding
+-- the answer to a word of an accepted length is no refusal
+either-number : {P : Type 0} (d : Dec P) (x y : Decoded) → decodedNumber x ≡ 0 → decodedNumber y ≡ 0 → decodedNumber (ite d x y) ≡ 0
+either-number (yes _) x y e f = e
+either-number (no _) x y e f = f
+
+by-number : (c : ℕ → El 15) (l : ℕ) (w : List ℕ) → decodedNumber (answerBy c l w) ≡ 0
+unfolding answerBy
+by-number c l w =
+    let d = ℕ-discrete (flips c l (length w)) l in
+    either-number (decLe l 12) (ite d (Corrected l) Uncorrectable) Uncorrectable (either-number d (Corrected l) Uncorrectable refl refl) refl
+
+answer-number : (w : List ℕ) → decodedNumber (answerOf w) ≡ 0
+unfolding answerOf
+answer-number w =
+    let r = register w in
+    either-number (ℕ-discrete (remainderOf w) 0) (Corrected 0) (answerBy (r .0) (r .1) w) refl (by-number (r .0) (r .1) w)
+
+-- a word that is no codeword, by every shortest register
+pub located : (w : List ℕ) → remainderOf w ≢ 0 → Located w (leftOf w) (answerOf w)
+unfolding answerOf leftOf
+located w n =
+    located-by w _ _ (register w .0) (register w .1) (register w .2)
+    (if-neg (ℕ-discrete (remainderOf w) 0) n (Corrected 0) (answerBy (register w .0) (register w .1) w))
+    (if-neg (ℕ-discrete (remainderOf w) 0) n w (leftBy (register w .0) (register w .1) w))
+
+-- an accepted length, at most 65,535
+fair-size : (n : ℕ) → wordRefusal n ≡ 0 → n ≤ 65535
+fair-size n z = pick (decLt n 193) (decLt 65535 n)
+  where
+    pick : Dec (n < 193) → Dec (65535 < n) → n ≤ 65535
+    pick (yes h) d = omega arith
+    pick (no h) (yes g) = absurd (omega (arith, long-word n (omega arith) g))
+    pick (no h) (no g) = omega arith
+
+-- what `decode` promises holds of the answer and the bytes as functions of the word
+module _ (w : List ℕ) where
+  taken : wordRefusal (length w) ≡ 0 → (decodedOf w ≡ answerOf w) × (wordOut w ≡ leftOf w)
+  unfolding decodedOf wordOut
+  taken z = (if-pos (ℕ-discrete (wordRefusal (length w)) 0) z (answerOf w) (Refused (wordRefusal (length w))), sym (changed (wordRefusal (length w)) (leftOf w) w z))
+
+  turned-away : wordRefusal (length w) ≢ 0 → (decodedOf w ≡ Refused (wordRefusal (length w))) × (wordOut w ≡ w)
+  unfolding decodedOf wordOut outIf
+  turned-away n = (if-neg (ℕ-discrete (wordRefusal (length w)) 0) n (answerOf w) (Refused (wordRefusal (length w))), if-neg (ℕ-discrete (wordRefusal (length w)) 0) n (leftOf w) w)
+
+  numbered : Dec (wordRefusal (length w) ≡ 0) → decodedNumber (decodedOf w) ≡ wordRefusal (length w)
+  numbered (yes z) = ap decodedNumber (taken z .0) ∙ answer-number w ∙ sym z
+  numbered (no n) = ap decodedNumber (turned-away n .0)
+
+  -- the two functions taken for others that are equal
+  of-both : (P : List ℕ → Decoded → Type 0) (z : wordRefusal (length w) ≡ 0) → P (leftOf w) (answerOf w) → P (wordOut w) (decodedOf w)
+  of-both P z p = subst (λ (x : List ℕ). P x (decodedOf w)) (sym (taken z .1)) (subst (λ (d : Decoded). P (leftOf w) d) (sym (taken z .0)) p)
+
+  pub decodes : Decodes w (wordOut w) (decodedOf w)
+  decodes =
+      record {
+        refused = turned-away;
+        number = numbered (ℕ-discrete (wordRefusal (length w)) 0);
+        codeword = λ z C. of-both (λ x d. (d ≡ Corrected 0) × (x ≡ w)) z (codeword-kept w C);
+        located = λ z n. of-both (λ x d. Located w x d) z (located w (λ e. n (remainder-codeword w e)));
+        exact = λ z. of-both (λ x d. Exact w x d) z (exact w (fair-size (length w) z));
+        answer = refl;
+        word = refl;
+      }
+
+  pub decodes-so : (w′ : List ℕ) (r : Decoded) → r ≡ decodedOf w → w′ ≡ wordOut w → Decodes w w′ r
+  decodes-so w′ r e f = subst (λ (x : List ℕ). Decodes w x r) (sym f) (subst (λ (d : Decoded). Decodes w (wordOut w) d) (sym e) decodes)
+
+  -- ---- by the ways through `decode`: refused, a codeword, or by a shortest register
+  pub decodes-refused : (g : ℕ) → wordRefusal (length w) ≡ suc g → Decodes w w (Refused (suc g))
+  decodes-refused g e = let t = turned-away (λ z. omega arith) in decodes-so w (Refused (suc g)) (ap Refused (sym e) ∙ sym (t .0)) (sym (t .1))
+
+  module _ (least : 193 ≤ length w) (most : length w ≤ 65535) where
+    accepted : (w′ : List ℕ) (r : Decoded) → r ≡ answerOf w → w′ ≡ leftOf w → Decodes w w′ r
+    accepted w′ r e f = let t = taken (fair-word (length w) least most) in decodes-so w′ r (e ∙ sym (t .0)) (f ∙ sym (t .1))
+
+    pub decodes-clean : remainderOf w ≡ 0 → Decodes w w (Corrected 0)
+    decodes-clean z = let k = codeword-kept w (remainder-codeword w z) in accepted w (Corrected 0) (sym (k .0)) (sym (k .1))
+
+    pub decodes-located : remainderOf w ≢ 0 → (w′ : List ℕ) (r : Decoded) → Located w w′ r → Decodes w w′ r
+    decodes-located n w′ r L =
+        let M = located w n in
+        let S = register w .2 in
+        accepted w′ r (L .answer (register w .0) (register w .1) S ∙ sym (M .answer (register w .0) (register w .1) S))
+        (L .word (register w .0) (register w .1) S ∙ sym (M .word (register w .0) (register w .1) S))

@@ -1,6 +1,7 @@
 -- What decoding a word gives, in the words of the scope: "A codeword gives 0. Otherwise take the shortest register generating syndromes
 -- S1 to S24. Length over 12: uncorrectable, word unchanged. Otherwise flip each present position whose root it has; if fewer flips
 -- than its length, uncorrectable, flips left in place."
+use mathlib.Core.Path.{_≡_}
 use mathlib.Core.Logic.{ite}
 use mathlib.Core.List.{List, [], _∷_}
 use Prim.Native.Nat.{ℕ, _+_}
@@ -33,18 +34,23 @@ flipped c l (b ∷ w) = whereRoot c l (length w) (b ⊕ 1) b ∷ flipped c l w
 unfoldable pub flips : (ℕ → El 15) → ℕ → ℕ → ℕ
 flips c l n = zeros gf16 n (valueAt c l)
 
--- the answer to a word that is no codeword, and the bytes that it leaves, by a shortest register
+-- "Length over 12: uncorrectable, word unchanged. Otherwise flip ..": the answer by a shortest register c of length l, and the bytes that it leaves
 unfoldable pub answerBy : (ℕ → El 15) → ℕ → List ℕ → Decoded
 answerBy c l w = ite (decLe l 12) (ite (ℕ-discrete (flips c l (length w)) l) (Corrected l) Uncorrectable) Uncorrectable
 
 unfoldable pub leftBy : (ℕ → El 15) → ℕ → List ℕ → List ℕ
 leftBy c l w = ite (decLe l 12) (flipped c l w) w
 
--- "the shortest register": one that is shortest, which there always is; `any-answer` and `any-left` show that it does not matter which
+-- "Otherwise take the shortest register": whichever shortest one is taken, r is its answer to w, and w′ are the bytes that it leaves. There
+-- always is one (algebra, Massey: `shortest-exists`).
+pub record Located (w w′ : List ℕ) (r : Decoded) : Type 0 where
+  pub answer : (c : ℕ → El 15) (l : ℕ) → Shortest R16 (syndrome w) 24 c l → r ≡ answerBy c l w
+  pub word : (c : ℕ → El 15) (l : ℕ) → Shortest R16 (syndrome w) 24 c l → w′ ≡ leftBy c l w
+
+-- ---- as functions of a word of an accepted length: by some shortest register. `decodes` (AnswersLaws) says that it does not matter which
 unfoldable pub register : (w : List ℕ) → (c : ℕ → El 15) × (l : ℕ) × Shortest R16 (syndrome w) 24 c l
 register w = shortest-exists gf16 (syndrome w) 24
 
--- the answer to a word of an accepted length, and the bytes that it leaves
 unfoldable pub answerOf : List ℕ → Decoded
 answerOf w = ite (ℕ-discrete (remainderOf w) 0) (Corrected 0) (answerBy (register w .0) (register w .1) w)
 
