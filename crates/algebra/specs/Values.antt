@@ -4,7 +4,6 @@ use Prim.Native.Nat.{ℕ, zero, suc, _+_, _*_, _/_, _%_, _^_, _≤_, _<_}
 use native.Mathlib.Nat.{not-suc-le-zero, le-of-suc-le-suc, mod-lt, zero-mul, one-mul, le-refl, mul-div-cancel, mul-mod-left, div-one}
 use native.Mathlib.Omega.{arith}
 use lib.Arith.{lt-one}
-use lib.Pow.{shr-shr}
 use Rattle.laws.specs.Xor.{_⊕_, ⊕-half, ⊕-odd, two-cases, two-pos}
 use Rattle.laws.specs.Poly.{clmul, rem, quo, deeper, half-down, division, rem-lt}
 use Rattle.algebra.specs.Ring.{Ring, Field}
@@ -83,10 +82,7 @@ module _ {F : Type 0} (R : Ring F) where
   unfolding ev eval coeff
   ev-eval zero w z = refl
   ev-eval (suc k) w z =
-      ap₂ (λ (v : ℕ) y. bit R (v % 2) ⊞ z ⊠ y) (sym (div-one w)) (ev-eval k (w / 2) z ∙ ap (λ c. eval R k c z) (λ i n. bit R (step n i % 2)))
-    where
-      step : (n : ℕ) → w / 2 / 2 ^ n ≡ w / 2 ^ suc n
-      step n = shr-shr w 1 n ∙ ap (λ (m : ℕ). w / 2 ^ m) (omega arith)
+      ap₂ (λ (v : ℕ) y. bit R (v % 2) ⊞ z ⊠ y) (sym (div-one w)) (ev-eval k (w / 2) z ∙ ap (λ c. eval R k c z) (λ i n. bit R (deeper w n i % 2)))
 
 module _ {F : Type 0} (K : Field F) where
   open Ring (K .ring) using (𝟘, _⊞_, _⊠_)

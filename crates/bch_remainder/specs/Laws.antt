@@ -61,7 +61,7 @@ high-part a n j k =
     around : (a b c : ℕ) → a * (b * (c * 2)) ≡ a * c * 2 * b
     around a b c = omega arith
 
-number-digit : (w : List ℕ) (i : ℕ) → i < length w → number w / 2 ^ (length w - suc i) % 2 ≡ getD w i 0 % 2
+pub number-digit : (w : List ℕ) (i : ℕ) → i < length w → number w / 2 ^ (length w - suc i) % 2 ≡ getD w i 0 % 2
 number-digit [] i h = absurd (not-suc-le-zero h)
 number-digit (b ∷ w) zero h =
     ap (λ (x : ℕ). x / 2 ^ (suc (length w) - 1) % 2) (number-one-more b w) ∙ ap (λ (k : ℕ). (b % 2 * 2 ^ length w + number w) / 2 ^ k % 2) less

@@ -41,7 +41,7 @@ unfolding byteTable
 table-length = length-from 192 0 256
 
 -- word w of the register after that of t
-pub after-three : (t w : ℕ) → suc t * 3 + w ≡ suc (suc (suc (t * 3 + w)))
+after-three : (t w : ℕ) → suc t * 3 + w ≡ suc (suc (suc (t * 3 + w)))
 after-three t w = omega arith
 
 at-from : (e t₀ n t w : ℕ) → t < n → w < 3 → getD (tableFrom e t₀ n) (t * 3 + w) 0 ≡ wordOf w (timesPower e (t₀ + t))
