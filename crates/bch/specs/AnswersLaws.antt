@@ -1,7 +1,7 @@
 -- What each test of the code shows of the entry points' answers; that encoding gives a codeword; and that what `decode` promises holds.
 use mathlib.Core.Path.{_≡_, refl, sym, ap, ap₂, _∙_, subst}
 use mathlib.Core.Logic.{_≢_, ite, if-pos, if-neg}
-use mathlib.Core.List.{List, _++_, append-assoc}
+use mathlib.Core.List.{List, [], _∷_, _++_, append-assoc}
 use Prim.Native.Nat.{ℕ, suc, _+_, _-_, _≤_, _<_}
 use native.Mathlib.Decide.{ℕ-discrete, decLe, decLt}
 use native.Mathlib.Omega.{arith}
@@ -11,8 +11,9 @@ use Rattle.laws.specs.Lists.{lent-from, back-from}
 use Rattle.algebra.specs.Gf.{El}
 use Rattle.bch_remainder.specs.Word.{parityOf, remainderOf, parityBits, Codeword, encoded}
 use Rattle.bch_remainder.specs.Laws.{encoded-codeword, length-bits, remainder-codeword}
+use Rattle.bch.specs.Distance.{highBits}
 use Rattle.bch.specs.Decode.{flips, answerBy, leftBy, Located, register, answerOf, leftOf}
-use Rattle.bch.specs.DecodeLaws.{located-by}
+use Rattle.bch.specs.DecodeLaws.{located-by, located-only}
 use Rattle.bch.specs.Exact.{Exact}
 use Rattle.bch.specs.ExactLaws.{exact, codeword-kept}
 use Rattle.bch.specs.Answers.{wordRefusal, messageRefusal, encodedOf, outIf, encodeOut, decodedNumber, decodedOf, wordOut, Decodes}
@@ -106,7 +107,7 @@ answer-number w =
     either-number (ℕ-discrete (remainderOf w) 0) (Corrected 0) (answerBy (r .0) (r .1) w) refl (by-number (r .0) (r .1) w)
 
 -- a word that is no codeword, by every shortest register
-pub located : (w : List ℕ) → remainderOf w ≢ 0 → Located w (leftOf w) (answerOf w)
+located : (w : List ℕ) → remainderOf w ≢ 0 → Located w (leftOf w) (answerOf w)
 unfolding answerOf leftOf
 located w n =
     located-by w _ _ (register w .0) (register w .1) (register w .2)
@@ -121,6 +122,11 @@ fair-size n z = pick (decLt n 193) (decLt 65535 n)
     pick (yes h) d = omega arith
     pick (no h) (yes g) = absurd (omega (arith, long-word n (omega arith) g))
     pick (no h) (no g) = omega arith
+
+high-length : (w : List ℕ) → length (highBits w) ≡ length w
+unfolding highBits
+high-length [] = refl
+high-length (b ∷ w) = ap suc (high-length w)
 
 -- what `decode` promises holds of the answer and the bytes as functions of the word
 module _ (w : List ℕ) where
@@ -152,6 +158,14 @@ module _ (w : List ℕ) where
         word = refl;
       }
 
+  -- a word keeps its length
+  pub word-length : length (wordOut w) ≡ length w
+  word-length = pick (ℕ-discrete (wordRefusal (length w)) 0)
+    where
+      pick : Dec (wordRefusal (length w) ≡ 0) → length (wordOut w) ≡ length w
+      pick (yes z) = sym (high-length (wordOut w)) ∙ ap length (decodes .exact z .rest) ∙ high-length w
+      pick (no n) = ap length (decodes .refused n .1)
+
   pub decodes-so : (w′ : List ℕ) (r : Decoded) → r ≡ decodedOf w → w′ ≡ wordOut w → Decodes w w′ r
   decodes-so w′ r e f = subst (λ (x : List ℕ). Decodes w x r) (sym f) (subst (λ (d : Decoded). Decodes w (wordOut w) d) (sym e) decodes)
 
@@ -167,8 +181,4 @@ module _ (w : List ℕ) where
     decodes-clean z = let k = codeword-kept w (remainder-codeword w z) in accepted w (Corrected 0) (sym (k .0)) (sym (k .1))
 
     pub decodes-located : remainderOf w ≢ 0 → (w′ : List ℕ) (r : Decoded) → Located w w′ r → Decodes w w′ r
-    decodes-located n w′ r L =
-        let M = located w n in
-        let S = register w .2 in
-        accepted w′ r (L .answer (register w .0) (register w .1) S ∙ sym (M .answer (register w .0) (register w .1) S))
-        (L .word (register w .0) (register w .1) S ∙ sym (M .word (register w .0) (register w .1) S))
+    decodes-located n w′ r L = let o = located-only w w′ (leftOf w) r (answerOf w) L (located w n) in accepted w′ r (o .0) (o .1)

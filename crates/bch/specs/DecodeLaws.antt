@@ -1,4 +1,4 @@
--- Which shortest register is taken makes no difference to an answer, nor to the bytes that it leaves.
+-- Which shortest register is taken makes no difference to an answer, nor to the bytes that it leaves; and there is one.
 use mathlib.Core.Path.{_≡_, sym, ap₂, _∙_, subst}
 use mathlib.Core.Logic.{ite, if-pos, if-neg}
 use mathlib.Core.List.{List}
@@ -47,6 +47,12 @@ any-left w c l S = same-left w (register w .0) (register w .1) c l (register w .
 pub located-by : (w w′ : List ℕ) (r : Decoded) (c : ℕ → El 15) (l : ℕ) → Shortest R16 (syndrome w) 24 c l → r ≡ answerBy c l w → w′ ≡ leftBy c l w → Located w w′ r
 located-by w w′ r c l S e f =
     record { answer = λ c′ l′ S′. e ∙ same-answer w c l c′ l′ S S′; word = λ c′ l′ S′. f ∙ same-left w c l c′ l′ S S′ }
+
+-- and there is one: no other answer and no other bytes are so
+pub located-only : (w w′ v : List ℕ) (r s : Decoded) → Located w w′ r → Located w v s → (r ≡ s) × (w′ ≡ v)
+located-only w w′ v r s L M =
+    let c = register w in
+    (L .answer (c .0) (c .1) (c .2) ∙ sym (M .answer (c .0) (c .1) (c .2)), L .word (c .0) (c .1) (c .2) ∙ sym (M .word (c .0) (c .1) (c .2)))
 
 pub located-to : {w v : List ℕ} (v′ : List ℕ) (r : Decoded) → v′ ≡ v → Located w v r → Located w v′ r
 located-to {w} v′ r e L = subst (λ (x : List ℕ). Located w x r) (sym e) L
