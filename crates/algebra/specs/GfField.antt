@@ -15,6 +15,7 @@ use Rattle.algebra.specs.Gf.{El, mul}
 use Rattle.algebra.specs.GfLaws.{el-path, one-not-zero, mul-lt, mul-add-r, one-mul′, mul-comm′, mul-assoc′}
 
 module _ (n poly : ℕ) (hp : poly < 2 ^ suc n) where
+  -- 0, 1, xor and `mul`; then that the laws hold
   unfoldable pub gf-ring : Ring (El n)
   gf-ring =
       record {
@@ -32,6 +33,7 @@ module _ (n poly : ℕ) (hp : poly < 2 ^ suc n) where
         ⊠-dist = λ a b c. el-path (mul-add-r n poly hp (a .0) (b .0) (c .0));
       }
 
+  -- the inverse is a power, 2 ^ suc n - 2; that it is the inverse is a law of `Field`
   unfoldable pub gf-field : ((a : El n) → sqs gf-ring (suc n) a ≡ a) → ((a : El n) → gf-ring ._⊠_ a a ≡ a → (a ≡ gf-ring .𝟘) ⊎ (a ≡ gf-ring .𝟙)) → Field (El n)
   unfolding gf-ring
   gf-field fix idempotents =
