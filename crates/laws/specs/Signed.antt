@@ -1,6 +1,6 @@
 -- Whole numbers of 8 and 16 bits: the smaller and the larger of two, signs, and that sums, differences and negatives fit.
 use mathlib.Core.Path.{_≡_, refl, ap, subst, _∙_}
-use mathlib.Core.Bool.{Bool, true, false, not, cond}
+use mathlib.Core.Bool.{Bool, true, false, cond}
 use Prim.Native.Nat.{ℕ, zero, suc, _-_, _<_, _≤_, _^_, _/_}
 use native.Mathlib.Omega.{arith}
 use lib.IntN.{ℤ, pos, negsuc, _+ℤ_, _-ℤ_, negℤ, natAbs, +ℤ-idl}
@@ -11,23 +11,8 @@ use mir.Val.{SFits, toZ, ofZ}
 use mir.ValLaws.{toZ-ofZ}
 use lib.Bits.{bitXor, xor-shr}
 use borrow.Author.Tests.{lt-ltb, le-ltb}
+use Rattle.laws.specs.Definitions.{maxZ, negative, times}
 use Rattle.laws.specs.Choice.{by-cond}
-
-abbrev pub minZ : ℤ → ℤ → ℤ
-minZ a b = cond (ltZ a b) a b
-
-abbrev pub maxZ : ℤ → ℤ → ℤ
-maxZ a b = cond (ltZ a b) b a
-
--- 0 is positive
-abbrev pub negative : ℤ → Bool
-negative (pos n) = false
-negative (negsuc n) = true
-
--- the sign of a product: negative where exactly one of the two is
-abbrev pub times : Bool → Bool → Bool
-times true b = not b
-times false b = b
 
 -- ---- what the machine reads back from a number's bits
 pub plain : (z : ℤ) → SFits w8 z → toZ w8 (ofZ w8 z) ≡ z

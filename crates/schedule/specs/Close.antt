@@ -13,8 +13,8 @@ use lib.ListN.{length, getD, take, drop, length-append, length-drop, take-append
 use lib.Seq.{take-suc, take-all}
 use Rattle.laws.specs.Choice.{by-bool, by-cond, same-self}
 use Rattle.schedule.specs.Run.{Lane, empty, holds, Left, State, held}
-use Rattle.schedule.specs.Status.{Status, waiting, holding, done, lane-words, log-words, queue-words, all-words, seek, status, times, count}
-use Rattle.schedule.specs.Demand.{Demand}
+use Rattle.schedule.specs.Status.{Status, waiting, holding, done, lane-words, log-words, queue-words, all-words, seek, status}
+use Rattle.schedule.specs.Demand.{times, count, Demand}
 use Rattle.schedule.specs.Theorem.{demand}
 use Rattle.schedule.specs.Lanes.{Setup, lane-of, row, rows, length-rows, getD-rows, lane-held, kept, Kept}
 use Rattle.schedule.specs.Loop.{result, Runs}

@@ -1,8 +1,10 @@
 -- The schedule of a run over any words, in reading order. What a reader must believe: the run as the scope tells it, a word alone, what a result
--- says of each word, and the demand that joins them.
+-- says of each word.
 pub mod Run
 pub mod Alone
 pub mod Status
+-- what a word alone's end is; the claim about a whole run that joins the run and the word alone
+pub mod AloneLaws
 pub mod Demand
 -- why it holds of every run; two runs, computed; the same run when lanes are refilled in passes
 pub mod Sums

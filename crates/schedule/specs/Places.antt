@@ -7,9 +7,11 @@ use native.Mathlib.Nat.{not-suc-le-zero}
 use native.Mathlib.Omega.{arith}
 use borrow.Author.Tests.{eqb-true}
 use lib.Dec.{eqb}
-use Rattle.laws.specs.Choice.{by-cond, by-bool, same, same-self, same-sym}
+use Rattle.laws.specs.Choice.{by-cond, by-bool, same-self, same-sym}
+use Rattle.laws.specs.Definitions.{same}
 use Rattle.schedule.specs.Run.{Lane, empty, holds, Left, State}
-use Rattle.schedule.specs.Status.{Status, waiting, holding, done, spent, lane-words, log-words, queue-words, all-words, seek, status, times, count, sum, largest, case, Where}
+use Rattle.schedule.specs.Status.{Status, waiting, holding, done, spent, lane-words, log-words, queue-words, all-words, seek, status, sum, largest}
+use Rattle.schedule.specs.Demand.{times, count, case, Where}
 use Rattle.schedule.specs.Sums.{in-lane, in-lanes, in-queue, in-log, in-stock, Held, AllLanes, AllLog}
 use Rattle.schedule.specs.Rounds.{total}
 

@@ -10,7 +10,8 @@ use lib.Dec.{eqb, ltb}
 use lib.ListN.{length, length-replicate, length-map}
 use Rattle.laws.specs.Choice.{by-cond}
 use Rattle.schedule.specs.Run.{Words, Lane, empty, holds, Stock, State, finished, stopped, Result, each, held, over, fill, iterated, leave, refill, round, go, start, run}
-use Rattle.schedule.specs.Alone.{after, end-test}
+use Rattle.schedule.specs.Alone.{after}
+use Rattle.schedule.specs.AloneLaws.{end-test}
 use Rattle.schedule.specs.Demand.{after-alone, ends-alone}
 use Rattle.schedule.specs.Sums.{in-lane, in-lanes, in-queue, in-log, in-stock, one, iterations-of, Held, AllLanes, AllLog, Some, held-one, each-length, each-sum, each-all, each-before, each-queue, fill-sum, iterated-sum, iterated-all, leave-sum, leave-queue, fill-all, leave-all, leave-held, refill-full, fill-before, fill-fresh, all-empty, none-in}
 

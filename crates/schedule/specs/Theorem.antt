@@ -11,12 +11,13 @@ use borrow.Author.Tests.{eq-eqb, ne-eqb, lt-ltb, le-ltb}
 use lib.Dec.{ltb}
 use lib.ListN.{length, getD, length-append}
 use lib.Seq.{ext-getD}
-use Rattle.laws.specs.Choice.{by-cond, same, same-self}
+use Rattle.laws.specs.Choice.{by-cond, same-self}
+use Rattle.laws.specs.Definitions.{same}
 use Rattle.schedule.specs.Run.{counting, input-order}
 use Rattle.schedule.specs.Run.{Words, Lane, empty, holds, Left, State, Ending, finished, stopped, Result, held, run}
-use Rattle.schedule.specs.Alone.{Ends, ends-so}
-use Rattle.schedule.specs.Status.{Status, waiting, holding, done, spent, lane-words, log-words, all-words, status, times, count, sum, largest, given, longest, case, Where}
-use Rattle.schedule.specs.Demand.{after-alone, ends-alone, Finished, As-alone, Demand}
+use Rattle.schedule.specs.AloneLaws.{First-met-or-limit, ends-so}
+use Rattle.schedule.specs.Status.{Status, waiting, holding, done, spent, lane-words, log-words, all-words, status, sum, largest, given, longest}
+use Rattle.schedule.specs.Demand.{times, count, case, Where, after-alone, ends-alone, Finished, As-alone, Demand}
 use Rattle.schedule.specs.Sums.{in-lane, in-lanes, in-queue, in-log, in-stock, one, iterations-of, Held, AllLanes, AllLog, Some, held-one}
 use Rattle.schedule.specs.Rounds.{total, total-spent, spent-so-far, above, Running, Ended, Good, run-good}
 use Rattle.schedule.specs.Places.{sum-ext, largest-le, largest-sum, queue-sum, count-sum, weigh, times-weigh, sum-status, by-iterations, weigh-total, weigh-case, By-status, by-status, in-one-place}
@@ -204,7 +205,7 @@ demand words order once (suc others) h round-limit = demand-of words order once 
 
 -- ---- what follows for a word's record
 module _ {X : Type 0} (words : Words X) (w : ℕ) where
-  alone : Ends (words .begin w) (words .iterate) (words .met) (words .iteration-limit) (ends-alone words w)
+  alone : First-met-or-limit (words .begin w) (words .iterate) (words .met) (words .iteration-limit) (ends-alone words w)
   alone = ends-so (words .begin w) (words .iterate) (words .met) (words .iteration-limit)
 
   -- no more iterations than the limit
