@@ -215,7 +215,8 @@ module _ {X : Type 0} where
     weigh-case s =
         omega (arith, weigh-parts (λ w st. k w * case a b c st) s, case-lanes (s .lanes), case-log (s .stock .log), sum-times k a (s .stock .queue))
 
-  case-at : (a b c v : ℕ) (s : State X) → times v (all-words s) ≡ 1
+  -- a word that stands once: its status says how often it stands in the queue, in lanes and in the log
+  pub case-at : (a b c v : ℕ) (s : State X) → times v (all-words s) ≡ 1
       → a * count v (s .stock .queue) + b * times v (lane-words (s .lanes)) + c * times v (log-words (s .stock .log)) ≡ case a b c (status s v)
   unfolding status
   case-at a b c v s h =

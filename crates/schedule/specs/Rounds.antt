@@ -79,6 +79,16 @@ module _ {X : Type 0} (words : Words X) where
   unfolding after
   one-more w x i p = (ap (words .iterate) (p .0), p .1)
 
+  -- refilling changes no sum over words; a round gives each word in a lane one iteration more
+  pub refill-total : (f : ℕ → ℕ → ℕ) (s : State X) → total f (refill words s) ≡ total f s
+  unfolding total refill
+  refill-total f s = each-sum (fill words) f (fill-sum words f) (s .lanes) (s .stock)
+
+  pub round-total : (f : ℕ → ℕ → ℕ) (s : State X) → total f (round words s) ≡ in-lanes (λ w i. f w (suc i)) (s .lanes) + in-stock f (s .stock)
+  unfolding total round
+  round-total f s =
+      each-sum (leave words) f (leave-sum words f) (map (iterated words) (s .lanes)) (s .stock) ∙ ap (λ n. n + in-stock f (s .stock)) (iterated-sum words f (s .lanes))
+
   module _ (order : List ℕ) (others : ℕ) where
     -- when a word in a lane was loaded a word had waited all along
     abbrev pub Since : ℕ → ℕ → Lane X → Type 0
@@ -94,15 +104,6 @@ module _ {X : Type 0} (words : Words X) where
       pub full : Some (s .stock .queue) → spent-so-far s ≡ suc others * s .rounds
       pub since : AllLanes (Since (s .rounds) (spent-so-far s)) (s .lanes)
       pub most : (m : ℕ) → total (above m) s ≡ 0 → suc others * s .rounds ≤ spent-so-far s + others * m
-
-    refill-total : (f : ℕ → ℕ → ℕ) (s : State X) → total f (refill words s) ≡ total f s
-    unfolding total refill
-    refill-total f s = each-sum (fill words) f (fill-sum words f) (s .lanes) (s .stock)
-
-    round-total : (f : ℕ → ℕ → ℕ) (s : State X) → total f (round words s) ≡ in-lanes (λ w i. f w (suc i)) (s .lanes) + in-stock f (s .stock)
-    unfolding total round
-    round-total f s =
-        each-sum (leave words) f (leave-sum words f) (map (iterated words) (s .lanes)) (s .stock) ∙ ap (λ n. n + in-stock f (s .stock)) (iterated-sum words f (s .lanes))
 
     refill-spent : (s : State X) → spent-so-far (refill words s) ≡ spent-so-far s
     refill-spent s = sym (total-spent _) ∙ refill-total iterations-of s ∙ total-spent s
