@@ -1,4 +1,9 @@
--- Decimal numbers as bytes, and what makes a text that begins with one readable in one way only.
+-- Decimal numbers as bytes (Definitions: `decimal`, `signed`), and what makes a text that begins with one readable in one way only.
+--
+-- In order: digits; a number by its digits (`decimal-small`, `decimal-more`, `decimal-snoc`); all bytes are digits; the number that digits spell;
+-- the first byte (`decimal-leads`); how many bytes; a text behind a number (`span-prefix`, `decimal-unique`, `signed-unique`).
+--
+-- Not here: how a reader goes through a text (report_form).
 use mathlib.Core.Path.{_≡_, refl, sym, ap, ap₂, _∙_, subst}
 use mathlib.Core.Bool.{Bool, false, _&&_}
 use mathlib.Core.List.{List, [], _∷_, _++_}
@@ -90,7 +95,7 @@ decimal-digits =
     (λ n h r. subst Digits (sym (decimal-more n h)) (Digits-append (decimal (n / 10)) ((48 + n % 10) ∷ []) r (digit-of (n % 10) (mod-lt n (omega arith)), tt)))
 
 -- the number that digits spell behind the number v
-abbrev pub spelled : ℕ → List ℕ → ℕ
+abbrev spelled : ℕ → List ℕ → ℕ
 spelled v [] = v
 spelled v (x ∷ xs) = spelled (v * 10 + (x - 48)) xs
 

@@ -1,4 +1,11 @@
--- Polynomials over two elements as numbers, digit i the coefficient of x^i: their product, and division by a polynomial of degree d.
+-- Polynomials over two elements as numbers (Definitions: `clmul`, `rem`): `rem` is the remainder of a division by g of degree d, and the only one.
+-- That g has degree d is `g / 2 ^ d ≡ 1` everywhere.
+--
+-- In order: the quotient, and `division`; the remainder is below 2 ^ d (`rem-lt`); digits joined and moved up; the remainder does not depend on
+-- the number of digits, is additive, and is the number itself if that is small (`rem-digits`, `rem-add`, `rem-small`); degrees of products;
+-- multiples of g; `remainder-only`; what a shift register needs (`rem-shift`); `Divides` is remainder 0.
+--
+-- Not here: the laws of a ring and of a field (algebra).
 use mathlib.Core.Path.{_≡_, refl, sym, ap, ap₂, _∙_, subst}
 use Prim.Native.Nat.{ℕ, zero, suc, _+_, _*_, _/_, _%_, _^_, _≤_, _<_}
 use native.Mathlib.Nat.{mod-lt, pow-suc, zero-mul, one-mul, mul-div-cancel, mul-mod-left, mul-comm, div-add-mod', zero-add, zero-div, suc-add, add-zero, add-suc, add-comm, mul-one, mul-assoc, div-le-self, lt-of-lt-of-le, lt-of-le-of-lt, mod-eq-of-lt, div-lt-iff-lt-mul, div-eq-of-lt}

@@ -1,4 +1,4 @@
--- A function changed at one place.
+-- `put`, a function changed at one place: there, elsewhere, and where nothing changes. Not here: a list changed at one place (lib.Seq, Stores).
 use mathlib.Core.Path.{_≡_, refl, sym, ap}
 use mathlib.Core.Logic.{_≢_}
 use mathlib.Core.Bool.{Bool, cond}

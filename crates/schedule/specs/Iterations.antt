@@ -16,7 +16,7 @@ use Rattle.laws.specs.Definitions.{same}
 use Rattle.laws.specs.Choice.{by-cond}
 use Rattle.schedule.specs.Run.{Words, Lane, empty, holds, Left, Stock, State, Turn, Result, each, held, over, logged, load, fill, iterated, leave, refill, round, go, start, run}
 use Rattle.schedule.specs.Status.{Status, waiting, holding, done, spent, lane-words, log-words, all-words, status}
-use Rattle.schedule.specs.Demand.{count, times, case, Finished}
+use Rattle.schedule.specs.WholeRun.{count, times, case, Finished}
 use Rattle.schedule.specs.Sums.{in-lane, in-lanes, in-queue, in-log, in-stock, none-in}
 use Rattle.schedule.specs.Rounds.{total, refill-total, round-total}
 use Rattle.schedule.specs.Places.{queue-sum, count-sum, times-weigh, only-found, weigh-total, case-at}

@@ -5,7 +5,7 @@ pub mod Alone
 pub mod Status
 -- what a word alone's end is; the claim about a whole run that joins the run and the word alone
 pub mod AloneLaws
-pub mod Demand
+pub mod WholeRun
 -- why it holds of every run; that a word's iterations are the rounds in which it is held; two runs, computed; the same run when lanes are
 -- refilled in passes
 pub mod Sums

@@ -1,4 +1,6 @@
--- Each word of a run is in one place: lists of words with their status, each word once.
+-- Each word of a run is in one place. In order: sums and the largest over an order; sums over words with their status (`weigh`); in a list with the
+-- words of an order, each once, a word's status is what stands beside it (`only-found`, `sum-status`); the three parts of a state; facts of every
+-- word from facts of lanes and log (`by-status`); where a word is, by its status (`case-at`, `in-one-place`).
 use mathlib.Core.Path.{_≡_, refl, sym, ap, ap₂, _∙_, subst}
 use mathlib.Core.Bool.{cond}
 use mathlib.Core.List.{List, [], _∷_, _++_}
@@ -11,7 +13,7 @@ use Rattle.laws.specs.Choice.{by-cond, by-bool, same-self, same-sym}
 use Rattle.laws.specs.Definitions.{same}
 use Rattle.schedule.specs.Run.{Lane, empty, holds, Left, State}
 use Rattle.schedule.specs.Status.{Status, waiting, holding, done, spent, lane-words, log-words, queue-words, all-words, seek, status, sum, largest}
-use Rattle.schedule.specs.Demand.{times, count, case, Where}
+use Rattle.schedule.specs.WholeRun.{times, count, case, Where}
 use Rattle.schedule.specs.Sums.{in-lane, in-lanes, in-queue, in-log, in-stock, Held, AllLanes, AllLog}
 use Rattle.schedule.specs.Rounds.{total}
 

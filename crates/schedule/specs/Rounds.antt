@@ -1,4 +1,6 @@
--- What a run keeps from round to round, and what holds at its end: of every order of loading, lane count and round limit.
+-- What a run keeps from round to round, and what holds at its end, of every order of loading, lane count and round limit. In order: sums over the
+-- words of a state; a word in a lane is as alone (`Running`, `Testing`, `Ended`); sums through refilling and a round; the invariant `Inv`, through
+-- both; `Good`, what holds at the end (`run-good`). Not here: each word by itself (Places, Iterations).
 use mathlib.Core.Path.{_≡_, refl, sym, ap, _∙_, subst}
 use mathlib.Core.Bool.{true, false, cond}
 use mathlib.Core.List.{List, [], _∷_, _++_, map, append-assoc}
@@ -12,7 +14,7 @@ use Rattle.laws.specs.Choice.{by-cond}
 use Rattle.schedule.specs.Run.{Words, Lane, empty, holds, Stock, State, finished, stopped, Result, each, held, over, fill, iterated, leave, refill, round, go, start, run}
 use Rattle.schedule.specs.Alone.{after}
 use Rattle.schedule.specs.AloneLaws.{end-test}
-use Rattle.schedule.specs.Demand.{after-alone, ends-alone}
+use Rattle.schedule.specs.WholeRun.{after-alone, ends-alone}
 use Rattle.schedule.specs.Sums.{in-lane, in-lanes, in-queue, in-log, in-stock, one, iterations-of, Held, AllLanes, AllLog, Some, held-one, each-length, each-sum, each-all, each-before, each-queue, fill-sum, iterated-sum, iterated-all, leave-sum, leave-queue, fill-all, leave-all, leave-held, refill-full, fill-before, fill-fresh, all-empty, none-in}
 
 -- every word of a state, once

@@ -1,6 +1,6 @@
--- Demand 3 as far as the schedule goes: one claim about a whole run. It joins the run (Run) and the word alone (Alone), whose definitions know
--- nothing of each other. Theorem shows it for every order of loading that has each word at most once, every lane count of 1 or more and every
--- round limit: it holds of the run's definition, whatever a program does.
+-- The claim of demand 3 as far as the schedule goes, "a single claim about a whole run". It joins the run (Run) and the word alone (Alone),
+-- whose definitions know nothing of each other. Theorem shows it for every order of loading that has each word at most once, every lane count of
+-- 1 or more and every round limit: it holds of the run's definition, whatever a program does.
 use mathlib.Core.Path.{_≡_}
 use mathlib.Core.Logic.{_↔_}
 use mathlib.Core.List.{List, [], _∷_, _++_}
@@ -57,7 +57,7 @@ module _ {X : Type 0} (words : Words X) where
   As-alone w (holding x i) = (x ≡ after-alone w i) × (i < ends-alone w)
   As-alone w (done x i) = (x ≡ after-alone w (ends-alone w)) × (i ≡ ends-alone w)
 
-  pub record Demand (order : List ℕ) (lanes round-limit : ℕ) (r : Result X) : Type 0 where
+  pub record Whole-run (order : List ℕ) (lanes round-limit : ℕ) (r : Result X) : Type 0 where
     -- "finished if no lane is held; stopped if the round limit is used up"
     pub rounds-within : r .last .rounds ≤ round-limit
     pub finished-when : r .ending ≡ finished ↔ held (r .last .lanes) ≡ 0
