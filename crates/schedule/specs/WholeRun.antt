@@ -1,19 +1,46 @@
--- Demand 3 as far as the schedule goes: one claim about a whole run. It joins the run (Run) and the word alone (Alone), whose definitions know
--- nothing of each other. Theorem shows it for every order of loading that has each word at most once, every lane count of 1 or more and every
--- round limit.
+-- The claim of demand 3 as far as the schedule goes, "a single claim about a whole run". It joins the run (Run) and the word alone (Alone),
+-- whose definitions know nothing of each other. Theorem shows it for every order of loading that has each word at most once, every lane count of
+-- 1 or more and every round limit: it holds of the run's definition, whatever a program does.
 use mathlib.Core.Path.{_≡_}
 use mathlib.Core.Logic.{_↔_}
-use mathlib.Core.List.{List, _++_}
+use mathlib.Core.List.{List, [], _∷_, _++_}
 use Prim.Native.Nat.{ℕ, _+_, _-_, _*_, _≤_, _<_}
 use lib.ListN.{length}
-use Rattle.schedule.specs.Run.{Words, Result, finished, stopped, held}
+use Rattle.laws.specs.Definitions.{same}
+use Rattle.schedule.specs.Run.{Words, State, Result, finished, stopped, held}
 use Rattle.schedule.specs.Alone.{after, ends}
-use Rattle.schedule.specs.Status.{Status, waiting, holding, done, all-words, status, times, count, sum, given, longest, case, Where}
+use Rattle.schedule.specs.Status.{Status, waiting, holding, done, lane-words, log-words, all-words, status, sum, given, longest}
 
-abbrev pub Finished : {X : Type 0} → Status X → Type 0
-Finished waiting = ⊥
-Finished (holding x i) = ⊥
-Finished (done x i) = Unit {0}
+-- how often the word v stands in an order
+unfoldable pub count : ℕ → List ℕ → ℕ
+count v [] = 0
+count v (w ∷ ws) = same v w + count v ws
+
+module _ {X : Type 0} where
+  -- how often it stands among words with their status
+  unfoldable pub times : ℕ → List (ℕ × Status X) → ℕ
+  times v [] = 0
+  times v (e ∷ es) = same v (e .0) + times v es
+
+  -- one number for each status: waiting, held, finished
+  abbrev pub case : ℕ → ℕ → ℕ → Status X → ℕ
+  case a b c waiting = a
+  case a b c (holding x i) = b
+  case a b c (done x i) = c
+
+  abbrev pub Finished : Status X → Type 0
+  Finished waiting = ⊥
+  Finished (holding x i) = ⊥
+  Finished (done x i) = Unit {0}
+
+  -- how often a word stands in the queue, in lanes, in the log; and by its status it stands in one of them, once
+  abbrev pub Places : State X → ℕ → ℕ → ℕ → ℕ → Type 0
+  Places s v a b c = (count v (s .stock .queue) ≡ a) × (times v (lane-words (s .lanes)) ≡ b) × (times v (log-words (s .stock .log)) ≡ c)
+
+  abbrev pub Where : State X → ℕ → Status X → Type 0
+  Where s v waiting = Places s v 1 0 0
+  Where s v (holding x i) = Places s v 0 1 0
+  Where s v (done x i) = Places s v 0 0 1
 
 module _ {X : Type 0} (words : Words X) where
   -- the words of a run, each alone: word w's values after i iterations, and its iterations at its end
@@ -30,7 +57,7 @@ module _ {X : Type 0} (words : Words X) where
   As-alone w (holding x i) = (x ≡ after-alone w i) × (i < ends-alone w)
   As-alone w (done x i) = (x ≡ after-alone w (ends-alone w)) × (i ≡ ends-alone w)
 
-  pub record Demand (order : List ℕ) (lanes round-limit : ℕ) (r : Result X) : Type 0 where
+  pub record Whole-run (order : List ℕ) (lanes round-limit : ℕ) (r : Result X) : Type 0 where
     -- "finished if no lane is held; stopped if the round limit is used up"
     pub rounds-within : r .last .rounds ≤ round-limit
     pub finished-when : r .ending ≡ finished ↔ held (r .last .lanes) ≡ 0
