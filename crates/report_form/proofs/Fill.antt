@@ -15,7 +15,7 @@ use Rattle.report_form.specs.Form.{Reads, must-find, lead, one-byte}
 use Rattle.report_form.specs.Forms.{smalls, pairForm, pairFrom, pairText, PairWithin, pairs-fine, wordForm, LineWithin, lines-fine}
 use Rattle.report_form.specs.Reading.{stored, softWord, softWords}
 use Rattle.report_form.specs.Accepted.{soft-word-length}
-use Rattle.report_form.specs.Places.{PairsAt, PairsHere, WordAt, WordHere, WordsAt, WordsHere, Filled}
+use Rattle.report_form.specs.Places.{PairsAt, PairsHere, WordAt, WordHere, WordsAt, WordsHere, ReadAndStored}
 use Rattle.report_form.proofs.Bytes.{head-at, byte-here}
 use Rattle.laws.specs.Stores.{sets-append, replicate-snoc, set-sets}
 
@@ -147,7 +147,7 @@ pub filling-below : (n base : ℕ) (t : List ℕ) (l : List ℤ) (now : List ℕ
     → Filling n base t l now count l′ → getD now 0 0 ≡ 9 → Reads pairForm (λ p. p ≡ pairFrom position value) true right now next → PairsHere n t → position < n
 filling-below n base t l now count l′ position value f h r x = found-pair (next-pair (f .left (x .pairs) (x .rest) (x .at-place)) h) r .0
 
-pub filled-here : (text : List ℕ) (i : ℕ) (rest : List ℕ) {l goal : List ℤ} → (drop i text ≡ 10 ∷ rest) × (l ≡ goal) → Filled (drop (i + 1) text) rest l goal
+pub filled-here : (text : List ℕ) (i : ℕ) (rest : List ℕ) {l goal : List ℤ} → (drop i text ≡ 10 ∷ rest) × (l ≡ goal) → ReadAndStored (drop (i + 1) text) rest l goal
 filled-here text i rest h =
     let b : getD text i 0 ≡ 10 = sym (head-at text i) ∙ ap (λ (l : List ℕ). getD l 0 0) (h .0) in
     let e : 10 ∷ drop (i + 1) text ≡ 10 ∷ rest = sym (byte-here text i 10 (omega arith) b) ∙ h .0 in
@@ -185,8 +185,8 @@ word-pairs-here n text at x h = record { pairs = x .word .pairs; rest = x .rest;
 
 pub word-filled : (n : ℕ) (text : List ℕ) (at base : ℕ) (l : List ℤ) {l₁ l₂ : List ℤ} {value : ℤ} {right : Bool} {next behind : List ℕ} → base + n ≤ length l
     → Reads (lead 9 smalls) (λ v. v ≡ value) true right (drop (at + 1) text) next → l₁ ≡ sets l base (replicate n value)
-    → ((ps : List Pair) (rest : List ℕ) → PairsAt n next ps rest → Filled behind rest l₂ (stored base ps l₁)) → (w : Word) (rest : List ℕ) → WordAt n (drop at text) w rest
-    → Filled behind rest l₂ (sets l base (softWord n w))
+    → ((ps : List Pair) (rest : List ℕ) → PairsAt n next ps rest → ReadAndStored behind rest l₂ (stored base ps l₁)) → (w : Word) (rest : List ℕ) → WordAt n (drop at text) w rest
+    → ReadAndStored behind rest l₂ (sets l base (softWord n w))
 word-filled n text at base l {value = value} room h d p w rest a =
     let (e, x) = word-default n text at w rest a h in
     let f = p (w .pairs) rest x in
@@ -234,7 +234,7 @@ module _ {n : ℕ} {goal : List ℤ} where
       go (w ∷ more) f e s (inr other) = absurd (other (ap (λ (x : List ℕ). getD x 0 0) e))
 
   word-left : {now next : List ℕ} {count base : ℕ} {l l′ : List ℤ} → NextWord n goal now count base l
-      → ((w : Word) (rest : List ℕ) → WordAt n now w rest → Filled next rest l′ (sets l base (softWord n w))) → WordsLeft n goal next (count + 1) (base + n) l′
+      → ((w : Word) (rest : List ℕ) → WordAt n now w rest → ReadAndStored next rest l′ (sets l base (softWord n w))) → WordsLeft n goal next (count + 1) (base + n) l′
   word-left {base = base} {l} {l′} x f =
       let g = f (x .word) (each (wordForm n .write) (x .more)) (x .at-place) in
       record {
@@ -262,7 +262,7 @@ words-filling-start n t l =
     }
 
 pub words-filling-again : (n : ℕ) (t : List ℕ) (l : List ℤ) (now : List ℕ) (count base : ℕ) (l′ : List ℤ) {next : List ℕ} {l″ : List ℤ} → FillingWords n t l now count base l′
-    → n ≤ 1122 → getD now 0 0 ≡ 87 → length l″ ≡ length l′ → ((w : Word) (rest : List ℕ) → WordAt n now w rest → Filled next rest l″ (sets l′ base (softWord n w)))
+    → n ≤ 1122 → getD now 0 0 ≡ 87 → length l″ ≡ length l′ → ((w : Word) (rest : List ℕ) → WordAt n now w rest → ReadAndStored next rest l″ (sets l′ base (softWord n w)))
     → FillingWords n t l next (count + 1) (base + n) l″
 words-filling-again n t l now count base l′ f short h k g =
     record {

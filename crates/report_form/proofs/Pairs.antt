@@ -9,7 +9,7 @@ use native.Mathlib.Omega.{arith}
 use lib.IntN.{ℤ}
 use lib.ListN.{length, getD}
 use Rattle.report_form.specs.Description.{Pair, Small, Ascending}
-use Rattle.report_form.specs.Form.{Found, Missing, Reads, reads-any, byte, Ongoing, Hopeless, Ends, going-start, going-more, going-missing, going-wrong, chain-reads, chain-missing}
+use Rattle.report_form.specs.Form.{Found, Missing, Reads, reads-any, byte, Ongoing, Hopeless, ListEnds, going-start, going-more, going-missing, going-wrong, chain-reads, chain-missing}
 use Rattle.report_form.specs.Forms.{pairForm, pairFrom, pairs, PairsWithin, pairs-within, pairs-apart, pair-chain}
 use Rattle.report_form.proofs.Lists.{too-many, length-snoc}
 
@@ -74,7 +74,7 @@ module _ (n : ℕ) where
       go more r (inl l) = omega (arith, r .0, o .says .least-is, ap (λ (p : Pair). p .position) (f .says))
       go more r (inr l) = omega (arith, r .1, ap (λ (p : Pair). p .position) (f .says))
 
-  pairs-end : (least count : ℕ) (now : List ℕ) → (64 ≤ count) ⊎ (getD now 0 0 ≡ 9 → ⊥) → Ends pairs (PairsWithin n) (pairs-within n) (PairsSo least count) now
+  pairs-end : (least count : ℕ) (now : List ℕ) → (64 ≤ count) ⊎ (getD now 0 0 ≡ 9 → ⊥) → ListEnds pairs (PairsWithin n) (pairs-within n) (PairsSo least count) now
   pairs-end least count now (inl full) xs s = inr (λ x more w. too-many 64 xs x more (w .few) (omega (arith, s .count-is)))
   pairs-end least count now (inr other) xs s = inl other
 

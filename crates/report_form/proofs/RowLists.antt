@@ -11,7 +11,7 @@ use lib.ListN.{length, getD, set, replicate, length-append, length-map}
 use lib.Seq.{sets}
 use Rattle.report_form.specs.Description.{RowWithin, flat}
 use Rattle.report_form.specs.Accepted.{flat-few}
-use Rattle.report_form.specs.Form.{Found, Missing, Reads, byte, lead, lead-reads, via-reads, Ongoing, Ends, Listed, listed, not-listed, going-start, going-more, going-missing, chain-reads, chain-missing}
+use Rattle.report_form.specs.Form.{Found, Missing, Reads, byte, lead, lead-reads, via-reads, Ongoing, ListEnds, Listed, listed, not-listed, going-start, going-more, going-missing, chain-reads, chain-missing}
 use Rattle.report_form.specs.Forms.{numbers, addresses, newline-apart, row-chain, rowForm, rows, RowsWithin, rows-within, RowsSo}
 use Rattle.laws.specs.Stores.{sets-append}
 use Rattle.report_form.proofs.Lists.{too-many, length-snoc, all-snoc}
@@ -49,7 +49,7 @@ row-again into from count value places {t} {now} {next} o f c =
         ∙ ap₂ (λ (k : ℕ) (a : ℕ). set (sets into from row) (from + k) a) (sym n) (sym e)
         ∙ sym (sets-append into from row (v ∷ []))
 
-row-ends : (into : List ℕ) (from count : ℕ) (places now : List ℕ) → (4 ≤ count) ⊎ (getD now 0 0 ≡ 9 → ⊥) → Ends addresses RowWithin (λ xs w. w .addresses) (RowSo into from count places) now
+row-ends : (into : List ℕ) (from count : ℕ) (places now : List ℕ) → (4 ≤ count) ⊎ (getD now 0 0 ≡ 9 → ⊥) → ListEnds addresses RowWithin (λ xs w. w .addresses) (RowSo into from count places) now
 row-ends into from count places now (inl full) xs s = inr (λ x more w. too-many 4 xs x more (w .few) (omega (arith, s .count-is)))
 row-ends into from count places now (inr other) xs s = inl other
 
@@ -132,7 +132,7 @@ rows-none count lengths total places {t = t} {now} o e m =
     not-listed rows RowsWithin rows-within (going-missing rows RowsWithin rows-within (RowsSo count lengths total places) t now o e m)
 
 rows-ends : (count : ℕ) (lengths : List ℕ) (total : ℕ) (places : List ℕ) (now : List ℕ) → (3 ≤ count) ⊎ (getD now 0 0 ≡ 82 → ⊥)
-    → Ends rows RowsWithin rows-within (RowsSo count lengths total places) now
+    → ListEnds rows RowsWithin rows-within (RowsSo count lengths total places) now
 rows-ends count lengths total places now (inl full) xs s = inr (λ x more w. too-many 3 xs x more (w .three) (omega (arith, s .count-is)))
 rows-ends count lengths total places now (inr other) xs s = inl other
 

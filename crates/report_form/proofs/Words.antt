@@ -9,7 +9,7 @@ use native.Mathlib.Omega.{arith}
 use lib.ListN.{length, drop, getD, drop-of-length-le}
 use lib.Seq.{drop-cons}
 use Rattle.report_form.specs.Description.{Word, WordWithin}
-use Rattle.report_form.specs.Form.{Found, Missing, Reads, reads-both, reads-none, reads-one, end, Ongoing, Ends, going-start, going-more, going-missing, chain-reads, chain-missing}
+use Rattle.report_form.specs.Form.{Found, Missing, Reads, reads-both, reads-none, reads-one, end, Ongoing, ListEnds, going-start, going-more, going-missing, chain-reads, chain-missing}
 use Rattle.report_form.specs.Forms.{wordForm, words, WordsWithin, words-within, end-apart, wordsForm}
 use Rattle.report_form.proofs.Lists.{too-many, length-snoc, all-snoc}
 
@@ -39,7 +39,7 @@ module _ (n : ℕ) where
       chain-missing (words n) (WordsWithin n) (words-within n) end (λ b r _ e. end-apart n r e)
       (going-missing (words n) (WordsWithin n) (words-within n) (WordsSo count) t now o h m)
 
-  ends : (count : ℕ) (now : List ℕ) → (16 ≤ count) ⊎ (getD now 0 0 ≡ 87 → ⊥) → Ends (words n) (WordsWithin n) (words-within n) (WordsSo count) now
+  ends : (count : ℕ) (now : List ℕ) → (16 ≤ count) ⊎ (getD now 0 0 ≡ 87 → ⊥) → ListEnds (words n) (WordsWithin n) (words-within n) (WordsSo count) now
   ends count now (inl full) xs s = inr (λ x more w. too-many 16 xs x more (w .sixteen) (omega (arith, s .count-is)))
   ends count now (inr other) xs s = inl other
 

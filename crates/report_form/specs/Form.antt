@@ -375,23 +375,23 @@ module _ {A : Type 0} (I : Items A) (Fine : List A → Type 0) (fine : (xs : Lis
       }
 
   -- the list's end: the text goes on with no item, or the list is full
-  abbrev pub Ends : (List A → Type 0) → List ℕ → Type 0
-  Ends Says now = (xs : List A) → Says xs → (getD now 0 0 ≡ I .mark → ⊥) ⊎ ((x : A) (more : List A) → Fine (xs ++ x ∷ more) → ⊥)
+  abbrev pub ListEnds : (List A → Type 0) → List ℕ → Type 0
+  ListEnds Says now = (xs : List A) → Says xs → (getD now 0 0 ≡ I .mark → ⊥) ⊎ ((x : A) (more : List A) → Fine (xs ++ x ∷ more) → ⊥)
 
   -- what a reader of a list answers at t: the list ends at now, or there is none
   abbrev pub Lists : (List A → Type 0) → Bool → Bool → List ℕ → List ℕ → Type 0
   Lists Says false right t now = right ≡ false
-  Lists Says true true t now = Ongoing Says t now × Ends Says now
+  Lists Says true true t now = Ongoing Says t now × ListEnds Says now
   Lists Says true false t now = Hopeless t
 
   pub record Listed (Says : List A → Type 0) (l l′ : Bool) (t now : List ℕ) : Type 0 where
     pub answer : Lists Says l l′ t now
 
-  any-list : (Says : List A → Type 0) (l : Bool) (t now : List ℕ) → Ongoing Says t now → Ends Says now → Lists Says l l t now
+  any-list : (Says : List A → Type 0) (l : Bool) (t now : List ℕ) → Ongoing Says t now → ListEnds Says now → Lists Says l l t now
   any-list Says false t now o e = refl
   any-list Says true t now o e = (o, e)
 
-  pub listed : {Says : List A → Type 0} {l : Bool} {t now : List ℕ} → Ongoing Says t now → Ends Says now → Listed Says l l t now
+  pub listed : {Says : List A → Type 0} {l : Bool} {t now : List ℕ} → Ongoing Says t now → ListEnds Says now → Listed Says l l t now
   listed {Says} {l} {t} {now} o e = record { answer = any-list Says l t now o e }
 
   no-list : (Says : List A → Type 0) (l : Bool) (t now : List ℕ) → Hopeless t → Lists Says l false t now
@@ -443,7 +443,7 @@ module _ {A : Type 0} (I : Items A) (Fine : List A → Type 0) (fine : (xs : Lis
           unique = chain-unique;
         }
 
-    chain-answer : (Says : List A → Type 0) (S : B → Type 0) (l l′ : Bool) (t now next : List ℕ) → Going Says l t now → (l ≡ true → Ends Says now) → Answer G S l l′ now next
+    chain-answer : (Says : List A → Type 0) (S : B → Type 0) (l l′ : Bool) (t now next : List ℕ) → Going Says l t now → (l ≡ true → ListEnds Says now) → Answer G S l l′ now next
         → Answer chain (λ x. Says (x .0) × S (x .1)) true l′ t next
     chain-answer Says S false true t now next g ends h = absurd (right-wrong h)
     chain-answer Says S false false t now next g ends h =
@@ -472,13 +472,13 @@ module _ {A : Type 0} (I : Items A) (Fine : List A → Type 0) (fine : (xs : Lis
         go b r w f (a ∷ more) ok y (inl z) = z (ap (λ (l : List ℕ). getD l 0 0) y ∙ item-here a more (G .write b ++ r))
         go b r w f (a ∷ more) ok y (inr z) = z a more ok
 
-    chain-any : (Says : List A → Type 0) (S : B → Type 0) (l l′ : Bool) (t now next : List ℕ) → Ongoing Says t now → Ends Says now → Answer G S l l′ now next
+    chain-any : (Says : List A → Type 0) (S : B → Type 0) (l l′ : Bool) (t now next : List ℕ) → Ongoing Says t now → ListEnds Says now → Answer G S l l′ now next
         → Answer chain (λ x. Says (x .0) × S (x .1)) l l′ t next
     chain-any Says S false l′ t now next o e h = h
     chain-any Says S true l′ t now next o e h = chain-answer Says S true l′ t now next o (λ _. e) h
 
     -- after the items read so far, the list ends
-    pub chain-reads : {Says : List A → Type 0} {S : B → Type 0} {l l′ : Bool} {t now next : List ℕ} → Ongoing Says t now → Ends Says now → Reads G S l l′ now next
+    pub chain-reads : {Says : List A → Type 0} {S : B → Type 0} {l l′ : Bool} {t now next : List ℕ} → Ongoing Says t now → ListEnds Says now → Reads G S l l′ now next
         → Reads chain (λ x. Says (x .0) × S (x .1)) l l′ t next
     chain-reads {Says} {S} {l} {l′} {t} {now} {next} o e h = record { answer = chain-any Says S l l′ t now next o e (h .answer) }
 

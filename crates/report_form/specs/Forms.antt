@@ -57,14 +57,14 @@ pub record OrderSo (steps : Bool) (step : ℕ) (s : Schedule) : Type 0 where
   pub layered-is : isLayered s ≡ steps
   pub step-is : stepOf s ≡ step
 
-pub record SettingsSo (lanes iterations : ℕ) (offset : ℤ) (steps : Bool) (step rounds first bits : ℕ) (s : Settings) : Type 0 where
+pub record SettingsSo (lanes iteration-limit : ℕ) (offset : ℤ) (steps : Bool) (step round-limit part-first part-length : ℕ) (s : Settings) : Type 0 where
   pub lanes-is : s .lanes ≡ lanes
-  pub iterations-is : s .iterations ≡ iterations
+  pub iteration-limit-is : s .iteration-limit ≡ iteration-limit
   pub offset-is : s .offset ≡ offset
   pub order-is : OrderSo steps step (s .schedule)
-  pub rounds-is : s .rounds ≡ rounds
-  pub first-is : s .first ≡ first
-  pub bits-is : s .bits ≡ bits
+  pub round-limit-is : s .round-limit ≡ round-limit
+  pub part-first-is : s .part-first ≡ part-first
+  pub part-length-is : s .part-length ≡ part-length
 
 abbrev pub address : ℕ → List ℕ
 address a = 9 ∷ decimal a
@@ -111,37 +111,37 @@ abbrev pub seven-fields : Form Fields
 seven-fields = seq (lead 9 (numbers 4)) six-fields (λ _ _ _ _. refl)
 
 abbrev pub fieldsOf : Settings → Fields
-fieldsOf s = (s .lanes, (s .iterations, (s .offset, (s .schedule, (s .rounds, (s .first, (s .bits, tt)))))))
+fieldsOf s = (s .lanes, (s .iteration-limit, (s .offset, (s .schedule, (s .round-limit, (s .part-first, (s .part-length, tt)))))))
 
 abbrev pub settingsOfFields : Fields → Settings
 settingsOfFields x =
     record {
       lanes = x .0;
-      iterations = x .1 .0;
+      iteration-limit = x .1 .0;
       offset = x .1 .1 .0;
       schedule = x .1 .1 .1 .0;
-      rounds = x .1 .1 .1 .1 .0;
-      first = x .1 .1 .1 .1 .1 .0;
-      bits = x .1 .1 .1 .1 .1 .1 .0;
+      round-limit = x .1 .1 .1 .1 .0;
+      part-first = x .1 .1 .1 .1 .1 .0;
+      part-length = x .1 .1 .1 .1 .1 .1 .0;
     }
 
 -- the settings' line
 abbrev pub settingsForm : Form Settings
 settingsForm =
     via (lead 80 seven-fields) fieldsOf settingsOfFields (λ _. refl) (λ _. refl) SettingsWithin
-    (λ _ w. (w .lanes, (w .iterations, (w .offset, (w .schedule, (w .rounds, (w .first, (w .bits, tt))))))))
-    (λ _ w. record { lanes = w .0; iterations = w .1 .0; offset = w .1 .1 .0; schedule = w .1 .1 .1 .0; rounds = w .1 .1 .1 .1 .0; first = w .1 .1 .1 .1 .1 .0; bits = w .1 .1 .1 .1 .1 .1 .0 })
+    (λ _ w. (w .lanes, (w .iteration-limit, (w .offset, (w .schedule, (w .round-limit, (w .part-first, (w .part-length, tt))))))))
+    (λ _ w. record { lanes = w .0; iteration-limit = w .1 .0; offset = w .1 .1 .0; schedule = w .1 .1 .1 .0; round-limit = w .1 .1 .1 .1 .0; part-first = w .1 .1 .1 .1 .1 .0; part-length = w .1 .1 .1 .1 .1 .1 .0 })
 
-pub settings-reads : {lanes iterations step rounds first bits : ℕ} {offset : ℤ} {steps : Bool} {l₀ l₁ l₂ l₃ l₄ l₅ l₆ l₇ l₈ l₉ : Bool} {t₀ t₁ t₂ t₃ t₄ t₅ t₆ t₇ t₈ t₉ : List ℕ}
-    → Reads (byte 80) (λ _. Unit) l₀ l₁ t₀ t₁ → Reads (lead 9 (numbers 4)) (λ v. v ≡ lanes) l₁ l₂ t₁ t₂ → Reads wides (λ v. v ≡ iterations) l₂ l₃ t₂ t₃
-    → Reads (lead 9 smalls) (λ v. v ≡ offset) l₃ l₄ t₃ t₄ → Reads (lead 9 schedules) (OrderSo steps step) l₄ l₅ t₄ t₅ → Reads wides (λ v. v ≡ rounds) l₅ l₆ t₅ t₆
-    → Reads wides (λ v. v ≡ first) l₆ l₇ t₆ t₇ → Reads wides (λ v. v ≡ bits) l₇ l₈ t₇ t₈ → Reads (byte 10) (λ _. Unit) l₈ l₉ t₈ t₉
-    → Reads settingsForm (SettingsSo lanes iterations offset steps step rounds first bits) l₀ l₉ t₀ t₉
+pub settings-reads : {lanes iteration-limit step round-limit part-first part-length : ℕ} {offset : ℤ} {steps : Bool} {l₀ l₁ l₂ l₃ l₄ l₅ l₆ l₇ l₈ l₉ : Bool} {t₀ t₁ t₂ t₃ t₄ t₅ t₆ t₇ t₈ t₉ : List ℕ}
+    → Reads (byte 80) (λ _. Unit) l₀ l₁ t₀ t₁ → Reads (lead 9 (numbers 4)) (λ v. v ≡ lanes) l₁ l₂ t₁ t₂ → Reads wides (λ v. v ≡ iteration-limit) l₂ l₃ t₂ t₃
+    → Reads (lead 9 smalls) (λ v. v ≡ offset) l₃ l₄ t₃ t₄ → Reads (lead 9 schedules) (OrderSo steps step) l₄ l₅ t₄ t₅ → Reads wides (λ v. v ≡ round-limit) l₅ l₆ t₅ t₆
+    → Reads wides (λ v. v ≡ part-first) l₆ l₇ t₆ t₇ → Reads wides (λ v. v ≡ part-length) l₇ l₈ t₇ t₈ → Reads (byte 10) (λ _. Unit) l₈ l₉ t₈ t₉
+    → Reads settingsForm (SettingsSo lanes iteration-limit offset steps step round-limit part-first part-length) l₀ l₉ t₀ t₉
 settings-reads p a b o s r f c e =
     via-reads (lead 80 seven-fields) fieldsOf settingsOfFields (λ _. refl) (λ _. refl) SettingsWithin
-    (λ _ w. (w .lanes, (w .iterations, (w .offset, (w .schedule, (w .rounds, (w .first, (w .bits, tt))))))))
-    (λ _ w. record { lanes = w .0; iterations = w .1 .0; offset = w .1 .1 .0; schedule = w .1 .1 .1 .0; rounds = w .1 .1 .1 .1 .0; first = w .1 .1 .1 .1 .1 .0; bits = w .1 .1 .1 .1 .1 .1 .0 })
-    (λ x h. record { lanes-is = h .0; iterations-is = h .1 .0; offset-is = h .1 .1 .0; order-is = h .1 .1 .1 .0; rounds-is = h .1 .1 .1 .1 .0; first-is = h .1 .1 .1 .1 .1 .0; bits-is = h .1 .1 .1 .1 .1 .1 .0 })
+    (λ _ w. (w .lanes, (w .iteration-limit, (w .offset, (w .schedule, (w .round-limit, (w .part-first, (w .part-length, tt))))))))
+    (λ _ w. record { lanes = w .0; iteration-limit = w .1 .0; offset = w .1 .1 .0; schedule = w .1 .1 .1 .0; round-limit = w .1 .1 .1 .1 .0; part-first = w .1 .1 .1 .1 .1 .0; part-length = w .1 .1 .1 .1 .1 .1 .0 })
+    (λ x h. record { lanes-is = h .0; iteration-limit-is = h .1 .0; offset-is = h .1 .1 .0; order-is = h .1 .1 .1 .0; round-limit-is = h .1 .1 .1 .1 .0; part-first-is = h .1 .1 .1 .1 .1 .0; part-length-is = h .1 .1 .1 .1 .1 .1 .0 })
     (lead-reads 80 seven-fields p
     (seq-reads (lead 9 (numbers 4)) six-fields (λ _ _ _ _. refl) a
     (seq-reads wides five-fields (λ _ _ _ _. refl) b

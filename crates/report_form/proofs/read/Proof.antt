@@ -108,7 +108,7 @@ returns-3 c =
     let ok″ = right-before (at-read-settings .read-settings .ensures) ok′ in
     let f = found-there (at-read-words .read-words .ensures) ok in
     inr
-    (one-description n (r .count) (r .lengths) (r .total) (r .addresses) (e .lanes) (e .iterations) (toZ w8 (ofZ w8 (e .offset))) (e .layered) (e .step) (e .rounds) (e .first) (e .bits) (at-read-words .read-words .result .value)
+    (one-description n (r .count) (r .lengths) (r .total) (r .addresses) (e .lanes) (e .«iteration_limit») (toZ w8 (ofZ w8 (e .offset))) (e .layered) (e .step) (e .«round_limit») (e .«part_first») (e .«part_length») (at-read-words .read-words .result .value)
     (found-there (head-reads (at-expect .expect .ensures) (at-read-field .read-field .ensures) (at-expect2 .expect2 .ensures)) (not-false (at-expect2 .expect2 .result .right) (at-if1 .if1 .left)))
     (listed-there rows RowsWithin rows-within (at-read-rows .read-rows .ensures) ok″)
     (settings-as (found-there (at-read-settings .read-settings .ensures) ok′) (sym (toZ-ofZ w8 (e .offset) (record { sfits = c .struct-told .given .1 .1 .1 .0 .1 }))))
