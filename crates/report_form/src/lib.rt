@@ -36,16 +36,16 @@ pub struct Reading {
 
 // Whether the text is right so far, and the place behind what was read. A reader is told whether the text was right before it: once wrong,
 // it stays wrong, and the readers need no tests between them.
-struct Place {
-    right: bool,
-    next: usize,
+pub struct Place {
+    pub right: bool,
+    pub next: usize,
 }
 
 // A number that was read: whether the text is right so far, the number and the place behind it.
-struct Number {
-    right: bool,
-    value: u32,
-    next: usize,
+pub struct Number {
+    pub right: bool,
+    pub value: u32,
+    pub next: usize,
 }
 
 // A number of 8 bits with its sign that was read.
@@ -104,7 +104,7 @@ struct Rows {
 }
 
 // The byte at a place, 0 behind the end.
-fn byte_at(text: &[u8], at: usize) -> u8
+pub fn byte_at(text: &[u8], at: usize) -> u8
     ensures { λ r. ⌜ r ≡ getD (now (text .entry)) at 0 ⌝ }
 {
     if at < text.len() { text[at] } else { 0 }
@@ -119,7 +119,7 @@ fn digit_at(text: &[u8], at: usize) -> bool
 }
 
 // One byte that has to stand at a place; 0, which `byte_at` gives behind the end, never does.
-fn expect(text: &[u8], right: bool, at: usize, b: u8) -> Place
+pub fn expect(text: &[u8], right: bool, at: usize, b: u8) -> Place
     requires { ⌜ 0 < b ⌝ }
     ensures { λ r. ⌜ Reads (byte b) (λ _. Unit) right (r .right) (drop at (now (text .entry))) (drop (r .next) (now (text .entry))) ⌝ }
 {
@@ -170,7 +170,7 @@ fn read_digits(text: &[u8], at: usize, most: u32) -> Number
 }
 
 // A number of at most `most`, in decimal without a leading zero; no digit follows.
-fn read_number(text: &[u8], right: bool, at: usize, most: u32) -> Number
+pub fn read_number(text: &[u8], right: bool, at: usize, most: u32) -> Number
     ensures { λ r. ⌜ Reads (numbers most) (λ v. v ≡ r .value) right (r .right) (drop at (now (text .entry))) (drop (r .next) (now (text .entry))) ⌝ }
 {
     if right {
