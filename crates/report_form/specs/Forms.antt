@@ -1,8 +1,9 @@
 -- The forms of the report's text: numbers, the fields of a line, the lines.
 use mathlib.Core.Path.{_≡_, refl, sym, ap, _∙_, subst}
 use mathlib.Core.Bool.{Bool}
+use mathlib.Core.Logic.{_⊎_, inl, inr}
 use mathlib.Core.List.{List, [], _∷_, _++_, map}
-use Prim.Native.Nat.{ℕ, suc, _≤_}
+use Prim.Native.Nat.{ℕ, suc, _≤_, _<_}
 use native.Mathlib.Omega.{arith}
 use lib.IntN.{ℤ}
 use lib.ListN.{length, replicate}
@@ -31,17 +32,22 @@ smalls =
       unique = λ a b r s _ _ p q e. signed-unique a b r s p q e;
     }
 
-no-digit : (n : ℕ) (r s : List ℕ) → 83 ∷ s ≡ decimal n ++ r → ⊥
-no-digit n r s e =
+-- a decimal number begins with a digit
+pub not-decimal : (b n : ℕ) (r s : List ℕ) → (b < 48) ⊎ (57 < b) → b ∷ s ≡ decimal n ++ r → ⊥
+not-decimal b n r s h e =
     let l = decimal-leads n in
-    let h : 83 ∷ s ≡ l .first ∷ (l .others ++ r) = e ∙ ap (λ (xs : List ℕ). xs ++ r) (l .is) in
-    let f : 83 ≡ l .first = cc in
-    omega (arith, l .high)
+    let g : b ∷ s ≡ l .first ∷ (l .others ++ r) = e ∙ ap (λ (xs : List ℕ). xs ++ r) (l .is) in
+    let f : b ≡ l .first = cc in
+    go f h
+  where
+    go : b ≡ decimal-leads n .first → (b < 48) ⊎ (57 < b) → ⊥
+    go f (inl low) = omega (arith, f, decimal-leads n .low)
+    go f (inr high) = omega (arith, f, decimal-leads n .high)
 
 pub schedule-unique : (a b : Schedule) (r s : List ℕ) → Stops r → Stops s → scheduleText a ++ r ≡ scheduleText b ++ s → (a ≡ b) × (r ≡ s)
 schedule-unique sequential sequential r s p q e = let f : r ≡ s = cc in (refl, f)
-schedule-unique sequential (layered n) r s p q e = absurd (no-digit n s r e)
-schedule-unique (layered m) sequential r s p q e = absurd (no-digit m r s (sym e))
+schedule-unique sequential (layered n) r s p q e = absurd (not-decimal 83 n s r (inr (omega arith)) e)
+schedule-unique (layered m) sequential r s p q e = absurd (not-decimal 83 m r s (inr (omega arith)) (sym e))
 schedule-unique (layered m) (layered n) r s p q e = let (a, b) = decimal-unique m n r s p q e in (ap layered a, b)
 
 abbrev pub schedules : Form Schedule
