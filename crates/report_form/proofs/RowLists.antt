@@ -12,7 +12,7 @@ use lib.Seq.{sets}
 use Rattle.report_form.specs.Description.{RowWithin, flat}
 use Rattle.report_form.specs.Accepted.{flat-few}
 use Rattle.report_form.specs.Form.{Found, Missing, Reads, byte, lead, lead-reads, via-reads, Ongoing, Listed, listed, not-listed, going-start, going-more, going-missing, chain-reads, chain-missing}
-use Rattle.report_form.specs.Forms.{numbers, addresses, newline-apart, row-chain, rowForm, rows, RowsWithin, rows-within, RowsSo}
+use Rattle.report_form.specs.Forms.{rowFields, numbers, addresses, newline-apart, row-chain, rowForm, rows, RowsWithin, rows-within, RowsSo}
 use Rattle.laws.specs.Stores.{sets-append}
 use Rattle.report_form.proofs.Lists.{list-ends, length-snoc, all-snoc}
 
@@ -51,7 +51,7 @@ row-again into from count value places {t} {now} {next} o f c =
 
 row-form : {S : List ℕ × Unit → Type 0} {S′ : List ℕ → Type 0} {l l′ l″ : Bool} {t u v : List ℕ} → ((x : List ℕ × Unit) → S x → S′ (x .0)) → Reads (byte 82) (λ _. Unit) l l′ t u
     → Reads row-chain S l′ l″ u v → Reads rowForm S′ l l″ t v
-row-form s h g = via-reads (lead 82 row-chain) (λ row. (row, tt)) (λ x. x .0) (λ _. refl) (λ _. refl) RowWithin (λ _ w. (w, tt)) (λ _ w. w .0) s (lead-reads 82 row-chain h g)
+row-form s h g = via-reads (lead 82 row-chain) rowFields s (lead-reads 82 row-chain h g)
 
 pub row-none : {S : List ℕ → Type 0} (into : List ℕ) (from count : ℕ) (places : List ℕ) {l l′ : Bool} {t u now v : List ℕ} → Reads (byte 82) (λ _. Unit) l l′ t u
     → RowSoFar into from count places u now → getD now 0 0 ≡ 9 → Missing (lead 9 (numbers 65535)) now → Reads rowForm S l false t v

@@ -210,21 +210,37 @@ module _ {A B : Type 0} (F : Form A) (G : Form B) (joins : (b : B) (r : List ℕ
   pub seq-reads : {S : A → Type 0} {S′ : B → Type 0} {l l′ l″ : Bool} {t u v : List ℕ} → Reads F S l l′ t u → Reads G S′ l′ l″ u v → Reads seq (λ x. S (x .0) × S′ (x .1)) l l″ t v
   seq-reads {S} {S′} {l} {l′} {l″} {t} {u} {v} h g = record { answer = seq-answer S S′ l l′ l″ t u v (h .answer) (g .answer) }
 
-module _ {A B : Type 0} (F : Form A) (to : B → A) (from : A → B) (from-to : (b : B) → from (to b) ≡ b) (to-from : (a : A) → to (from a) ≡ a) (W : B → Type 0) (to-within : (b : B) → W b → F .Within (to b)) (from-within : (a : A) → F .Within a → W (from a)) where
-  -- the same texts, of other values and with the limits said otherwise
-  pub via-unique : (a b : B) (r s : List ℕ) → W a → W b → F .Follow r → F .Follow s → F .write (to a) ++ r ≡ F .write (to b) ++ s → (a ≡ b) × (r ≡ s)
+-- values of another type that stand for the form's own, with the limits said otherwise
+pub record StandFor {A : Type 0} (F : Form A) (B : Type 0) : Type 1 where
+  pub to : B → A
+  pub from : A → B
+  pub from-to : (b : B) → from (to b) ≡ b
+  pub to-from : (a : A) → to (from a) ≡ a
+  pub Within : B → Type 0
+  pub to-within : (b : B) → Within b → F .Within (to b)
+  pub from-within : (a : A) → F .Within a → Within (from a)
+
+module _ {A B : Type 0} (F : Form A) (m : StandFor F B) where
+  -- the same texts, of those values
+  pub via-unique : (a b : B) (r s : List ℕ) → m .Within a → m .Within b → F .Follow r → F .Follow s → F .write (m .to a) ++ r ≡ F .write (m .to b) ++ s → (a ≡ b) × (r ≡ s)
   via-unique a b r s ha hb hr hs e =
-      let (p, q) = F .unique (to a) (to b) r s (to-within a ha) (to-within b hb) hr hs e in
-      (sym (from-to a) ∙ ap from p ∙ from-to b, q)
+      let (p, q) = F .unique (m .to a) (m .to b) r s (m .to-within a ha) (m .to-within b hb) hr hs e in
+      (sym (m .from-to a) ∙ ap (m .from) p ∙ m .from-to b, q)
 
   abbrev pub via : Form B
-  via = record { write = λ b. F .write (to b); Within = W; Follow = F .Follow; unique = via-unique }
+  via = record { write = λ b. F .write (m .to b); Within = m .Within; Follow = F .Follow; unique = via-unique }
 
-  pub via-reads : {S : A → Type 0} {S′ : B → Type 0} {l l′ : Bool} {t u : List ℕ} → ((a : A) → S a → S′ (from a)) → Reads F S l l′ t u → Reads via S′ l l′ t u
+  pub via-reads : {S : A → Type 0} {S′ : B → Type 0} {l l′ : Bool} {t u : List ℕ} → ((a : A) → S a → S′ (m .from a)) → Reads F S l l′ t u → Reads via S′ l l′ t u
   via-reads {S} {S′} {l} {l′} {t} {u} s h =
       reads-both h
-      (λ f. record { it = from (f .it); says = s (f .it) (f .says); within = from-within (f .it) (f .within); here = f .here ∙ ap (λ (x : A). F .write x ++ u) (sym (to-from (f .it))); after = f .after })
-      (λ m. record { none = λ b r w f e. m .none (to b) r (to-within b w) f e })
+      (λ f. record {
+        it = m .from (f .it);
+        says = s (f .it) (f .says);
+        within = m .from-within (f .it) (f .within);
+        here = f .here ∙ ap (λ (x : A). F .write x ++ u) (sym (m .to-from (f .it)));
+        after = f .after;
+      })
+      (λ n. record { none = λ b r w f e. n .none (m .to b) r (m .to-within b w) f e })
 
 -- a byte before one
 module _ {A : Type 0} (b : ℕ) (F : Form A) where

@@ -10,7 +10,7 @@ use lib.ListN.{length, replicate}
 use lib.Seq.{sets}
 use Rattle.laws.specs.Decimal.{decimal, signed, Stops, decimal-unique, signed-unique, decimal-leads}
 use Rattle.report_form.specs.Description.{flat, isLayered, stepOf, Schedule, sequential, layered, Settings, Pair, Word, All, Wide, Small, Ascending, RowWithin, ScheduleWithin, SettingsWithin, WordWithin, Within, each, scheduleText}
-use Rattle.report_form.specs.Form.{Form, Reads, byte, end, seq, seq-reads, via, via-reads, lead, lead-reads, Items, Apart, chain}
+use Rattle.report_form.specs.Form.{Form, Reads, byte, end, seq, seq-reads, StandFor, via, via-reads, lead, lead-reads, Items, Apart, chain}
 
 -- a number of at most `most`
 abbrev pub numbers : ℕ → Form ℕ
@@ -85,8 +85,11 @@ abbrev pub row-chain : Form (List ℕ × Unit)
 row-chain = chain addresses RowWithin (λ xs w. w .addresses) (byte 10) (λ b r _ _. newline-apart r)
 
 -- a row's line
+abbrev pub rowFields : StandFor (lead 82 row-chain) (List ℕ)
+rowFields = record { to = λ row. (row, tt); from = λ x. x .0; from-to = λ _. refl; to-from = λ _. refl; Within = RowWithin; to-within = λ _ w. (w, tt); from-within = λ _ w. w .0 }
+
 abbrev pub rowForm : Form (List ℕ)
-rowForm = via (lead 82 row-chain) (λ row. (row, tt)) (λ x. x .0) (λ _. refl) (λ _. refl) RowWithin (λ _ w. (w, tt)) (λ _ w. w .0)
+rowForm = via (lead 82 row-chain) rowFields
 
 -- the settings' fields, and the newline
 abbrev pub wides : Form ℕ
@@ -116,27 +119,21 @@ Fields = ℕ × (ℕ × (ℤ × (Schedule × (ℕ × (ℕ × (ℕ × Unit))))))
 abbrev pub seven-fields : Form Fields
 seven-fields = seq (lead 9 (numbers 4)) six-fields (λ _ _ _ _. refl)
 
-abbrev pub fieldsOf : Settings → Fields
-fieldsOf s = (s .lanes, (s .iteration-limit, (s .offset, (s .schedule, (s .round-limit, (s .part-first, (s .part-length, tt)))))))
-
-abbrev pub settingsOfFields : Fields → Settings
-settingsOfFields x =
+-- the settings' line
+abbrev pub settingsFields : StandFor (lead 80 seven-fields) Settings
+settingsFields =
     record {
-      lanes = x .0;
-      iteration-limit = x .1 .0;
-      offset = x .1 .1 .0;
-      schedule = x .1 .1 .1 .0;
-      round-limit = x .1 .1 .1 .1 .0;
-      part-first = x .1 .1 .1 .1 .1 .0;
-      part-length = x .1 .1 .1 .1 .1 .1 .0;
+      to = λ s. (s .lanes, (s .iteration-limit, (s .offset, (s .schedule, (s .round-limit, (s .part-first, (s .part-length, tt)))))));
+      from = λ x. record { lanes = x .0; iteration-limit = x .1 .0; offset = x .1 .1 .0; schedule = x .1 .1 .1 .0; round-limit = x .1 .1 .1 .1 .0; part-first = x .1 .1 .1 .1 .1 .0; part-length = x .1 .1 .1 .1 .1 .1 .0 };
+      from-to = λ _. refl;
+      to-from = λ _. refl;
+      Within = SettingsWithin;
+      to-within = λ _ w. (w .lanes, (w .iteration-limit, (w .offset, (w .schedule, (w .round-limit, (w .part-first, (w .part-length, tt)))))));
+      from-within = λ _ w. record { lanes = w .0; iteration-limit = w .1 .0; offset = w .1 .1 .0; schedule = w .1 .1 .1 .0; round-limit = w .1 .1 .1 .1 .0; part-first = w .1 .1 .1 .1 .1 .0; part-length = w .1 .1 .1 .1 .1 .1 .0 };
     }
 
--- the settings' line
 abbrev pub settingsForm : Form Settings
-settingsForm =
-    via (lead 80 seven-fields) fieldsOf settingsOfFields (λ _. refl) (λ _. refl) SettingsWithin
-    (λ _ w. (w .lanes, (w .iteration-limit, (w .offset, (w .schedule, (w .round-limit, (w .part-first, (w .part-length, tt))))))))
-    (λ _ w. record { lanes = w .0; iteration-limit = w .1 .0; offset = w .1 .1 .0; schedule = w .1 .1 .1 .0; round-limit = w .1 .1 .1 .1 .0; part-first = w .1 .1 .1 .1 .1 .0; part-length = w .1 .1 .1 .1 .1 .1 .0 })
+settingsForm = via (lead 80 seven-fields) settingsFields
 
 pub settings-reads : {lanes iteration-limit step round-limit part-first part-length : ℕ} {offset : ℤ} {steps : Bool} {l₀ l₁ l₂ l₃ l₄ l₅ l₆ l₇ l₈ l₉ : Bool} {t₀ t₁ t₂ t₃ t₄ t₅ t₆ t₇ t₈ t₉ : List ℕ}
     → Reads (byte 80) (λ _. Unit) l₀ l₁ t₀ t₁ → Reads (lead 9 (numbers 4)) (λ v. v ≡ lanes) l₁ l₂ t₁ t₂ → Reads wides (λ v. v ≡ iteration-limit) l₂ l₃ t₂ t₃
@@ -144,9 +141,7 @@ pub settings-reads : {lanes iteration-limit step round-limit part-first part-len
     → Reads wides (λ v. v ≡ part-first) l₆ l₇ t₆ t₇ → Reads wides (λ v. v ≡ part-length) l₇ l₈ t₇ t₈ → Reads (byte 10) (λ _. Unit) l₈ l₉ t₈ t₉
     → Reads settingsForm (SettingsSo lanes iteration-limit offset steps step round-limit part-first part-length) l₀ l₉ t₀ t₉
 settings-reads p a b o s r f c e =
-    via-reads (lead 80 seven-fields) fieldsOf settingsOfFields (λ _. refl) (λ _. refl) SettingsWithin
-    (λ _ w. (w .lanes, (w .iteration-limit, (w .offset, (w .schedule, (w .round-limit, (w .part-first, (w .part-length, tt))))))))
-    (λ _ w. record { lanes = w .0; iteration-limit = w .1 .0; offset = w .1 .1 .0; schedule = w .1 .1 .1 .0; round-limit = w .1 .1 .1 .1 .0; part-first = w .1 .1 .1 .1 .1 .0; part-length = w .1 .1 .1 .1 .1 .1 .0 })
+    via-reads (lead 80 seven-fields) settingsFields
     (λ x h. record { lanes-is = h .0; iteration-limit-is = h .1 .0; offset-is = h .1 .1 .0; order-is = h .1 .1 .1 .0; round-limit-is = h .1 .1 .1 .1 .0; part-first-is = h .1 .1 .1 .1 .1 .0; part-length-is = h .1 .1 .1 .1 .1 .1 .0 })
     (lead-reads 80 seven-fields p
     (seq-reads (lead 9 (numbers 4)) six-fields (λ _ _ _ _. refl) a
@@ -160,11 +155,20 @@ pub record PairWithin (p : Pair) : Type 0 where
   pub position : Wide (p .position)
   pub value : Small (p .value)
 
+abbrev pub pairFields : StandFor (seq wides (lead 9 smalls) (λ _ _ _ _. refl)) Pair
+pairFields =
+    record {
+      to = λ p. (p .position, p .value);
+      from = λ x. record { position = x .0; value = x .1 };
+      from-to = λ _. refl;
+      to-from = λ _. refl;
+      Within = PairWithin;
+      to-within = λ _ w. (w .position, w .value);
+      from-within = λ _ w. record { position = w .0; value = w .1 };
+    }
+
 abbrev pub pairForm : Form Pair
-pairForm =
-    via (seq wides (lead 9 smalls) (λ _ _ _ _. refl)) (λ p. (p .position, p .value)) (λ x. record { position = x .0; value = x .1 }) (λ _. refl) (λ _. refl) PairWithin
-    (λ _ w. (w .position, w .value))
-    (λ _ w. record { position = w .0; value = w .1 })
+pairForm = via (seq wides (lead 9 smalls) (λ _ _ _ _. refl)) pairFields
 
 abbrev pub pairFrom : ℕ → ℤ → Pair
 pairFrom position value = record { position = position; value = value }
@@ -172,9 +176,7 @@ pairFrom position value = record { position = position; value = value }
 pub pair-reads : {position : ℕ} {value : ℤ} {l l′ l″ : Bool} {t u v : List ℕ} → Reads wides (λ p. p ≡ position) l l′ t u → Reads (lead 9 smalls) (λ z. z ≡ value) l′ l″ u v
     → Reads pairForm (λ p. p ≡ pairFrom position value) l l″ t v
 pair-reads {position} {value} p z =
-    via-reads (seq wides (lead 9 smalls) (λ _ _ _ _. refl)) (λ p. (p .position, p .value)) (λ x. record { position = x .0; value = x .1 }) (λ _. refl) (λ _. refl) PairWithin
-    (λ _ w. (w .position, w .value))
-    (λ _ w. record { position = w .0; value = w .1 })
+    via-reads (seq wides (lead 9 smalls) (λ _ _ _ _. refl)) pairFields
     (λ x h. said x (h .0) (h .1))
     (seq-reads wides (lead 9 smalls) (λ _ _ _ _. refl) p z)
   where
@@ -218,27 +220,25 @@ pub record LineWithin (n : ℕ) (w : Word) : Type 0 where
   pub within : WordWithin n w
   pub short : n ≤ 1122
 
-abbrev pub WordFields : Type 0
-WordFields = ℤ × (List Pair × Unit)
-
-abbrev pub fieldsOfWord : Word → WordFields
-fieldsOfWord w = (w .default, (w .pairs, tt))
-
-abbrev pub wordOfFields : WordFields → Word
-wordOfFields x = record { default = x .0; pairs = x .1 .0 }
+abbrev pub wordFields : (n : ℕ) → StandFor (lead 87 (word-fields n)) Word
+wordFields n =
+    record {
+      to = λ w. (w .default, (w .pairs, tt));
+      from = λ x. record { default = x .0; pairs = x .1 .0 };
+      from-to = λ _. refl;
+      to-from = λ _. refl;
+      Within = LineWithin n;
+      to-within = λ _ w. (w .within .default, (record { rising = w .within .pairs; few = w .within .few; short = w .short }, tt));
+      from-within = λ _ w. record { within = record { default = w .0; pairs = w .1 .0 .rising; few = w .1 .0 .few }; short = w .1 .0 .short };
+    }
 
 abbrev pub wordForm : ℕ → Form Word
-wordForm n =
-    via (lead 87 (word-fields n)) fieldsOfWord wordOfFields (λ _. refl) (λ _. refl) (LineWithin n)
-    (λ _ w. (w .within .default, (record { rising = w .within .pairs; few = w .within .few; short = w .short }, tt)))
-    (λ _ w. record { within = record { default = w .0; pairs = w .1 .0 .rising; few = w .1 .0 .few }; short = w .1 .0 .short })
+wordForm n = via (lead 87 (word-fields n)) (wordFields n)
 
 pub word-reads : {S : ℤ → Type 0} {S′ : List Pair × Unit → Type 0} (n : ℕ) {l₀ l₁ l₂ l₃ : Bool} {t₀ t₁ t₂ t₃ : List ℕ} → Reads (byte 87) (λ _. Unit) l₀ l₁ t₀ t₁
     → Reads (lead 9 smalls) S l₁ l₂ t₁ t₂ → Reads (pair-chain n) S′ l₂ l₃ t₂ t₃ → Reads (wordForm n) (λ _. Unit) l₀ l₃ t₀ t₃
 word-reads n w d p =
-    via-reads (lead 87 (word-fields n)) fieldsOfWord wordOfFields (λ _. refl) (λ _. refl) (LineWithin n)
-    (λ _ w. (w .within .default, (record { rising = w .within .pairs; few = w .within .few; short = w .short }, tt)))
-    (λ _ w. record { within = record { default = w .0; pairs = w .1 .0 .rising; few = w .1 .0 .few }; short = w .1 .0 .short })
+    via-reads (lead 87 (word-fields n)) (wordFields n)
     (λ x h. tt)
     (lead-reads 87 (word-fields n) w (seq-reads (lead 9 smalls) (pair-chain n) (λ b r _ _. pairs-stop (b .0) r) d p))
 
