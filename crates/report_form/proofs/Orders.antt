@@ -1,10 +1,8 @@
 -- A schedule, read as `S` or by way of a number.
 use mathlib.Core.Path.{_≡_, refl, sym, ap, _∙_}
 use mathlib.Core.Bool.{true, false}
-use mathlib.Core.Logic.{inr}
 use mathlib.Core.List.{List, _∷_, _++_}
 use Prim.Native.Nat.{ℕ}
-use native.Mathlib.Omega.{arith}
 use lib.ListN.{getD}
 use Rattle.laws.specs.Decimal.{digit, Stops}
 use Rattle.report_form.specs.Description.{Schedule, sequential, layered, ScheduleWithin, scheduleText}
@@ -22,7 +20,7 @@ s-missing t u e d = record { none = go }
         let h : 83 ∷ u ≡ 83 ∷ r = sym e ∙ g in
         let q : u ≡ r = cc in
         right-wrong (sym d ∙ ap (λ (l : List ℕ). digit (getD l 0 0)) q ∙ f)
-    go (layered v) r w f g = not-decimal 83 v r u (inr (omega arith)) (sym e ∙ g)
+    go (layered v) r w f g = not-decimal (83 ∷ u) v r refl (sym e ∙ g)
 
 pub step-found : (t u : List ℕ) (value : ℕ) → Found (numbers 4294967295) (λ v. v ≡ value) t u → Found schedules (OrderSo true value) t u
 step-found t u value f = record { it = layered (f .it); says = record { layered-is = refl; step-is = f .says }; within = f .within; here = f .here; after = f .after }

@@ -1,7 +1,6 @@
 -- A number with its sign, read by way of a number without.
-use mathlib.Core.Path.{_≡_, sym, ap, _∙_, subst}
+use mathlib.Core.Path.{_≡_, refl, sym, ap, _∙_, subst}
 use mathlib.Core.Bool.{Bool, cond}
-use mathlib.Core.Logic.{inl}
 use mathlib.Core.List.{List, _∷_, _++_}
 use Prim.Native.Nat.{ℕ, zero, suc, _-_, _≤_, _<_}
 use native.Mathlib.Nat.{not-suc-le-zero}
@@ -47,7 +46,7 @@ unfolding signed
 minus-missing t m = record { none = go }
   where
     go : (z : ℤ) (r : List ℕ) → Small z → smalls .Follow r → 45 ∷ t ≡ signed z ++ r → ⊥
-    go (pos v) r w f e = not-decimal 45 v r t (inl (omega arith)) e
+    go (pos v) r w f e = not-decimal (45 ∷ t) v r refl e
     go (negsuc v) r w f e = let q : t ≡ decimal (suc v) ++ r = cc in m .none (suc v) r (omega arith) f q
 
 -- there is no -0
@@ -56,7 +55,7 @@ unfolding signed
 minus-zero t u value z f = record { none = go }
   where
     go : (y : ℤ) (r : List ℕ) → Small y → smalls .Follow r → 45 ∷ t ≡ signed y ++ r → ⊥
-    go (pos v) r w g e = not-decimal 45 v r t (inl (omega arith)) e
+    go (pos v) r w g e = not-decimal (45 ∷ t) v r refl e
     go (negsuc v) r w g e =
         let q : t ≡ decimal (suc v) ++ r = cc in
         let p = numbers 128 .unique (suc v) (f .it) r u (omega arith) (f .within) g (f .after) (sym q ∙ f .here) in

@@ -9,7 +9,7 @@ use lib.IntN.{ℤ}
 use lib.ListN.{length, drop, replicate, length-replicate, length-map}
 use lib.Seq.{sets, sets-eq}
 use Rattle.report_form.specs.Description.{Settings, Word, Description, Within, each, render, flat}
-use Rattle.report_form.specs.Form.{Found, Missing, Reads, missing-there, byte, lead, lead-reads, seq-reads, Ongoing, Listed, listed-reads}
+use Rattle.report_form.specs.Form.{Found, Missing, Reads, byte, lead, lead-reads, seq-reads, Ongoing, Listed, listed-reads}
 use Rattle.report_form.specs.Forms.{numbers, rows, RowsWithin, rows-within, RowsSo, settingsForm, SettingsSo, settingsThen, settings-apart, wordForm, wordsForm, Body, bodyForm, headForm}
 use Rattle.report_form.specs.Unique.{bodyOf, descriptionOf, body-within, description-within, render-is, render-injective}
 use Rattle.report_form.specs.Reading.{padded, readingOf, softWords, overlaid, OneDescription}
@@ -27,7 +27,7 @@ head-bound n f = subst (λ (k : ℕ). k ≤ 1122) (f .says .0) (f .within .0)
 -- no first line
 pub no-head : {S : ℕ × Unit → Type 0} {l : Bool} {t u : List ℕ} → Reads headForm S true l t u → l ≡ false → (d : Description) → Within d → render d ≡ t → ⊥
 no-head h e d w q =
-    missing-there h e .none (d .n, tt) (bodyForm (d .n) .write (bodyOf d) ++ []) (w .n, tt) tt (sym q ∙ render-is d)
+    h .missing refl e .none (d .n, tt) (bodyForm (d .n) .write (bodyOf d) ++ []) (w .n, tt) tt (sym q ∙ render-is d)
 
 pub body-reads : {S : List (List ℕ) → Type 0} {S′ : Settings → Type 0} {S″ : List Word × Unit → Type 0} (n : ℕ) {l l′ l″ l‴ : Bool} {t u v w : List ℕ}
     → Listed rows RowsWithin rows-within S l l′ t u → Reads settingsForm S′ l′ l″ u v → Reads (wordsForm n) S″ l″ l‴ v w

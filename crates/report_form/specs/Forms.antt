@@ -1,14 +1,15 @@
 -- The forms of the report's text: numbers, the fields of a line, the lines.
-use mathlib.Core.Path.{_≡_, refl, sym, ap, _∙_, subst}
-use mathlib.Core.Bool.{Bool}
-use mathlib.Core.Logic.{_⊎_, inl, inr}
+use mathlib.Core.Path.{_≡_, refl, sym, ap, ap₂, _∙_, subst}
+use mathlib.Core.Bool.{Bool, _&&_}
 use mathlib.Core.List.{List, [], _∷_, _++_, map}
-use Prim.Native.Nat.{ℕ, suc, _≤_, _<_}
+use Prim.Native.Nat.{ℕ, suc, _≤_}
 use native.Mathlib.Omega.{arith}
 use lib.IntN.{ℤ}
-use lib.ListN.{length, replicate}
+use borrow.Author.Tests.{le-leb}
+use lib.Dec.{T}
+use lib.ListN.{length, getD, replicate}
 use lib.Seq.{sets}
-use Rattle.laws.specs.Decimal.{decimal, signed, Stops, decimal-unique, signed-unique, decimal-leads}
+use Rattle.laws.specs.Decimal.{decimal, signed, digit, Stops, decimal-unique, signed-unique, decimal-leads}
 use Rattle.report_form.specs.Description.{flat, isLayered, stepOf, Schedule, sequential, layered, Settings, Pair, Word, All, Wide, Small, Ascending, RowWithin, ScheduleWithin, SettingsWithin, WordWithin, Within, each, scheduleText}
 use Rattle.report_form.specs.Form.{Form, Reads, byte, end, seq, seq-reads, StandFor, via, via-reads, lead, lead-reads, Items, Apart, chain}
 
@@ -32,22 +33,17 @@ smalls =
       unique = λ a b r s _ _ p q e. signed-unique a b r s p q e;
     }
 
--- a decimal number begins with a digit
-pub not-decimal : (b n : ℕ) (r s : List ℕ) → (b < 48) ⊎ (57 < b) → b ∷ s ≡ decimal n ++ r → ⊥
-not-decimal b n r s h e =
+-- a text that does not begin with a digit begins with no number
+pub not-decimal : (t : List ℕ) (n : ℕ) (r : List ℕ) → Stops t → t ≡ decimal n ++ r → ⊥
+not-decimal t n r h e =
     let l = decimal-leads n in
-    let g : b ∷ s ≡ l .first ∷ (l .others ++ r) = e ∙ ap (λ (xs : List ℕ). xs ++ r) (l .is) in
-    let f : b ≡ l .first = cc in
-    go f h
-  where
-    go : b ≡ decimal-leads n .first → (b < 48) ⊎ (57 < b) → ⊥
-    go f (inl low) = omega (arith, f, decimal-leads n .low)
-    go f (inr high) = omega (arith, f, decimal-leads n .high)
+    let p : getD t 0 0 ≡ l .first = ap (λ (xs : List ℕ). getD xs 0 0) (e ∙ ap (λ (xs : List ℕ). xs ++ r) (l .is)) in
+    subst T (sym (ap₂ _&&_ (le-leb 48 (l .first) (l .low)) (le-leb (l .first) 57 (l .high))) ∙ ap digit (sym p) ∙ h) tt
 
 pub schedule-unique : (a b : Schedule) (r s : List ℕ) → Stops r → Stops s → scheduleText a ++ r ≡ scheduleText b ++ s → (a ≡ b) × (r ≡ s)
 schedule-unique sequential sequential r s p q e = let f : r ≡ s = cc in (refl, f)
-schedule-unique sequential (layered n) r s p q e = absurd (not-decimal 83 n s r (inr (omega arith)) e)
-schedule-unique (layered m) sequential r s p q e = absurd (not-decimal 83 m r s (inr (omega arith)) (sym e))
+schedule-unique sequential (layered n) r s p q e = absurd (not-decimal (83 ∷ r) n s refl e)
+schedule-unique (layered m) sequential r s p q e = absurd (not-decimal (83 ∷ s) m r refl (sym e))
 schedule-unique (layered m) (layered n) r s p q e = let (a, b) = decimal-unique m n r s p q e in (ap layered a, b)
 
 abbrev pub schedules : Form Schedule
