@@ -1,4 +1,5 @@
--- What the report is told, and how it is written: the scope's "Report text". A text of the form is the rendering of a description within the limits.
+-- What a text asks the report for, and how it is written: the scope's "Report text". A text of the form is the rendering of a description within
+-- the limits. Definitions only; Unique and Longest have the laws.
 use mathlib.Core.Bool.{Bool, true, false}
 use mathlib.Core.List.{List, [], _∷_, _++_, map}
 use Prim.Native.Nat.{ℕ, suc, _≤_, _<_}
@@ -11,15 +12,15 @@ pub data Schedule : Type 0 where
   sequential : Schedule
   layered : ℕ → Schedule
 
--- "lanes, iterations, offset, `S` or step, round limit, first, length": iterations is the iteration limit, rounds the round limit, and bits the BCH part's length
+-- "lanes, iterations, offset, `S` or step, round limit, first, length": iterations is the iteration limit, first and length are the BCH part's
 pub record Settings : Type 0 where
   pub lanes : ℕ
-  pub iterations : ℕ
+  pub iteration-limit : ℕ
   pub offset : ℤ
   pub schedule : Schedule
-  pub rounds : ℕ
-  pub first : ℕ
-  pub bits : ℕ
+  pub round-limit : ℕ
+  pub part-first : ℕ
+  pub part-length : ℕ
 
 -- a position and the soft value there
 pub record Pair : Type 0 where
@@ -84,12 +85,12 @@ ScheduleWithin (layered step) = Wide step
 -- "4 lanes", "offset signed 8, the rest unsigned 32"
 pub record SettingsWithin (s : Settings) : Type 0 where
   pub lanes : s .lanes ≤ 4
-  pub iterations : Wide (s .iterations)
+  pub iteration-limit : Wide (s .iteration-limit)
   pub offset : Small (s .offset)
   pub schedule : ScheduleWithin (s .schedule)
-  pub rounds : Wide (s .rounds)
-  pub first : Wide (s .first)
-  pub bits : Wide (s .bits)
+  pub round-limit : Wide (s .round-limit)
+  pub part-first : Wide (s .part-first)
+  pub part-length : Wide (s .part-length)
 
 -- "up to 64 pairs", values signed 8
 pub record WordWithin (n : ℕ) (w : Word) : Type 0 where
@@ -129,12 +130,12 @@ abbrev pub settingsLine : Settings → List ℕ
 settingsLine s =
     line (80 ∷ [])
     (decimal (s .lanes)
-    ∷ decimal (s .iterations)
+    ∷ decimal (s .iteration-limit)
     ∷ signed (s .offset)
     ∷ scheduleText (s .schedule)
-    ∷ decimal (s .rounds)
-    ∷ decimal (s .first)
-    ∷ decimal (s .bits)
+    ∷ decimal (s .round-limit)
+    ∷ decimal (s .part-first)
+    ∷ decimal (s .part-length)
     ∷ [])
 
 abbrev pub pairFields : List Pair → List (List ℕ)

@@ -1,4 +1,5 @@
--- What reading a text answers: the description that the text is the rendering of, or refusal 1, and the words' soft values.
+-- What reading a text answers: the description that the text is the rendering of, or refusal 1, and the words' soft values. Definitions only;
+-- Accepted has the laws.
 use mathlib.Core.Path.{_≡_}
 use mathlib.Core.Bool.{false}
 use mathlib.Core.Logic.{_⊎_}
@@ -24,13 +25,13 @@ readingOf d =
       total = length (flat (d .rows));
       addresses = padded 12 (flat (d .rows));
       lanes = d .settings .lanes;
-      iterations = d .settings .iterations;
+      «iteration_limit» = d .settings .iteration-limit;
       offset = d .settings .offset;
       layered = isLayered (d .settings .schedule);
       step = stepOf (d .settings .schedule);
-      rounds = d .settings .rounds;
-      first = d .settings .first;
-      bits = d .settings .bits;
+      «round_limit» = d .settings .round-limit;
+      «part_first» = d .settings .part-first;
+      «part_length» = d .settings .part-length;
       words = length (d .words);
     }
 
@@ -45,13 +46,13 @@ refusedReading =
       total = 0;
       addresses = replicate 12 0;
       lanes = 0;
-      iterations = 0;
+      «iteration_limit» = 0;
       offset = pos 0;
       layered = false;
       step = 0;
-      rounds = 0;
-      first = 0;
-      bits = 0;
+      «round_limit» = 0;
+      «part_first» = 0;
+      «part_length» = 0;
       words = 0;
     }
 
