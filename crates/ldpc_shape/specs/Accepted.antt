@@ -11,7 +11,8 @@ use lib.Dec.{eqb, ltb, leb}
 use lib.ListN.{length, drop, getD}
 use lib.Seq.{drop-cons}
 use Rattle.laws.specs.Lists.{or-left, or-right}
-use Rattle.ldpc_shape.specs.Shape.{kOf, pOf, qOf, total, anyOver, countMod, countsMod, badLength, refusalOf}
+use Rattle.ldpc_shape.specs.declared.Sizes.{Sizes}
+use Rattle.ldpc_shape.specs.Shape.{kOf, pOf, qOf, eOf, sizesOf, total, anyOver, countMod, countsMod, badLength, refusalOf}
 
 pub record Accepted (n : ℕ) (lens addrs : List ℕ) : Type 0 where
   pub whole : n % 374 ≡ 0
@@ -105,3 +106,38 @@ module _ (n : ℕ) (lens addrs : List ℕ) (A : Accepted n lens addrs) where
 
   pub few : (l : ℕ) → l < qOf n lens → countMod (qOf n lens) l addrs ≤ 126
   few = few-le 126 (qOf n lens) addrs (qOf n lens) (A .few)
+
+  pub e-pos : 0 < eOf n lens addrs
+  unfolding eOf
+  e-pos = omega (arith, p-pos)
+
+  pub e-le : eOf n lens addrs ≤ 6000000
+  unfolding eOf
+  e-le = omega (arith, addrs-le, p-le)
+
+-- what the numbers of an accepted code are to each other, and their bounds
+pub record Bounded (s : Sizes) : Type 0 where
+  pub n-is : s .n ≡ s .k + s .p
+  pub p-is : s .p ≡ 374 * s .q
+  pub n-le : s .n ≤ 44880
+  pub q-pos : 0 < s .q
+  pub q-le : s .q ≤ 120
+  pub p-pos : 0 < s .p
+  pub p-le : s .p ≤ s .n
+  pub e-pos : 0 < s .e
+  pub e-le : s .e ≤ 6000000
+
+pub bounded : (n : ℕ) (lens addrs : List ℕ) → refusalOf n lens addrs ≡ 0 → Bounded (sizesOf n lens addrs)
+bounded n lens addrs e =
+    let A = accepted n lens addrs e in
+    record {
+      n-is = sym (n-is n lens addrs A);
+      p-is = p-is n lens addrs A;
+      n-le = A .small;
+      q-pos = q-pos n lens addrs A;
+      q-le = q-le n lens addrs A;
+      p-pos = p-pos n lens addrs A;
+      p-le = omega (arith, n-is n lens addrs A);
+      e-pos = e-pos n lens addrs A;
+      e-le = e-le n lens addrs A;
+    }

@@ -4,6 +4,7 @@ use mathlib.Core.List.{List, [], _∷_}
 use Prim.Native.Nat.{ℕ, zero, suc, _+_, _-_, _*_, _/_, _%_}
 use lib.Dec.{ltb, leb, eqb}
 use lib.ListN.{length, take, drop}
+use Rattle.ldpc_shape.specs.declared.Sizes.{Sizes}
 
 -- k = 374 times rows
 unfoldable pub kOf : List ℕ → ℕ
@@ -20,6 +21,10 @@ qOf n lens = pOf n lens / 374
 -- E = 374A + 2P - 1, with A addresses
 unfoldable pub eOf : ℕ → List ℕ → List ℕ → ℕ
 eOf n lens addrs = 374 * length addrs + 2 * pOf n lens - 1
+
+-- the code's numbers together
+abbrev pub sizesOf : ℕ → List ℕ → List ℕ → Sizes
+sizesOf n lens addrs = record { n = n; k = kOf lens; p = pOf n lens; q = qOf n lens; e = eOf n lens addrs }
 
 -- the rows, each with its addresses
 unfoldable pub rowsOf : List ℕ → List ℕ → List (List ℕ)

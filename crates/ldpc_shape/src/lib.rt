@@ -3,8 +3,17 @@ ghost use mathlib.Core.Path.{_≡_};
 ghost use mathlib.Core.Bool.{false};
 ghost use Prim.Native.Nat.{_%_, _<_, _≤_};
 ghost use lib.ListN.{length};
-ghost use Rattle.ldpc_shape.specs.Shape.{kOf, pOf, eOf, total, anyOver, badLength, refusalOf};
+ghost use Rattle.ldpc_shape.specs.Shape.{kOf, pOf, eOf, sizesOf, total, anyOver, badLength, refusalOf};
 ghost use Rattle.ldpc_shape.specs.Counts.{Counts-of, tops};
+
+// The numbers of a code: its length, information bits, checks, P / 374 and edges.
+pub struct Sizes {
+    pub n: usize,
+    pub k: usize,
+    pub p: usize,
+    pub q: usize,
+    pub e: usize,
+}
 
 pub fn wide(x: u32) -> usize
     ensures { λ r. ⌜ r ≡ x ⌝ }
@@ -113,6 +122,23 @@ pub fn refusal(n: u32, lens: &[u32], addrs: &[u16]) -> u32
         return 6;
     }
     0
+}
+
+// The numbers of an accepted code.
+pub fn sizes_of(n: u32, lens: &[u32], addrs: &[u16]) -> Sizes
+    requires { ⌜ refusalOf n (now lens) (now addrs) ≡ 0 ⌝ }
+    ensures { λ r. ⌜ r ≡ sizesOf n (now (lens .entry)) (now (addrs .entry)) ⌝ }
+{
+    let length = wide(n);
+    let k = 374 * lens.len();
+    let p = length - k;
+    Sizes {
+        n: length,
+        k: k,
+        p: p,
+        q: p / 374,
+        e: 374 * addrs.len() + 2 * p - 1,
+    }
 }
 
 // k, of a code with fewer than 120 rows.
