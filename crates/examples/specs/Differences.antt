@@ -6,7 +6,7 @@ use mathlib.Core.List.{[], _∷_}
 use Prim.Native.Nat.{ℕ}
 use native.Mathlib.Decide.{decLt}
 use lib.ListN.{replicate}
-use Rattle.ldpc_shape.specs.Shape.{kOf, pOf, qOf, eOf, total, anyOver, countMod, countsMod, badLength, refusalOf}
+use Rattle.ldpc_shape.specs.Shape.{kOf, pOf, qOf, eOf, total, anyOver, countMod, countsMod, badLength, codeRefusal}
 use Rattle.ldpc.specs.Answers.{orElse, otherOf, beyondOf, shortOf, checkRefusal, parityRefusal, encodeRefusal, weightRefusal}
 use Rattle.bch.specs.Answers.{wordRefusal, messageRefusal}
 use Rattle.decoder_refuse.specs.Refusal as run
@@ -19,14 +19,14 @@ runOf lanes limit layered step soft out =
 
 pub record Differences : Type 0 where
   -- `Code::new` panics
-  pub length-0 : refusalOf 0 [] [] ≡ 2
-  pub length-375 : refusalOf 375 [] [] ≡ 2
-  pub row-at-374 : refusalOf 374 (0 ∷ []) [] ≡ 3
+  pub length-0 : codeRefusal 0 [] [] ≡ 2
+  pub length-375 : codeRefusal 375 [] [] ≡ 2
+  pub row-at-374 : codeRefusal 374 (0 ∷ []) [] ≡ 3
   -- `Code::new` accepts
-  pub length-45254 : refusalOf 45254 [] [] ≡ 2
-  pub row-of-129 : refusalOf 748 (129 ∷ []) (replicate 129 0) ≡ 4
-  pub equal-127 : refusalOf 748 (127 ∷ []) (replicate 127 0) ≡ 6
-  pub equal-126 : refusalOf 748 (126 ∷ []) (replicate 126 0) ≡ 0
+  pub length-45254 : codeRefusal 45254 [] [] ≡ 2
+  pub row-of-129 : codeRefusal 748 (129 ∷ []) (replicate 129 0) ≡ 4
+  pub equal-127 : codeRefusal 748 (127 ∷ []) (replicate 127 0) ≡ 6
+  pub equal-126 : codeRefusal 748 (126 ∷ []) (replicate 126 0) ≡ 0
   -- `check`, `parity`, `encode`, `syndrome_weight` panic
   pub check-p : checkRefusal 374 [] [] 374 2 ≡ 12
   pub parity-short : parityRefusal 748 (0 ∷ []) [] 373 374 ≡ 12
@@ -55,7 +55,7 @@ pub record Differences : Type 0 where
   pub run-accepted : runOf 1 65535 false 0 374 374 ≡ 0
 
 pub differences : Differences
-unfolding refusalOf badLength anyOver total countsMod countMod kOf pOf qOf eOf run.refusalOf run.firstOf run.badLanes run.badWords run.badLimit run.badStep run.badPart run.tooShort run.outNeed run.workNeed run.indexNeed checkRefusal parityRefusal encodeRefusal weightRefusal orElse otherOf beyondOf shortOf wordRefusal messageRefusal decLt
+unfolding codeRefusal badLength anyOver total countsMod countMod kOf pOf qOf eOf run.refusalOf run.firstOf run.badLanes run.badWords run.badLimit run.badStep run.badPart run.tooShort run.outNeed run.workNeed run.indexNeed checkRefusal parityRefusal encodeRefusal weightRefusal orElse otherOf beyondOf shortOf wordRefusal messageRefusal decLt
 differences =
     record {
       length-0 = refl;

@@ -3,7 +3,7 @@ use mathlib.Core.Path.{_≡_, refl, sym}
 use mathlib.Core.List.{List, [], _∷_}
 use Prim.Native.Nat.{ℕ}
 use lib.ListN.{replicate}
-use Rattle.ldpc_shape.specs.Shape.{kOf, pOf, qOf, eOf, rowsOf, total, anyOver, countMod, countsMod, badLength, refusalOf}
+use Rattle.ldpc_shape.specs.Shape.{kOf, pOf, qOf, eOf, rowsOf, total, anyOver, countMod, countsMod, badLength, codeRefusal}
 use Rattle.ldpc_edges.specs.Code.{met, ofBits, ofRows, meets, only, stairs, check, flip, flips, sums, parity}
 use Rattle.ldpc_edges.specs.Modulo.{mods, check-mods, parity-mods}
 use Rattle.ldpc.specs.declared.Made.the-variants as made
@@ -27,12 +27,12 @@ pub record Examples : Type 0 where
   pub edges-374 : eOf 374 [] [] ≡ 747
   pub rows-one : (l : ℕ) (addrs : List ℕ) (size : ℕ) → newAnswer 374 (l ∷ []) addrs size ≡ made.Refused 3
   -- "n 44,880 accepted without rows; 45,254 and 0 give 2", whatever the rows
-  pub long-44880 : refusalOf 44880 [] [] ≡ 0
+  pub long-44880 : codeRefusal 44880 [] [] ≡ 0
   pub long-45254 : (lens addrs : List ℕ) (size : ℕ) → newAnswer 45254 lens addrs size ≡ made.Refused 2
   pub long-0 : (lens addrs : List ℕ) (size : ℕ) → newAnswer 0 lens addrs size ≡ made.Refused 2
 
 pub examples : Examples
-unfolding check only meets ofRows ofBits met stairs kOf pOf qOf rowsOf eOf refusalOf badLength anyOver countsMod countMod total parity sums flips flip mods newAnswer newRefusal orElse shortOf
+unfolding check only meets ofRows ofBits met stairs kOf pOf qOf rowsOf eOf codeRefusal badLength anyOver countsMod countMod total parity sums flips flip mods newAnswer newRefusal orElse shortOf
 examples =
     record {
       check-0 = refl;

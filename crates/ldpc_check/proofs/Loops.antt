@@ -11,10 +11,10 @@ use lib.Dec.{eqb, ltb}
 use lib.ListN.{length, take, drop, getD, set, length-append, length-take, length-drop, length-set, drop-of-length-le, take-append-drop}
 use lib.Seq.{drop-cons, drop-drop, drop-length, drop-set-lt, take-suc, take-suc-set, take-at, drop-at, set-split, length-take-le}
 use Rattle.laws.specs.Lists.{lent-from, back-from}
-use Rattle.ldpc_shape.specs.Shape.{kOf, pOf, rowsOf, total, countMod, refusalOf}
-use Rattle.ldpc_shape.specs.Accepted.{Accepted, accepted, q-pos, q-le, rows-le, addrs-le}
-use Rattle.ldpc_shape.specs.Worked.{k-worked, q-beside, p-beside}
-use Rattle.ldpc_shape.specs.Counts.{Counted}
+use Rattle.ldpc_shape.specs.declared.Sizes.{Sizes}
+use Rattle.ldpc_shape.specs.Shape.{pOf, qOf, sizesOf, rowsOf, total, countMod, codeRefusal}
+use Rattle.ldpc_shape.specs.Accepted.{Accepted, accepted, Bounded, sizes-bounded, rows-le, addrs-le}
+use Rattle.ldpc_shape.specs.Counts.{CountsBelow}
 use Rattle.ldpc_edges.specs.Code.{ofBits, ofRows, meets, only, stairs, check}
 use Rattle.ldpc_edges.specs.Inside.{only-append}
 use Rattle.ldpc_edges.specs.Insert.{insert, insert-length, place, row-cons}
@@ -244,72 +244,70 @@ stair-two out n k (suc c) v e z h =
     let f : v - 1 ≡ k + c = omega arith in
     (omega arith, omega arith, set-two out n (v - 1) v (omega arith) ∙ ap₂ (λ (y i : ℕ). take n out ++ (y ∷ i ∷ drop (n + 1 + 1) out)) f e)
 
--- ---- an accepted code: q as it is worked out
-module _ (n : ℕ) (lens addrs : List ℕ) (e : refusalOf n lens addrs ≡ 0) where
+-- ---- an accepted code, with its sizes as the program has them
+module _ (n : ℕ) (lens addrs : List ℕ) (e : codeRefusal n lens addrs ≡ 0) (S : Sizes) (D : S ≡ sizesOf n lens addrs) where
   A : Accepted n lens addrs
   A = accepted n lens addrs e
 
-  pub sizes : (length lens ≤ 119) × (length lens ≤ n / 374) × (0 < n / 374 - length lens) × (n / 374 - length lens ≤ 120) × (length addrs ≤ 15360)
-      × (total lens ≡ length addrs) × (n ≤ 44880) × (length lens * 374 ≤ n)
-  sizes = (
-    rows-le n lens addrs A,
-    omega (arith, A .rows, A .whole),
-    omega (arith, q-beside n lens (A .whole), q-pos n lens addrs A),
-    omega (arith, q-beside n lens (A .whole), q-le n lens addrs A),
-    addrs-le n lens addrs A,
-    A .adds,
-    A .small,
-    omega (arith, A .rows),
-  )
+  pub bounds : Bounded S
+  bounds = sizes-bounded S n lens addrs D e
 
-  pub c-inside : (c : ℕ) → c < pOf n lens → c < 374 * (n / 374 - length lens)
-  c-inside c h = subst (λ (z : ℕ). c < z) (p-beside n lens addrs A) h
+  pub lent : (length lens ≤ 119) × (length addrs ≤ 15360) × (total lens ≡ length addrs)
+  lent = (rows-le n lens addrs A, addrs-le n lens addrs A, A .adds)
 
-  pub sum-fits : (c : ℕ) → c < pOf n lens → length lens * 374 + c ≤ 44880
-  unfolding pOf kOf
-  sum-fits c h = omega (arith, A .small, A .rows)
+  q-same : S .q ≡ qOf n lens
+  q-same = ap (λ (z : Sizes). z .q) D
 
-  all-is : (c : ℕ) → allOf (n / 374 - length lens) c lens addrs ≡ only c (meets n lens addrs)
+  p-same : 374 * S .q ≡ pOf n lens
+  p-same = sym (bounds .p-is) ∙ ap (λ (z : Sizes). z .p) D
+
+  pub c-inside : (c : ℕ) → c < pOf n lens → c < 374 * (S .q)
+  c-inside c h = omega (arith, p-same)
+
+  pub sum-fits : (c : ℕ) → c < pOf n lens → S .k + c ≤ 44880
+  sum-fits c h = omega (arith, p-same, bounds)
+
+  all-is : (c : ℕ) → allOf (S .q) c lens addrs ≡ only c (meets n lens addrs)
   unfolding allOf meets
-  all-is c = ap₂ (λ (y z : ℕ). only c (ofRows y z 0 (rowsOf lens addrs))) (sym (p-beside n lens addrs A)) (q-beside n lens (A .whole))
+  all-is c = ap₂ (λ (y z : ℕ). only c (ofRows y z 0 (rowsOf lens addrs))) p-same q-same
 
-  pub check-is : (c : ℕ) → check n lens addrs c ≡ allOf (n / 374 - length lens) c lens addrs ++ stairs (length lens * 374) c
+  pub check-is : (c : ℕ) → check n lens addrs c ≡ allOf (S .q) c lens addrs ++ stairs (S .k) c
   unfolding check
-  check-is c = ap₂ (λ (y : List ℕ) (z : ℕ). y ++ stairs z c) (sym (all-is c)) (sym (k-worked lens))
+  check-is c = ap₂ (λ (y : List ℕ) (z : ℕ). y ++ stairs z c) (sym (all-is c)) (sym (ap (λ (z : Sizes). z .k) D))
 
   -- how many bits, from the counts r
-  pub degree-is : (r : List ℕ) → Counted r (n / 374 - length lens) addrs → (c : ℕ) → c < pOf n lens → (l m : ℕ) → l ≡ c % (n / 374 - length lens) → m ≡ getD r l 0
+  pub degree-is : (r : List ℕ) → CountsBelow r (S .q) addrs → (c : ℕ) → c < pOf n lens → (l m : ℕ) → l ≡ c % (S .q) → m ≡ getD r l 0
       → length (check n lens addrs c) ≡ m + cond (eqb c 0) 1 2
   degree-is r C c h l m el em =
       degree n lens addrs A c h
       ∙ ap (λ (z : ℕ). z + cond (eqb c 0) 1 2)
-      (ap (λ (z : ℕ). countMod z (c % z) addrs) (sym (q-beside n lens (A .whole)))
-      ∙ sym (C (c % (n / 374 - length lens)) (mod-lt c (omega (arith, q-beside n lens (A .whole), q-pos n lens addrs A)))) ∙ ap (λ (z : ℕ). getD r z 0) (sym el) ∙ sym em)
+      (ap (λ (z : ℕ). countMod z (c % z) addrs) (sym q-same)
+      ∙ sym (C (c % (S .q)) (mod-lt c (bounds .q-pos))) ∙ ap (λ (z : ℕ). getD r z 0) (sym el) ∙ sym em)
 
-  check-length : (c : ℕ) → length (check n lens addrs c) ≡ length (allOf (n / 374 - length lens) c lens addrs) + length (stairs (length lens * 374) c)
-  check-length c = ap length (check-is c) ∙ length-append (allOf (n / 374 - length lens) c lens addrs) (stairs (length lens * 374) c)
+  check-length : (c : ℕ) → length (check n lens addrs c) ≡ length (allOf (S .q) c lens addrs) + length (stairs (S .k) c)
+  check-length c = ap length (check-is c) ∙ length-append (allOf (S .q) c lens addrs) (stairs (S .k) c)
 
-  pub info-room : (c : ℕ) (x : List ℕ) → length (check n lens addrs c) ≤ length x → length (allOf (n / 374 - length lens) c lens addrs) ≤ length x
+  pub info-room : (c : ℕ) (x : List ℕ) → length (check n lens addrs c) ≤ length x → length (allOf (S .q) c lens addrs) ≤ length x
   info-room c x h = omega (arith, check-length c)
 
-  pub stairs-room : (c d : ℕ) (x y : List ℕ) → d ≡ length (allOf (n / 374 - length lens) c lens addrs) → length y ≡ length x → length (check n lens addrs c) ≤ length x
-      → d + length (stairs (length lens * 374) c) ≤ length y
+  pub stairs-room : (c d : ℕ) (x y : List ℕ) → d ≡ length (allOf (S .q) c lens addrs) → length y ≡ length x → length (check n lens addrs c) ≤ length x
+      → d + length (stairs (S .k) c) ≤ length y
   stairs-room c d x y e f h = omega (arith, check-length c)
 
   pub degree-small : (c : ℕ) → c < pOf n lens → length (check n lens addrs c) ≤ 128
   degree-small = degree-le n lens addrs A
 
-  pub check-done : (c d r : ℕ) (x y z : List ℕ) → d ≡ length (allOf (n / 374 - length lens) c lens addrs) → y ≡ allOf (n / 374 - length lens) c lens addrs ++ drop d x
-      → r ≡ d + length (stairs (length lens * 374) c) → z ≡ take d y ++ (stairs (length lens * 374) c ++ drop r y) → length (check n lens addrs c) ≤ length x
+  pub check-done : (c d r : ℕ) (x y z : List ℕ) → d ≡ length (allOf (S .q) c lens addrs) → y ≡ allOf (S .q) c lens addrs ++ drop d x
+      → r ≡ d + length (stairs (S .k) c) → z ≡ take d y ++ (stairs (S .k) c ++ drop r y) → length (check n lens addrs c) ≤ length x
       → (r ≡ length (check n lens addrs c)) × (z ≡ check n lens addrs c ++ drop r x)
   check-done c d r x y z ed ey er ez fit = (
-    er ∙ ap (λ (u : ℕ). u + length (stairs (length lens * 374) c)) ed ∙ sym (check-length c),
-    ez ∙ ap₂ (λ (u v : List ℕ). u ++ (stairs (length lens * 374) c ++ v)) (ap (take d) ey ∙ take-at all (drop d x) d (sym ed)) tail
-        ∙ sym (append-assoc all (stairs (length lens * 374) c) (drop r x)) ∙ ap (λ (u : List ℕ). u ++ drop r x) (sym (check-is c)),
+    er ∙ ap (λ (u : ℕ). u + length (stairs (S .k) c)) ed ∙ sym (check-length c),
+    ez ∙ ap₂ (λ (u v : List ℕ). u ++ (stairs (S .k) c ++ v)) (ap (take d) ey ∙ take-at all (drop d x) d (sym ed)) tail
+        ∙ sym (append-assoc all (stairs (S .k) c) (drop r x)) ∙ ap (λ (u : List ℕ). u ++ drop r x) (sym (check-is c)),
   )
     where
       all : List ℕ
-      all = allOf (n / 374 - length lens) c lens addrs
+      all = allOf (S .q) c lens addrs
 
       tail : drop r y ≡ drop r x
       tail =

@@ -15,7 +15,7 @@ use Rattle.ldpc_edges.specs.Code.{ofBits, ofRows, only, ones}
 use Rattle.ldpc_edges.specs.Inside.{only-append}
 use Rattle.ldpc_edges.specs.Insert.{insert, insert-ones, place, row-cons}
 use Rattle.ldpc_edges.specs.Degree.{bits-none}
-use Rattle.ldpc_encode.specs.Sums.{turnedBit, rowBit, infoBit, Added}
+use Rattle.ldpc_encode.specs.Sums.{turnedBit, rowBit, infoBit, AddedToSums}
 use Rattle.ldpc_encode.proofs.Bits.{Left, left-add, left-none}
 
 pub ones-append : (w xs ys : List ℕ) → ones w (xs ++ ys) ≡ ones w xs + ones w ys
@@ -82,7 +82,7 @@ module _ (q l : ℕ) (w lens addrs : List ℕ) (g from : ℕ) (h : g < length le
 
   -- the code's parts: the row's bits and its addresses
   pub info-add : l < q → (x y x₀ : List ℕ) (r first : ℕ) (f : ℕ → ℕ) → r ≡ getD lens g 0 → first ≡ 374 * g
-      → Added x y (rowBit q l (take (first + 374 - first) (drop first w)) (take (from + r - from) (drop from addrs)))
+      → AddedToSums x y (rowBit q l (take (first + 374 - first) (drop first w)) (take (from + r - from) (drop from addrs)))
       → Left x (infoFrom q l w lens addrs g from) x₀ f → Left y (infoFrom q l w lens addrs (g + 1) (from + r)) x₀ f
   info-add hl x y x₀ r first f e d a =
       left-add x y x₀ (rowBit q l (take (first + 374 - first) (drop first w)) (take (from + r - from) (drop from addrs))) (infoFrom q l w lens addrs g from)
@@ -101,7 +101,7 @@ unfolding infoFrom infoBit
 info-start q l w lens addrs x j h = refl
 
 pub info-end : (q l : ℕ) (w lens addrs x x₀ : List ℕ) (g from : ℕ) → length x ≡ 374 → length lens ≤ g
-    → Left x (infoFrom q l w lens addrs g from) x₀ (infoBit q l w lens addrs) → Added x₀ x (infoBit q l w lens addrs)
+    → Left x (infoFrom q l w lens addrs g from) x₀ (infoBit q l w lens addrs) → AddedToSums x₀ x (infoBit q l w lens addrs)
 unfolding infoFrom ofRows rowsOf only ones
 info-end q l w lens addrs x x₀ g from k h =
     left-none x x₀ (infoFrom q l w lens addrs g from) (infoBit q l w lens addrs) k

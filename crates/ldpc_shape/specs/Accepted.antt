@@ -12,7 +12,7 @@ use lib.ListN.{length, drop, getD}
 use lib.Seq.{drop-cons}
 use Rattle.laws.specs.Lists.{or-left, or-right}
 use Rattle.ldpc_shape.specs.declared.Sizes.{Sizes}
-use Rattle.ldpc_shape.specs.Shape.{kOf, pOf, qOf, eOf, sizesOf, total, anyOver, countMod, countsMod, badLength, refusalOf}
+use Rattle.ldpc_shape.specs.Shape.{kOf, pOf, qOf, eOf, sizesOf, total, anyOver, countMod, countsMod, badLength, codeRefusal}
 
 pub record Accepted (n : ℕ) (lens addrs : List ℕ) : Type 0 where
   pub whole : n % 374 ≡ 0
@@ -22,8 +22,8 @@ pub record Accepted (n : ℕ) (lens addrs : List ℕ) : Type 0 where
   pub adds : total lens ≡ length addrs
   pub few : anyOver 126 (countsMod (qOf n lens) addrs (qOf n lens)) ≡ false
 
-pub accepted : (n : ℕ) (lens addrs : List ℕ) → refusalOf n lens addrs ≡ 0 → Accepted n lens addrs
-unfolding refusalOf badLength
+pub accepted : (n : ℕ) (lens addrs : List ℕ) → codeRefusal n lens addrs ≡ 0 → Accepted n lens addrs
+unfolding codeRefusal badLength
 accepted n lens addrs h =
     go (eqb n 0) (eqb (n % 374) 0) (ltb 44880 n) (leb n (374 * length lens)) (anyOver 128 lens) (eqb (total lens) (length addrs))
     (anyOver 126 (countsMod (qOf n lens) addrs (qOf n lens))) h refl refl refl refl refl refl
@@ -127,7 +127,7 @@ pub record Bounded (s : Sizes) : Type 0 where
   pub e-pos : 0 < s .e
   pub e-le : s .e ≤ 6000000
 
-pub bounded : (n : ℕ) (lens addrs : List ℕ) → refusalOf n lens addrs ≡ 0 → Bounded (sizesOf n lens addrs)
+pub bounded : (n : ℕ) (lens addrs : List ℕ) → codeRefusal n lens addrs ≡ 0 → Bounded (sizesOf n lens addrs)
 bounded n lens addrs e =
     let A = accepted n lens addrs e in
     record {
@@ -141,3 +141,7 @@ bounded n lens addrs e =
       e-pos = e-pos n lens addrs A;
       e-le = e-le n lens addrs A;
     }
+
+-- the same of sizes as a program has them
+pub sizes-bounded : (s : Sizes) (n : ℕ) (lens addrs : List ℕ) → s ≡ sizesOf n lens addrs → codeRefusal n lens addrs ≡ 0 → Bounded s
+sizes-bounded s n lens addrs d e = subst Bounded (sym d) (bounded n lens addrs e)

@@ -57,8 +57,8 @@ badLength n = eqb n 0 || (not (eqb (n % 374) 0) || ltb 44880 n)
 
 -- The first of 2 to 6 that applies, 0 for none. 3: "374 times the row count is n or more". 4: "a row has more than 128 addresses".
 -- 5: "row lengths don't add up to the address list's length". 6: "more than 126 addresses are equal modulo q".
-unfoldable pub refusalOf : ℕ → List ℕ → List ℕ → ℕ
-refusalOf n lens addrs =
+unfoldable pub codeRefusal : ℕ → List ℕ → List ℕ → ℕ
+codeRefusal n lens addrs =
     cond (badLength n) 2
     (cond (leb n (374 * length lens)) 3
     (cond (anyOver 128 lens) 4

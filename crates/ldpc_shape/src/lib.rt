@@ -3,8 +3,13 @@ ghost use mathlib.Core.Path.{_≡_};
 ghost use mathlib.Core.Bool.{false};
 ghost use Prim.Native.Nat.{_%_, _<_, _≤_};
 ghost use lib.ListN.{length};
-ghost use Rattle.ldpc_shape.specs.Shape.{kOf, pOf, eOf, sizesOf, total, anyOver, badLength, refusalOf};
+ghost use Rattle.ldpc_shape.specs.Shape.{kOf, pOf, eOf, sizesOf, total, anyOver, badLength, codeRefusal};
 ghost use Rattle.ldpc_shape.specs.Counts.{Counts-of, tops};
+
+// The bits of a row, and the checks of each residue modulo q.
+pub const GROUP: usize = 374;
+
+pub const GROUP_U32: u32 = GROUP as u32;
 
 // The numbers of a code: its length, information bits, checks, P / 374 and edges.
 pub struct Sizes {
@@ -36,7 +41,7 @@ fn bad_length(n: u32) -> bool
     if n == 0 {
         return true;
     }
-    if n % 374 != 0 {
+    if n % GROUP_U32 != 0 {
         return true;
     }
     44880 < n
@@ -102,12 +107,12 @@ fn any_many(counts: &[u32; 120], q: u32) -> bool
 
 // The first of the refusals 2 to 6 that applies, 0 for none.
 pub fn refusal(n: u32, lens: &[u32], addrs: &[u16]) -> u32
-    ensures { λ r. ⌜ r ≡ refusalOf n (now (lens .entry)) (now (addrs .entry)) ⌝ }
+    ensures { λ r. ⌜ r ≡ codeRefusal n (now (lens .entry)) (now (addrs .entry)) ⌝ }
 {
     if bad_length(n) {
         return 2;
     }
-    if wide(n / 374) <= lens.len() {
+    if wide(n / GROUP_U32) <= lens.len() {
         return 3;
     }
     if any_long(lens) {
@@ -116,7 +121,7 @@ pub fn refusal(n: u32, lens: &[u32], addrs: &[u16]) -> u32
     if sum_of(lens) != addrs.len() {
         return 5;
     }
-    let q = n / 374 - (lens.len() as u32);
+    let q = n / GROUP_U32 - (lens.len() as u32);
     let r = counts(addrs, q);
     if any_many(&r, q) {
         return 6;
@@ -126,18 +131,18 @@ pub fn refusal(n: u32, lens: &[u32], addrs: &[u16]) -> u32
 
 // The numbers of an accepted code.
 pub fn sizes_of(n: u32, lens: &[u32], addrs: &[u16]) -> Sizes
-    requires { ⌜ refusalOf n (now lens) (now addrs) ≡ 0 ⌝ }
+    requires { ⌜ codeRefusal n (now lens) (now addrs) ≡ 0 ⌝ }
     ensures { λ r. ⌜ r ≡ sizesOf n (now (lens .entry)) (now (addrs .entry)) ⌝ }
 {
     let length = wide(n);
-    let k = 374 * lens.len();
+    let k = GROUP * lens.len();
     let p = length - k;
     Sizes {
         n: length,
         k: k,
         p: p,
-        q: p / 374,
-        e: 374 * addrs.len() + 2 * p - 1,
+        q: p / GROUP,
+        e: GROUP * addrs.len() + 2 * p - 1,
     }
 }
 
@@ -146,12 +151,12 @@ pub fn info_bits(lens: &[u32]) -> usize
     requires { ⌜ length (now lens) ≤ 119 ⌝ }
     ensures { λ r. ⌜ r ≡ kOf (now (lens .entry)) ⌝ }
 {
-    lens.len() * 374
+    lens.len() * GROUP
 }
 
 // P, of an accepted code.
 pub fn checks(n: u32, lens: &[u32], addrs: &[u16]) -> usize
-    requires { ⌜ refusalOf n (now lens) (now addrs) ≡ 0 ⌝ }
+    requires { ⌜ codeRefusal n (now lens) (now addrs) ≡ 0 ⌝ }
     ensures { λ r. ⌜ r ≡ pOf n (now (lens .entry)) ⌝ }
 {
     wide(n) - info_bits(lens)
@@ -159,8 +164,8 @@ pub fn checks(n: u32, lens: &[u32], addrs: &[u16]) -> usize
 
 // E, of an accepted code.
 pub fn edges(n: u32, lens: &[u32], addrs: &[u16]) -> usize
-    requires { ⌜ refusalOf n (now lens) (now addrs) ≡ 0 ⌝ }
+    requires { ⌜ codeRefusal n (now lens) (now addrs) ≡ 0 ⌝ }
     ensures { λ r. ⌜ r ≡ eOf n (now (lens .entry)) (now (addrs .entry)) ⌝ }
 {
-    374 * addrs.len() + 2 * checks(n, lens, addrs) - 1
+    GROUP * addrs.len() + 2 * checks(n, lens, addrs) - 1
 }

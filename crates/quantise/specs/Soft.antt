@@ -33,8 +33,8 @@ abbrev pub softOf : Float → Float → ℤ
 softOf scale x = softValue (mul binary32 x scale)
 
 -- "13. A lent output or work slice is too short": here where the output is shorter than the input. 0 where nothing is refused
-abbrev pub refusalOf : List Float → List ℤ → ℕ
-refusalOf llr out = cond (ltb (length out) (length llr)) 13 0
+abbrev pub quantiseRefusal : List Float → List ℤ → ℕ
+quantiseRefusal llr out = cond (ltb (length out) (length llr)) 13 0
 
 -- the scope's number of each answer, 0 where nothing is refused
 abbrev pub quantisedNumber : Quantised → ℕ
@@ -52,7 +52,7 @@ writtenOf llr scale out = map (softOf scale) llr ++ drop (length llr) out
 
 -- the output at exit: a refusal changes nothing
 abbrev pub outputOf : List Float → Float → List ℤ → List ℤ
-outputOf llr scale out = cond (eqb (refusalOf llr out) 0) (writtenOf llr scale out) out
+outputOf llr scale out = cond (eqb (quantiseRefusal llr out) 0) (writtenOf llr scale out) out
 
 -- what `nearest` means: it is within a half of num / den, and of two whole numbers at a half it is the upper one
 pub nearest-within : (num den : ℕ) → 0 < den → (nearest num den * den * 2 ≤ num * 2 + den) × (num * 2 < nearest num den * den * 2 + den)
