@@ -1,4 +1,3 @@
--- What the entry points promise (Answers), laws of it, and the scope's examples.
+-- What the entry points promise (Answers) and laws of it.
 pub mod Answers
 pub mod AnswersLaws
-pub mod Examples
