@@ -1,14 +1,14 @@
 -- What each turn of the loops does.
-use mathlib.Core.Path.{_≡_, refl, sym, ap, ap₂, _∙_, subst}
+use mathlib.Core.Path.{_≡_, refl, sym, ap, ap₂, _∙_}
 use mathlib.Core.Bool.{cond}
 use mathlib.Core.List.{List, [], _∷_, _++_, append-assoc, append-nil}
-use Prim.Native.Nat.{ℕ, zero, suc, _+_, _-_, _*_, _/_, _%_, _≤_, _<_}
+use Prim.Native.Nat.{ℕ, zero, suc, _+_, _-_, _*_, _%_, _≤_, _<_}
 use native.Mathlib.Omega.{arith}
 use native.Mathlib.Nat.{mod-lt}
 use native.Mathlib.Numerals.{add-one}
 use borrow.Author.Tests.{eq-eqb, ne-eqb, lt-ltb, le-ltb}
 use lib.Dec.{eqb, ltb}
-use lib.ListN.{length, take, drop, getD, set, length-append, length-take, length-drop, length-set, drop-of-length-le, take-append-drop}
+use lib.ListN.{length, take, drop, getD, set, length-append, length-take, length-drop, length-set, take-append-drop}
 use lib.Seq.{drop-cons, drop-drop, drop-length, drop-set-lt, take-suc, take-suc-set, take-at, drop-at, set-split, length-take-le}
 use Rattle.laws.specs.Lists.{lent-from, back-from}
 use Rattle.ldpc_shape.specs.declared.Sizes.{Sizes}
@@ -16,7 +16,7 @@ use Rattle.ldpc_shape.specs.Shape.{pOf, qOf, sizesOf, rowsOf, total, countMod, 
 use Rattle.ldpc_shape.specs.Accepted.{Accepted, accepted, Bounded, sizes-bounded, rows-le, addrs-le}
 use Rattle.ldpc_shape.specs.Counts.{CountsBelow}
 use Rattle.ldpc_edges.specs.Code.{ofBits, ofRows, meets, only, stairs, check}
-use Rattle.ldpc_edges.specs.Inside.{only-append}
+use Rattle.ldpc_edges.specs.Inside.{only-append, rows-next, rows-none}
 use Rattle.ldpc_edges.specs.Insert.{insert, insert-length, place, row-cons}
 use Rattle.ldpc_edges.specs.Degree.{bits-none, bits-count, count-split, degree, degree-le}
 
@@ -80,6 +80,10 @@ module _ (q c first : ℕ) (row : List ℕ) (pos : 0 < q) (inside : c < 374 * q)
   unfolding found
   found-le i = omega (arith, bits-count q c pos inside first (drop i row), bits-count q c pos inside first row, count-split q (c % q) i row)
 
+  pub found-fits : (out out₀ : List ℕ) (n i : ℕ) → n ≡ length (found q c first row i) → out ≡ found q c first row i ++ drop n out₀
+      → length (only c (ofBits (374 * q) q 374 first 0 row)) ≤ length out₀ → length out ≡ length out₀
+  found-fits out out₀ n i en eo fit = ap length eo ∙ length-append (found q c first row i) (drop n out₀) ∙ omega (arith, length-drop n out₀, found-le i)
+
   found-next : (i : ℕ) → 0 < i → i ≤ length row
       → found q c first row (i - 1) ≡ cond (eqb (getD row (i - 1) 0 % q) (c % q)) (insert (first + place q c (getD row (i - 1) 0)) (found q c first row i)) (found q c first row i)
   unfolding found
@@ -100,7 +104,7 @@ module _ (q c first : ℕ) (row : List ℕ) (pos : 0 < q) (inside : c < 374 * q)
     module _ (out out₀ : List ℕ) (n : ℕ) (en : n ≡ length (found q c first row i)) (eo : out ≡ found q c first row i ++ drop n out₀)
         (fit : length (only c (ofBits (374 * q) q 374 first 0 row)) ≤ length out₀) where
       pub row-size : length out ≡ length out₀
-      row-size = ap length eo ∙ length-append (found q c first row i) (drop n out₀) ∙ omega (arith, length-drop n out₀, found-le i)
+      row-size = found-fits out out₀ n i en eo fit
 
       pub row-room : r ≡ l → n < length out
       row-room f = omega (arith, row-size, found-le (i - 1), ap length (found-hit f), insert-length (first + place q c (getD row (i - 1) 0)) (found q c first row i))
@@ -126,10 +130,6 @@ module _ (q c first : ℕ) (row : List ℕ) (pos : 0 < q) (inside : c < 374 * q)
       ap (λ (y : ℕ). only c (ofBits (374 * q) q 374 first 0 (drop y row))) e ∙ ap (λ (y : List ℕ). only c (ofBits (374 * q) q 374 first 0 y)) (drop-length row) ∙ bits-none (374 * q) q c 374 first 0 in
       (ap length (sym z), ap (λ (y : List ℕ). y ++ out) (sym z))
 
-  pub found-fits : (out out₀ : List ℕ) (n i : ℕ) → n ≡ length (found q c first row i) → out ≡ found q c first row i ++ drop n out₀
-      → length (only c (ofBits (374 * q) q 374 first 0 row)) ≤ length out₀ → length out ≡ length out₀
-  found-fits out out₀ n i en eo fit = ap length eo ∙ length-append (found q c first row i) (drop n out₀) ∙ omega (arith, length-drop n out₀, found-le i)
-
   pub row-end : (out out₀ : List ℕ) (n i : ℕ) → i ≤ 0 → n ≡ length (found q c first row i) → out ≡ found q c first row i ++ drop n out₀
       → (n ≡ length (only c (ofBits (374 * q) q 374 first 0 row))) × (out ≡ only c (ofBits (374 * q) q 374 first 0 row) ++ drop n out₀)
   unfolding found
@@ -151,24 +151,21 @@ unfolding allOf restOf
 rest-start q c lens addrs = refl
 
 pub rest-end : (q c : ℕ) (lens addrs : List ℕ) (g from : ℕ) → length lens ≤ g → restOf q c lens addrs g from ≡ []
-unfolding restOf ofRows rowsOf only
-rest-end q c lens addrs g from h =
-    ap (λ (ls : List ℕ). only c (ofRows (374 * q) q (374 * g) (rowsOf ls (drop from addrs)))) (drop-of-length-le lens {i = g} h)
+unfolding restOf only
+rest-end q c lens addrs g from h = ap (only c) (rows-none (374 * q) q (374 * g) g lens (drop from addrs) h)
 
 module _ (q c : ℕ) (lens addrs : List ℕ) (g from : ℕ) (h : g < length lens) where
   -- the row's addresses as they are lent
   pub rest-next : (r first : ℕ) → r ≡ getD lens g 0 → first ≡ 374 * g
       → restOf q c lens addrs g from ≡ only c (ofBits (374 * q) q 374 first 0 (take (from + r - from) (drop from addrs))) ++ restOf q c lens addrs (g + 1) (from + r)
-  unfolding restOf ofRows rowsOf
+  unfolding restOf
   rest-next r first e f =
-      let d : 374 * g + 374 ≡ 374 * (g + 1) = omega arith in
       let t : getD lens g 0 ≡ from + r - from = omega arith in
-      let row : List ℕ = take (getD lens g 0) (drop from addrs) in
-      ap (λ (ls : List ℕ). only c (ofRows (374 * q) q (374 * g) (rowsOf ls (drop from addrs)))) (drop-cons lens g 0 h ∙ ap (λ (z : ℕ). getD lens g 0 ∷ drop z lens) (sym (add-one g)))
-      ∙ only-append c (ofBits (374 * q) q 374 (374 * g) 0 row) _
+      ap (only c) (rows-next (374 * q) q lens addrs g from h)
+      ∙ only-append c (ofBits (374 * q) q 374 (374 * g) 0 (take (getD lens g 0) (drop from addrs))) _
       ∙ ap₂ (λ (y z : List ℕ). y ++ z)
       (ap₂ (λ (y z : ℕ). only c (ofBits (374 * q) q 374 y 0 (take z (drop from addrs)))) (sym f) t)
-      (ap₂ (λ (y : ℕ) (z : List ℕ). only c (ofRows (374 * q) q y (rowsOf (drop (g + 1) lens) z))) d (drop-drop (getD lens g 0) from addrs ∙ ap (λ (z : ℕ). drop (from + z) addrs) (sym e)))
+      (ap (λ (z : ℕ). only c (ofRows (374 * q) q (374 * (g + 1)) (rowsOf (drop (g + 1) lens) (drop (from + z) addrs)))) (sym e))
 
 -- a list put in front of the part from n on
 module _ (out list ys : List ℕ) (n d : ℕ) (ed : d ≡ length list) (ey : ys ≡ list ++ drop d (take (length out - n) (drop n out))) (fit : n + d ≤ length out) where

@@ -8,7 +8,7 @@ use lib.ListN.{length, take, drop, getD, length-take, length-drop, take-append-d
 use lib.Seq.{drop-cons, drop-length, drop-drop, take-suc, take-length}
 use Rattle.ldpc_shape.specs.Shape.{rowsOf, total}
 use Rattle.ldpc_edges.specs.Code.{Edge, edge, met, ofBits, ofRows}
-use Rattle.ldpc_edges.specs.Inside.{met-inside, bits-inside, rows-inside}
+use Rattle.ldpc_edges.specs.Inside.{met-inside, bits-inside, rows-inside, rows-next}
 use Rattle.ldpc_lists.specs.Build.{Lists, parts, Ready, put, putAll, putAll-append, put-bits-length, put-at-length, RoomForEdges, room-next, room-later, room-then}
 
 pub shift-fits : (j q : ℕ) → j < 374 → q ≤ 120 → j * q ≤ 44880
@@ -163,18 +163,16 @@ pub before-all : (lens : List ℕ) → total lens ≡ before lens (length lens)
 unfolding before
 before-all lens = ap total (sym (take-length lens))
 
-rows-next : (P q : ℕ) (lens addrs : List ℕ) (g m from : ℕ) → 0 < g → g ≤ length lens → m ≡ 374 * g → from + getD lens (g - 1) 0 ≡ before lens g
+row-before : (P q : ℕ) (lens addrs : List ℕ) (g m from : ℕ) → 0 < g → g ≤ length lens → m ≡ 374 * g → from + getD lens (g - 1) 0 ≡ before lens g
     → ofRows P q (374 * (g - 1)) (rowsOf (drop (g - 1) lens) (drop from addrs))
     ≡ ofBits P q 374 (m - 374) 0 (take (getD lens (g - 1) 0) (drop from addrs)) ++ ofRows P q (374 * g) (rowsOf (drop g lens) (drop (before lens g) addrs))
-unfolding ofRows rowsOf
-rows-next P q lens addrs g m from h i e f =
-    let x : suc (g - 1) ≡ g = omega arith in
+row-before P q lens addrs g m from h i e f =
+    let x : g - 1 + 1 ≡ g = omega arith in
     let y : 374 * (g - 1) ≡ m - 374 = omega arith in
-    let z : m - 374 + 374 ≡ 374 * g = omega arith in
     let l : ℕ = getD lens (g - 1) 0 in
-    ap₂ (λ (u : ℕ) (ls : List ℕ). ofRows P q u (rowsOf ls (drop from addrs))) y (drop-cons lens (g - 1) 0 (omega arith) ∙ ap (λ (v : ℕ). l ∷ drop v lens) x)
-    ∙ ap₂ (λ (u : ℕ) (as′ : List ℕ). ofBits P q 374 (m - 374) 0 (take l (drop from addrs)) ++ ofRows P q u (rowsOf (drop g lens) as′)) z
-    (drop-drop l from addrs ∙ ap (λ (v : ℕ). drop v addrs) f)
+    rows-next P q lens addrs (g - 1) from (omega arith)
+    ∙ ap₂ (λ (u v : ℕ). ofBits P q 374 u 0 (take l (drop from addrs)) ++ ofRows P q (374 * v) (rowsOf (drop v lens) (drop (from + l) addrs))) y x
+    ∙ ap (λ (v : ℕ). ofBits P q 374 (m - 374) 0 (take l (drop from addrs)) ++ ofRows P q (374 * g) (rowsOf (drop g lens) (drop v addrs))) f
 
 pub rows-start : (P q : ℕ) (lens addrs : List ℕ) (end : ℕ) (L : Lists) → L ≡ putAll (ofRows P q (374 * length lens) (rowsOf (drop (length lens) lens) (drop end addrs))) L
 unfolding putAll ofRows rowsOf
@@ -204,13 +202,13 @@ module _ (P q : ℕ) (lens addrs : List ℕ) (g m end from : ℕ) (L st : Lists)
           let z : 0 + 374 * (g - 1) ≡ 374 * (g - 1) = omega arith in
           rows-split P q 0 (g - 1) lens addrs (omega arith)
           ∙ ap (λ (es : List Edge). ofRows P q 0 (rowsOf (take (g - 1) lens) addrs) ++ es)
-          (ap₂ (λ (u v : ℕ). ofRows P q u (rowsOf (drop (g - 1) lens) (drop v addrs))) z (sym from-is) ∙ rows-next P q lens addrs g m from h i e (k ∙ f))
+          (ap₂ (λ (u v : ℕ). ofRows P q u (rowsOf (drop (g - 1) lens) (drop v addrs))) z (sym from-is) ∙ row-before P q lens addrs g m from h i e (k ∙ f))
 
   pub rows-again : (L′ : Lists) → L′ ≡ putAll (ofBits P q 374 (m - 374) 0 (take (getD lens (g - 1) 0) (drop from addrs))) L
       → L′ ≡ putAll (ofRows P q (374 * (g - 1)) (rowsOf (drop (g - 1) lens) (drop from addrs))) st
   rows-again L′ w =
       w ∙ ap (putAll (ofBits P q 374 (m - 374) 0 (take (getD lens (g - 1) 0) (drop from addrs)))) l′ ∙ sym (putAll-append _ _ st)
-      ∙ ap (λ (es : List Edge). putAll es st) (sym (rows-next P q lens addrs g m from h i e (k ∙ f)))
+      ∙ ap (λ (es : List Edge). putAll es st) (sym (row-before P q lens addrs g m from h i e (k ∙ f)))
 
 module _ (P q : ℕ) (lens addrs : List ℕ) (g m end r : ℕ) (L st : Lists) (h : 0 < g) (i : g ≤ length lens) (e : m ≡ 374 * g) (f : end ≡ before lens g)
     (k : r ≡ getD lens (g - 1) 0) (l : L ≡ putAll (ofRows P q (374 * g) (rowsOf (drop g lens) (drop end addrs))) st) where

@@ -1,17 +1,15 @@
 -- Filling the lists of all checks from their ends: each edge, the last first, is put before what its check has so far.
 use mathlib.Core.Path.{_≡_, refl, sym, ap, _∙_, subst}
 use mathlib.Core.Logic.{_≢_}
-use mathlib.Core.Bool.{cond}
 use mathlib.Core.List.{List, [], _∷_, _++_}
 use Prim.Native.Nat.{ℕ, zero, suc, _+_, _-_, _≤_, _<_}
 use native.Mathlib.Omega.{arith}
 use native.Mathlib.Decide.{ℕ-discrete, decLt}
-use borrow.Author.Tests.{eq-eqb, ne-eqb}
 use lib.ListN.{length, take, drop, getD, set, length-set}
 use lib.Seq.{getD-set-other, ext-getD, slice, length-slice, getD-take, getD-drop}
 use Rattle.laws.specs.Stores.{set-at}
 use Rattle.ldpc_edges.specs.Code.{Edge, edge, only}
-use Rattle.ldpc_edges.specs.Inside.{Inside, only-length}
+use Rattle.ldpc_edges.specs.Inside.{Inside, only-length, only-hit, only-miss}
 use Rattle.ldpc_edges.specs.Count.{start, start-le}
 
 -- the lists and their starts, which are cursors while they are filled
@@ -51,14 +49,6 @@ put-at-length [] st = refl
 put-at-length (edge p m ∷ es) st = length-set (putAll es st .at) p _ ∙ put-at-length es st
 
 -- ---- one more edge of check c
-only-hit : (p m c : ℕ) (es : List Edge) → p ≡ c → only c (edge p m ∷ es) ≡ m ∷ only c es
-unfolding only
-only-hit p m c es e = ap (λ b. cond b (m ∷ only c es) (only c es)) (eq-eqb p c e)
-
-only-miss : (p m c : ℕ) (es : List Edge) → (p ≡ c → ⊥) → only c (edge p m ∷ es) ≡ only c es
-unfolding only
-only-miss p m c es e = ap (λ b. cond b (m ∷ only c es) (only c es)) (ne-eqb p c e)
-
 only-tail : (p m c : ℕ) (es : List Edge) → length (only c es) ≤ length (only c (edge p m ∷ es))
 only-tail p m c es = go (ℕ-discrete p c)
   where

@@ -13,7 +13,7 @@ use lib.Seq.{drop-cons, drop-length, getD-set-other, take-suc, take-length}
 use Rattle.laws.specs.Lists.{or-left, or-right, zeros-at}
 use Rattle.laws.specs.Stores.{set-at}
 use Rattle.ldpc_shape.specs.Shape.{qOf, total, anyOver, countMod, countsMod, badLength, codeRefusal}
-use Rattle.ldpc_shape.specs.Accepted.{total-le}
+use Rattle.ldpc_shape.specs.Accepted.{total-drop, total-le}
 use Rattle.ldpc_shape.specs.Worked.{q-beside}
 use Rattle.ldpc_shape.specs.Counts.{CountsBelow, Counts-of, tops, tops-counts}
 
@@ -95,11 +95,7 @@ over-end m lens i h g inv =
 
 -- ---- the sum of the lengths
 pub sum-again : (lens : List ℕ) (i s : ℕ) → i < length lens → s + total (drop i lens) ≡ total lens → s + getD lens i 0 + total (drop (i + 1) lens) ≡ total lens
-unfolding total
-sum-again lens i s h inv =
-    let a = ap total (drop-cons lens i 0 h) in
-    let b = ap (λ (z : ℕ). total (drop z lens)) (add-one i) in
-    omega arith
+sum-again lens i s h inv = omega (arith, total-drop lens i h)
 
 pub sum-end : (lens : List ℕ) (i s : ℕ) → length lens ≤ i → i ≤ length lens → s + total (drop i lens) ≡ total lens → s ≡ total lens
 unfolding total

@@ -1,5 +1,5 @@
 -- What it says of a code that no refusal applies.
-use mathlib.Core.Path.{_≡_, refl, sym, ap, subst}
+use mathlib.Core.Path.{_≡_, refl, sym, ap, _∙_, subst}
 use mathlib.Core.Bool.{Bool, true, false, cond, not, _||_}
 use mathlib.Core.List.{List, [], _∷_}
 use Prim.Native.Nat.{ℕ, zero, suc, _+_, _*_, _%_, _≤_, _<_}
@@ -42,14 +42,15 @@ accepted n lens addrs h =
     go false true false false false true false z pb pc pd pe pf pg =
         record { whole = eqb-true _ 0 pb; small = ltb-false _ _ pc; rows = leb-false _ _ pd; short = pe; adds = eqb-true _ _ pf; few = pg }
 
+-- the first of the lengths from row g on
+pub total-drop : (lens : List ℕ) (g : ℕ) → g < length lens → total (drop g lens) ≡ getD lens g 0 + total (drop (g + 1) lens)
+unfolding total
+total-drop lens g h = ap total (drop-cons lens g 0 h) ∙ ap (λ (z : ℕ). getD lens g 0 + total (drop z lens)) (sym (add-one g))
+
 -- the addresses of row g, which begin at `from`, end inside the list, and those of the next rows follow
 module _ (lens addrs : List ℕ) (g from : ℕ) (h : g < length lens) where
   pub rows-end-fits : (r : ℕ) → r ≡ getD lens g 0 → from + total (drop g lens) ≡ length addrs → (from + r ≤ length addrs) × (from + r + total (drop (g + 1) lens) ≡ length addrs)
-  unfolding total
-  rows-end-fits r e f =
-      let a = ap total (drop-cons lens g 0 h) in
-      let b = ap (λ (z : ℕ). total (drop z lens)) (add-one g) in
-      (omega arith, omega arith)
+  rows-end-fits r e f = let a = total-drop lens g h in (omega arith, omega arith)
 
 -- no number above the limit: the sum is at most the limit times how many there are
 pub total-le : (m : ℕ) (xs : List ℕ) → anyOver m xs ≡ false → total xs ≤ length xs * m

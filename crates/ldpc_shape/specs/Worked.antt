@@ -1,12 +1,12 @@
 -- The numbers of a code as programs work them out.
-use mathlib.Core.Path.{_≡_, sym, ap, _∙_}
+use mathlib.Core.Path.{_≡_, ap, _∙_}
 use mathlib.Core.List.{List}
 use Prim.Native.Nat.{ℕ, suc, _+_, _-_, _*_, _/_, _%_, _≤_, _<_}
 use native.Mathlib.Nat.{mul-comm}
 use native.Mathlib.Omega.{arith}
 use lib.ListN.{length}
 use Rattle.ldpc_shape.specs.Shape.{kOf, pOf, qOf, eOf, codeRefusal}
-use Rattle.ldpc_shape.specs.Accepted.{Accepted, accepted, p-is, n-is, rows-le, addrs-le}
+use Rattle.ldpc_shape.specs.Accepted.{accepted, n-is, rows-le, addrs-le}
 
 pub k-worked : (lens : List ℕ) → length lens * 374 ≡ kOf lens
 unfolding kOf
@@ -32,9 +32,6 @@ lists-worked n lens addrs = (λ i. p-worked n lens i + 1 + e-worked n lens addrs
 pub q-beside : (n : ℕ) (lens : List ℕ) → n % 374 ≡ 0 → n / 374 - length lens ≡ qOf n lens
 unfolding qOf pOf kOf
 q-beside n lens whole = omega (arith, whole)
-
-pub p-beside : (n : ℕ) (lens addrs : List ℕ) → Accepted n lens addrs → pOf n lens ≡ 374 * (n / 374 - length lens)
-p-beside n lens addrs A = p-is n lens addrs A ∙ ap (λ (z : ℕ). 374 * z) (sym (q-beside n lens (A .whole)))
 
 -- an accepted code's numbers are small
 pub fits : (n : ℕ) (lens addrs : List ℕ) → codeRefusal n lens addrs ≡ 0
