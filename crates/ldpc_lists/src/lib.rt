@@ -1,6 +1,7 @@
 // The lists of all checks in one lent slice: row_start (P + 1 numbers), then rows (E bits).
 // The slice is filled from the lists' ends: each start is first its list's end and goes down by one for each bit.
 use ldpc_shape::GROUP_U32;
+use ldpc_shape::MAX_Q;
 ghost use mathlib.Core.Path.{_≡_};
 ghost use mathlib.Core.Bool.{cond};
 ghost use Prim.Native.Nat.{suc, _+_, _*_, _%_, _<_, _≤_};
@@ -136,7 +137,7 @@ fn stair(c: usize) -> u32
 }
 
 // Each start at the end of its check's list.
-fn ends(lists: &mut [u32], counts: &[u32; 120], q: usize, checks: usize)
+fn ends(lists: &mut [u32], counts: &[u32; MAX_Q], q: usize, checks: usize)
     requires { ⌜ (0 < q) × (q ≤ 120) × (checks ≤ 44880) × (checks < length (now lists)) × Few (now counts) q ⌝ }
     ensures { λ _. ⌜ EndsSet (now (counts .entry)) q (now (lists .exit)) checks × (getD (now (lists .exit)) checks 0 ≡ ending (now (counts .entry)) q checks) ⌝ }
 {

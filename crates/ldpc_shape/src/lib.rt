@@ -3,13 +3,16 @@ ghost use mathlib.Core.Path.{_≡_};
 ghost use mathlib.Core.Bool.{false};
 ghost use Prim.Native.Nat.{_%_, _<_, _≤_};
 ghost use lib.ListN.{length};
-ghost use Rattle.ldpc_shape.specs.Shape.{kOf, pOf, eOf, sizesOf, total, anyOver, badLength, codeRefusal};
+ghost use Rattle.ldpc_shape.specs.Shape.{pOf, eOf, sizesOf, total, anyOver, badLength, codeRefusal};
 ghost use Rattle.ldpc_shape.specs.Counts.{Counts-of, tops};
 
 // The bits of a row, and the checks of each residue modulo q.
 pub const GROUP: usize = 374;
 
 pub const GROUP_U32: u32 = GROUP as u32;
+
+// The most that q can be, 44,880 / 374.
+pub const MAX_Q: usize = 120;
 
 // The numbers of a code: its length, information bits, checks, P / 374 and edges.
 pub struct Sizes {
@@ -76,11 +79,11 @@ fn sum_of(lens: &[u32]) -> usize
 }
 
 // How many addresses are l modulo q, for each l below q; zeros from q on.
-pub fn counts(addrs: &[u16], q: u32) -> [u32; 120]
+pub fn counts(addrs: &[u16], q: u32) -> [u32; MAX_Q]
     requires { ⌜ (0 < q) × (q ≤ 120) × (length (now addrs) ≤ 15360) ⌝ }
     ensures { λ r. ⌜ Counts-of r q (now (addrs .entry)) ⌝ }
 {
-    let mut r = [0u32; 120];
+    let mut r = [0u32; MAX_Q];
     let mut i: usize = 0;
     while i < addrs.len() {
         let l = residue(addrs[i], q);
@@ -91,7 +94,7 @@ pub fn counts(addrs: &[u16], q: u32) -> [u32; 120]
 }
 
 // Whether one of the first q counts is above 126.
-fn any_many(counts: &[u32; 120], q: u32) -> bool
+fn any_many(counts: &[u32; MAX_Q], q: u32) -> bool
     requires { ⌜ q ≤ 120 ⌝ }
     ensures { λ r. ⌜ r ≡ anyOver 126 (tops (now (counts .entry)) q) ⌝ }
 {
@@ -146,20 +149,13 @@ pub fn sizes_of(n: u32, lens: &[u32], addrs: &[u16]) -> Sizes
     }
 }
 
-// k, of a code with fewer than 120 rows.
-pub fn info_bits(lens: &[u32]) -> usize
-    requires { ⌜ length (now lens) ≤ 119 ⌝ }
-    ensures { λ r. ⌜ r ≡ kOf (now (lens .entry)) ⌝ }
-{
-    lens.len() * GROUP
-}
-
 // P, of an accepted code.
 pub fn checks(n: u32, lens: &[u32], addrs: &[u16]) -> usize
     requires { ⌜ codeRefusal n (now lens) (now addrs) ≡ 0 ⌝ }
     ensures { λ r. ⌜ r ≡ pOf n (now (lens .entry)) ⌝ }
 {
-    wide(n) - info_bits(lens)
+    let sizes = sizes_of(n, lens, addrs);
+    sizes.p
 }
 
 // E, of an accepted code.
@@ -167,5 +163,6 @@ pub fn edges(n: u32, lens: &[u32], addrs: &[u16]) -> usize
     requires { ⌜ codeRefusal n (now lens) (now addrs) ≡ 0 ⌝ }
     ensures { λ r. ⌜ r ≡ eOf n (now (lens .entry)) (now (addrs .entry)) ⌝ }
 {
-    GROUP * addrs.len() + 2 * checks(n, lens, addrs) - 1
+    let sizes = sizes_of(n, lens, addrs);
+    sizes.e
 }
