@@ -5,9 +5,12 @@ use mathlib.Core.Bool.{Bool, true, false}
 use mathlib.Core.List.{[], _∷_}
 use Prim.Native.Nat.{ℕ}
 use native.Mathlib.Decide.{decLt}
+use lib.Ieee.{nan}
 use lib.ListN.{replicate}
-use Rattle.ldpc_shape.specs.Shape.{kOf, pOf, qOf, eOf, total, anyOver, countMod, countsMod, badLength, refusalOf}
-use Rattle.ldpc.specs.Answers.{orElse, otherOf, beyondOf, shortOf, checkRefusal, parityRefusal, encodeRefusal, weightRefusal}
+use Rattle.ldpc_shape.specs.Shape.{kOf, pOf, qOf, eOf, rowsOf, total, anyOver, countMod, countsMod, badLength, codeRefusal}
+use Rattle.ldpc_edges.specs.Code.{ofRows, meets, only, stairs, check}
+use Rattle.ldpc.specs.Answers.{orElse, otherOf, beyondOf, shortOf, newRefusal, checkRefusal, parityRefusal, encodeRefusal, weightRefusal}
+use Rattle.quantise.specs.Soft.{quantiseRefusal}
 use Rattle.bch.specs.Answers.{wordRefusal, messageRefusal}
 use Rattle.decoder_refuse.specs.Refusal as run
 
@@ -19,14 +22,14 @@ runOf lanes limit layered step soft out =
 
 pub record Differences : Type 0 where
   -- `Code::new` panics
-  pub length-0 : refusalOf 0 [] [] ≡ 2
-  pub length-375 : refusalOf 375 [] [] ≡ 2
-  pub row-at-374 : refusalOf 374 (0 ∷ []) [] ≡ 3
+  pub length-0 : codeRefusal 0 [] [] ≡ 2
+  pub length-375 : codeRefusal 375 [] [] ≡ 2
+  pub row-at-374 : codeRefusal 374 (0 ∷ []) [] ≡ 3
   -- `Code::new` accepts
-  pub length-45254 : refusalOf 45254 [] [] ≡ 2
-  pub row-of-129 : refusalOf 748 (129 ∷ []) (replicate 129 0) ≡ 4
-  pub equal-127 : refusalOf 748 (127 ∷ []) (replicate 127 0) ≡ 6
-  pub equal-126 : refusalOf 748 (126 ∷ []) (replicate 126 0) ≡ 0
+  pub length-45254 : codeRefusal 45254 [] [] ≡ 2
+  pub row-of-129 : codeRefusal 748 (129 ∷ []) (replicate 129 0) ≡ 4
+  pub equal-127 : codeRefusal 748 (127 ∷ []) (replicate 127 0) ≡ 6
+  pub equal-126 : codeRefusal 748 (126 ∷ []) (replicate 126 0) ≡ 0
   -- `check`, `parity`, `encode`, `syndrome_weight` panic
   pub check-p : checkRefusal 374 [] [] 374 2 ≡ 12
   pub parity-short : parityRefusal 748 (0 ∷ []) [] 373 374 ≡ 12
@@ -50,12 +53,21 @@ pub record Differences : Type 0 where
   pub lanes-65 : runOf 65 1 false 0 374 374 ≡ 7
   pub words-4097 : runOf 1 1 false 0 1532278 1532278 ≡ 8
   pub limit-65536 : runOf 1 65536 false 0 374 374 ≡ 9
+  -- the Rust has its rows as lists, so that there are no lengths beside them
+  pub rows-apart : codeRefusal 748 (1 ∷ []) [] ≡ 5
   -- the Rust allocates
+  pub lists-short : newRefusal 374 [] [] 1121 ≡ 13
+  pub bits-short : checkRefusal 374 [] [] 1 1 ≡ 13
+  pub parity-out : parityRefusal 374 [] [] 0 373 ≡ 13
+  pub encode-out : encodeRefusal 374 [] [] 0 373 ≡ 13
+  pub soft-out : quantiseRefusal (nan ∷ []) [] ≡ 13
+  pub bch-parity-out : messageRefusal 0 192 191 ≡ 13
+  pub bch-encode-out : messageRefusal 1 193 192 ≡ 13
   pub output-short : runOf 1 1 false 0 374 373 ≡ 13
   pub run-accepted : runOf 1 65535 false 0 374 374 ≡ 0
 
 pub differences : Differences
-unfolding refusalOf badLength anyOver total countsMod countMod kOf pOf qOf eOf run.refusalOf run.firstOf run.badLanes run.badWords run.badLimit run.badStep run.badPart run.tooShort run.outNeed run.workNeed run.indexNeed checkRefusal parityRefusal encodeRefusal weightRefusal orElse otherOf beyondOf shortOf wordRefusal messageRefusal decLt
+unfolding check meets only ofRows stairs rowsOf newRefusal codeRefusal badLength anyOver total countsMod countMod kOf pOf qOf eOf run.refusalOf run.firstOf run.badLanes run.badWords run.badLimit run.badStep run.badPart run.tooShort run.outNeed run.workNeed run.indexNeed checkRefusal parityRefusal encodeRefusal weightRefusal orElse otherOf beyondOf shortOf wordRefusal messageRefusal decLt
 differences =
     record {
       length-0 = refl;
@@ -82,6 +94,14 @@ differences =
       lanes-65 = refl;
       words-4097 = refl;
       limit-65536 = refl;
+      rows-apart = refl;
+      lists-short = refl;
+      bits-short = refl;
+      parity-out = refl;
+      encode-out = refl;
+      soft-out = refl;
+      bch-parity-out = refl;
+      bch-encode-out = refl;
       output-short = refl;
       run-accepted = refl;
     }
