@@ -2,7 +2,7 @@
 ghost use mathlib.Core.Path.{_≡_};
 ghost use Prim.Native.Nat.{_+_, _<_};
 ghost use lib.ListN.{getD, length};
-ghost use Rattle.fixed_code.specs.Lists.{Lists};
+ghost use Rattle.iteration.specs.Lists.{Lists};
 
 // Where check c's edges begin.
 pub fn start(index: &[u32], c: usize) -> usize

@@ -13,7 +13,8 @@ use lib.IntN.{ℤ, pos}
 use Rattle.laws.specs.Choice.{by-cond, by-bool}
 use Rattle.laws.specs.Put.{put, put-same, put-other, put-self}
 use Rattle.lane_memory.specs.Column.{column}
-use Rattle.simd.specs.Words.{within, wordOf, word}
+use Rattle.simd.specs.Words.{wordOf, word}
+use Rattle.iteration.specs.Check.{within}
 use Rattle.fixed_lanes.specs.Place.{Placed}
 
 abbrev pub on : List Bool → ℕ → Bool

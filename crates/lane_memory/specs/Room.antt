@@ -1,21 +1,13 @@
 -- What a call on the memory may count on: one slice of n + 3E rows, E edges, each of a variable below n.
 use mathlib.Core.Path.{_≡_}
-use mathlib.Core.Bool.{Bool, false}
 use mathlib.Core.List.{List}
-use Prim.Native.Nat.{ℕ, _+_, _*_, _/_, _≤_, _<_}
+use Prim.Native.Nat.{ℕ, _+_, _*_, _≤_, _<_}
 use native.Mathlib.Omega.{arith}
 use native.Mathlib.Nat.{mul-le-mul-right}
 use lib.ListN.{getD, length}
 use lib.IntN.{ℤ}
+use Rattle.iteration.specs.Lists.{var, rowsIn, edgesIn, Lists}
 use Rattle.lane_memory.specs.Column.{row-ends}
-
--- the variable of edge e
-abbrev pub var : List ℕ → ℕ → ℕ
-var rows e = getD rows e 0
-
--- whether variable v's row of 374 is flagged: its variables can have several edges in a run of checks
-abbrev pub sharedIn : List Bool → ℕ → Bool
-sharedIn flags v = getD flags (v / 374) false
 
 -- A check of d edges from edge s, at most 128. A code has 747 edges or more; from 16 on, the rows of the old messages alone are more
 -- than the 15 bytes that a load of 16 reaches behind a row of values, messages or t.
@@ -60,6 +52,30 @@ module _ {rows : List ℕ} {s d n lanes : ℕ} {a : List ℤ} (r : Room rows s d
   row-fits u h =
       let q : 1 * (n + 3 * length rows) ≤ lanes * (n + 3 * length rows) = mul-le-mul-right (n + 3 * length rows) (r .some-lanes) in
       omega (arith, r .long)
+
+-- ---- The memory: n + 3E rows with stride lanes, 1 to 64 of them.
+pub record Memory (n p lanes : ℕ) (index : List ℕ) (a : List ℤ) : Type 0 where
+  pub lists : Lists n p index
+  pub long : (n + 3 * edgesIn p index) * lanes ≤ length a
+  pub some-lanes : 0 < lanes
+  pub few-lanes : lanes ≤ 64
+
+module _ {n p lanes : ℕ} {index : List ℕ} {a : List ℤ} where
+  pub memory-to : {b : List ℤ} → length b ≡ length a → Memory n p lanes index a → Memory n p lanes index b
+  memory-to e m = record { lists = m .lists; long = omega (arith, m .long, e); some-lanes = m .some-lanes; few-lanes = m .few-lanes }
+
+  -- d edges from s, of one check
+  pub room : (c s d : ℕ) → Memory n p lanes index a → c < p → s ≡ getD index c 0 → s + d ≡ getD index (c + 1) 0 → Room (rowsIn p index) s d n lanes a
+  room c s d m h e f =
+      record {
+        edges = omega (arith, m .lists .within (c + 1) (omega arith));
+        degree = omega (arith, m .lists .short c h);
+        variables = m .lists .variables;
+        long = m .long;
+        many = m .lists .many;
+        some-lanes = m .some-lanes;
+        few-lanes = m .few-lanes;
+      }
 
 -- ---- how many lanes a chunk stores: 16, 8, 4 or 1
 pub record Width (w : ℕ) : Type 0 where

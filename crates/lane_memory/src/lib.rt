@@ -4,7 +4,8 @@ ghost use Prim.Native.Nat.{ℕ, _<_, _≤_, _+_, _*_};
 ghost use lib.ListN.{length};
 ghost use Rattle.lane16.specs.Lanes.{z};
 ghost use Rattle.lane_memory.specs.Column.{column, Stored};
-ghost use Rattle.lane_memory.specs.Room.{var, Width};
+ghost use Rattle.lane_memory.specs.Room.{Width};
+ghost use Rattle.iteration.specs.Lists.{var};
 
 // The variable of edge e.
 pub fn variable(rows: &[u32], e: usize) -> usize

@@ -4,24 +4,21 @@ use mathlib.Core.Bool.{Bool, true, false, cond}
 use mathlib.Core.List.{List}
 use Prim.Native.Nat.{ℕ, zero, suc, _+_, _%_, _≤_, _<_}
 use native.Mathlib.Omega.{arith}
-use borrow.Author.Tests.{ltb-true, lt-ltb, eqb-true, eqb-false, eq-eqb, ne-eqb}
-use lib.Dec.{ltb, eqb}
+use borrow.Author.Tests.{eqb-true, eqb-false, eq-eqb, ne-eqb}
+use lib.Dec.{eqb}
 use lib.ListN.{getD, length}
-use lib.IntN.{ℤ, pos, _+ℤ_, _-ℤ_}
-use Rattle.laws.specs.Choice.{by-bool}
+use lib.IntN.{ℤ, _+ℤ_, _-ℤ_}
 use Rattle.laws.specs.Put.{put, put-other}
-use Rattle.lane_math.specs.Value.{satZ}
-use Rattle.lane_math.specs.Check.{Word, check, message, wrote, tOf, newL, newR}
-use Rattle.lane_math.specs.Iteration.{unsatisfied, negatives, hard}
-use Rattle.lane_math.specs.Laws.{message-same, wrote-same, unsatisfied-is}
+use Rattle.iteration.specs.Value.{satZ}
+use Rattle.iteration.specs.Check.{Word, check, message, wrote, tOf, newL, newR, within}
+use Rattle.iteration.specs.Iteration.{unsatisfied, negatives, hard}
+use Rattle.lane_math.specs.Laws.{unsatisfied-is}
+use Rattle.iteration.specs.CheckLaws.{message-same, wrote-same, within-put, within-other, within-at}
 use Rattle.lane16.specs.Lanes.{Decided}
 use Rattle.lane_memory.specs.Column.{column, Mapped}
-use Rattle.lane_memory.specs.Room.{var, Room}
+use Rattle.lane_memory.specs.Room.{Room}
+use Rattle.iteration.specs.Lists.{var}
 use Rattle.simd.specs.Pass.{tAt, written, checkColumn, Signs}
-
--- the first m of f, and 0 behind them
-unfoldable pub within : ℕ → (ℕ → ℤ) → ℕ → ℤ
-within m f u = cond (ltb u m) (f u) (pos 0)
 
 unfoldable pub wordOf : ℕ → ℕ → (ℕ → ℤ) → Word
 wordOf n E f = record { L = within n f; r = within E (λ e. f (n + e)) }
@@ -39,22 +36,6 @@ pub record SignParity (rows : List ℕ) (s d lanes at : ℕ) (a : List ℤ) (b :
   pub is : (k : ℕ) → k < 16 → getD b k 0 ≡ unsatisfied (var rows) s d (column lanes a (at + k))
 
 -- ---- a row written, and the words
-pub within-at : (m : ℕ) (f : ℕ → ℤ) (u : ℕ) → u < m → within m f u ≡ f u
-unfolding within
-within-at m f u h = ap (λ (b : Bool). cond b (f u) (pos 0)) (lt-ltb u m h)
-
-within-put : (m : ℕ) (f : ℕ → ℤ) (u : ℕ) (x : ℤ) → u < m → within m (put f u x) ≡ put (within m f) u x
-unfolding within put
-within-put m f u x h =
-    λ i w. by-bool (λ b. cond (ltb w m) (cond b x (f w)) (pos 0) ≡ cond b x (cond (ltb w m) (f w) (pos 0))) (eqb w u)
-    (λ e. ap (λ (b : Bool). cond b x (pos 0)) (lt-ltb w m (omega (arith, eqb-true w u e)))) (λ _. refl) i
-
--- a row that none of the first m is
-within-other : (m : ℕ) (f g : ℕ → ℤ) → ((w : ℕ) → w < m → f w ≡ g w) → within m f ≡ within m g
-unfolding within
-within-other m f g h =
-    λ i w. by-bool (λ b. cond b (f w) (pos 0) ≡ cond b (g w) (pos 0)) (ltb w m) (λ e. h w (ltb-true w m e)) (λ _. refl) i
-
 -- base + e in place of e
 pub shifted-put : (base : ℕ) (f : ℕ → ℤ) (u : ℕ) (x : ℤ) → _≡_ {A = ℕ → ℤ} (λ e. put f (base + u) x (base + e)) (put (λ e. f (base + e)) u x)
 unfolding put

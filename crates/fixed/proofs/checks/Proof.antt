@@ -8,10 +8,10 @@ use lib.ListN.{length}
 use mir.Syntax.{w8}
 use mir.Val.{toZ, ofZ}
 use Rattle.laws.specs.Signed.{plain}
-use Rattle.lane_memory.specs.Room.{Room}
+use Rattle.lane_memory.specs.Room.{Room, memory-to, room}
 use Rattle.simd.specs.Words.{CheckNode}
-use Rattle.fixed_code.specs.Lists.{memory-to, room}
-use Rattle.fixed.specs.Sequential.{stepped, InTurn, turn-start, turn-again, turn-end}
+use Rattle.fixed.specs.Sequential.{InTurn, turn-start, turn-again, turn-end}
+use Rattle.iteration.specs.Once.{stepped}
 use Rattle.fixed.proofs.checks.Statement.{statement}
 use Rattle.fixed.proofs.checks.Tie as tie
 

@@ -7,7 +7,7 @@ use lib.ListN.{length, length-set}
 use lib.IntN.{ℤ, pos, _+ℤ_}
 use borrow.Author.Needs.{sfits-of}
 use Rattle.laws.specs.Signed.{plain}
-use Rattle.lane_math.specs.Value.{satZ}
+use Rattle.iteration.specs.Value.{satZ}
 use Rattle.lane16.specs.Lanes.{z}
 use Rattle.laws.specs.Stores.{grown}
 use Rattle.lane16.proofs.add.Statement.{statement}

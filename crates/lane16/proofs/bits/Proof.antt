@@ -6,7 +6,7 @@ use Prim.Native.Nat.{ℕ, _-_, _≤_, _<_}
 use lib.ListN.{length, length-set}
 use borrow.Author.Needs.{sfits-of}
 use Rattle.laws.specs.Signed.{plain}
-use Rattle.lane_math.specs.Iteration.{hard}
+use Rattle.iteration.specs.Iteration.{hard}
 use Rattle.lane16.specs.Lanes.{z, n}
 use Rattle.laws.specs.Stores.{grown}
 use Rattle.lane16.proofs.bits.Statement.{statement}

@@ -9,7 +9,8 @@ use mir.Syntax.{w8}
 use mir.Val.{toZ, ofZ}
 use Rattle.laws.specs.Signed.{plain}
 use Rattle.lane_memory.specs.Column.{Upto, upto-start, upto-again, upto-end}
-use Rattle.lane_memory.specs.Room.{var, room-to}
+use Rattle.lane_memory.specs.Room.{room-to}
+use Rattle.iteration.specs.Lists.{var}
 use Rattle.simd.specs.Pass.{checkColumn}
 use Rattle.simd.specs.Words.{CheckNode, check-node}
 use Rattle.simd.proofs.check_node.Statement.{statement}

@@ -9,7 +9,9 @@ use mir.Syntax.{w8}
 use mir.Val.{toZ, ofZ}
 use Rattle.laws.specs.Signed.{plain}
 use Rattle.lane_memory.specs.Column.{Upto, upto-start, upto-again, upto-end}
-use Rattle.lane_memory.specs.Room.{var, sharedIn, room-to}
+use Rattle.lane_memory.specs.Room.{room-to}
+use Rattle.iteration.specs.Once.{sharedIn}
+use Rattle.iteration.specs.Lists.{var}
 use Rattle.simd_layered.specs.Checked.{runColumn, Checked, checked}
 use Rattle.simd_layered.proofs.check_shared.Statement.{statement}
 use Rattle.simd_layered.proofs.check_shared.Tie as tie

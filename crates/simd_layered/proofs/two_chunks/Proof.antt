@@ -6,7 +6,9 @@ use Prim.Native.Nat.{_+_}
 use lib.ListN.{length}
 use Rattle.laws.specs.Signed.{plain}
 use Rattle.lane_memory.specs.Column.{part-offset}
-use Rattle.lane_memory.specs.Room.{var, sharedIn, room-to, Width}
+use Rattle.lane_memory.specs.Room.{room-to, Width}
+use Rattle.iteration.specs.Once.{sharedIn}
+use Rattle.iteration.specs.Lists.{var}
 use Rattle.simd.specs.Pass.{scan-to}
 use Rattle.simd_layered.specs.Checked.{runColumn, two-parts}
 use Rattle.simd_layered.proofs.two_chunks.Statement.{statement}

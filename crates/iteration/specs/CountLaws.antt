@@ -1,28 +1,14 @@
--- How many checks a word leaves unsatisfied, and one of them: what a count promises, and checks counted one after the other.
+-- Checks counted one after the other.
 use mathlib.Core.Path.{_≡_, refl, sym, ap, _∙_}
 use mathlib.Core.Bool.{Bool, true, false, cond}
-use Prim.Native.Nat.{ℕ, zero, suc, _+_, _≤_, _<_}
+use Prim.Native.Nat.{ℕ, zero, suc, _+_, _≤_}
 use native.Mathlib.Omega.{arith}
 use native.Mathlib.Numerals.{add-one}
 use borrow.Author.Tests.{eqb-true, eqb-false}
 use lib.Dec.{eqb}
-use lib.IntN.{ℤ}
-use Rattle.lane_math.specs.Check.{Word}
-use Rattle.lane_math.specs.Iteration.{Code, degree, unsatisfied, unsatisfiedCount}
-
--- whether the values L leave check c unsatisfied: 1, else 0
-abbrev pub unmetAt : Code → (ℕ → ℤ) → ℕ → ℕ
-unmetAt code L c = unsatisfied (code .rows) (code .row-start c) (degree code c) L
-
--- "one unsatisfied check (any; 0 if none)": what holds of the check that a record names, of p checks and the values x that were counted
-pub record Names (code : Code) (p : ℕ) (x : Word) (check : ℕ) : Type 0 where
-  pub some : 0 < unsatisfiedCount code p (x .L) → (check < p) × (unmetAt code (x .L) check ≡ 1)
-  pub none : unsatisfiedCount code p (x .L) ≡ 0 → check ≡ 0
-
--- what a count promises: how many of p checks the values x leave unsatisfied, and one of them
-pub record Counted (code : Code) (p : ℕ) (x : Word) (count check : ℕ) : Type 0 where
-  pub all : count ≡ unsatisfiedCount code p (x .L)
-  pub named : Names code p x check
+use Rattle.iteration.specs.Check.{Word}
+use Rattle.iteration.specs.Iteration.{Code, unsatisfied, unsatisfiedCount}
+use Rattle.iteration.specs.Count.{unmetAt, Counted}
 
 module _ (code : Code) (x : Word) where
   pub unmet-le : (c : ℕ) → unmetAt code (x .L) c ≤ 1

@@ -1,4 +1,4 @@
--- The code of n, row lengths and addresses, and the lists that say it.
+-- The lists of an accepted code are lists, and the code that they say is the code of n, row lengths and addresses.
 use mathlib.Core.Path.{_≡_, refl, sym, ap, _∙_, subst}
 use mathlib.Core.Bool.{Bool, true, false}
 use mathlib.Core.List.{List, [], _++_, append-nil}
@@ -9,17 +9,13 @@ use borrow.Author.Tests.{ltb-true, ltb-false}
 use lib.Dec.{ltb}
 use lib.ListN.{getD, length, take, drop, length-append, List·getD-append}
 use lib.Seq.{take-at, drop-at, getD-append-add}
-use Rattle.lane_math.specs.Iteration.{Code}
 use Rattle.ldpc_shape.specs.Shape.{pOf, eOf}
 use Rattle.ldpc_shape.specs.Accepted.{Accepted, p-is, q-pos}
 use Rattle.ldpc_edges.specs.Code.{check, joined, rowStart, rows, edgeLists}
 use Rattle.ldpc_edges.specs.Count.{check-below}
 use Rattle.ldpc_edges.specs.Layout.{Laid, laid, start-length, rows-length, lists-length}
-use Rattle.fixed_code.specs.Lists.{Lists, rowsIn, edgesIn, codeIn}
-
--- edge e's variable, and where check c's edges begin
-unfoldable pub codeOf : ℕ → List ℕ → List ℕ → Code
-codeOf n lens addrs = record { rows = λ e. getD (rows n lens addrs) e 0; row-start = λ c. getD (rowStart n lens addrs) c 0 }
+use Rattle.iteration.specs.Lists.{Lists, rowsIn, edgesIn, codeIn}
+use Rattle.iteration.specs.Code.{codeOf}
 
 module _ (n : ℕ) (lens addrs index : List ℕ) (is : index ≡ edgeLists n lens addrs) where
   starts-are : take (pOf n lens + 1) index ≡ rowStart n lens addrs

@@ -4,8 +4,8 @@ use mathlib.Core.Bool.{Bool, true, false, cond}
 use lib.Dec.{eqb}
 use lib.IntN.{ℤ, pos, _+ℤ_, _-ℤ_}
 use Rattle.laws.specs.Signed.{negative}
-use Rattle.lane_math.specs.Value.{satZ}
-use Rattle.lane_math.specs.Check.{Word, check, newR}
+use Rattle.iteration.specs.Value.{satZ}
+use Rattle.iteration.specs.Check.{Word, check, newR}
 
 -- The code as the iteration sees it: edge e's variable, and check c's edges, which are row-start c up to row-start (c + 1).
 pub record Code : Type 0 where
@@ -92,6 +92,11 @@ layers offset code q s (suc l) w = runs offset code q s l (runCount s) (layers o
 
 abbrev pub layered : ℤ → Code → ℕ → ℕ → Word → Word
 layered offset code q s w = layers offset code q s q w
+
+-- ---- By the schedule: sequential, or layered with its step. q = P / 374.
+unfoldable pub iterationOf : Bool → ℕ → ℤ → Code → ℕ → Word → Word
+iterationOf false step offset code p x = sequential offset code p x
+iterationOf true step offset code p x = layered offset code (p / 374) step x
 
 -- ---- Hard decisions: 1 where L < 0.
 abbrev pub hard : ℤ → ℕ

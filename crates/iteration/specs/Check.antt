@@ -2,10 +2,10 @@
 use Prim.Native.Nat.{ℕ, zero, suc, _+_, min}
 use mathlib.Core.Bool.{Bool, false, cond}
 use lib.Dec.{ltb, eqb}
-use lib.IntN.{ℤ, _+ℤ_, _-ℤ_}
+use lib.IntN.{ℤ, pos, _+ℤ_, _-ℤ_}
 use Rattle.laws.specs.Signed.{negative, times}
 use Rattle.laws.specs.Put.{put}
-use Rattle.lane_math.specs.Value.{satZ, magnitude, reduced, signed}
+use Rattle.iteration.specs.Value.{satZ, magnitude, reduced, signed}
 
 -- Of the first n edges' t: min1 and min2 start at 127 and become the two smallest;
 unfoldable pub min1 : (ℕ → ℤ) → ℕ → ℕ
@@ -52,3 +52,7 @@ pub record Word : Type 0 where
 
 abbrev pub check : ℤ → (ℕ → ℕ) → ℕ → ℕ → Word → Word
 check offset v s d w = record { L = newL offset v s d (w .L) (w .r); r = newR offset v s d (w .L) (w .r) }
+
+-- the first m of f, and 0 behind them
+unfoldable pub within : ℕ → (ℕ → ℤ) → ℕ → ℤ
+within m f u = cond (ltb u m) (f u) (pos 0)
