@@ -8,7 +8,7 @@ use lib.ListN.{getD}
 use lib.IntN.{ℤ}
 use Rattle.iteration.specs.Check.{check}
 use Rattle.iteration.specs.Iteration.{degree, inTurn, sequential}
-use Rattle.lane_memory.specs.Column.{column}
+use Rattle.lane16.specs.Column.{column}
 use Rattle.iteration.specs.Lists.{var, rowsIn, edgesIn, codeIn}
 use Rattle.simd.specs.Words.{word, CheckNode}
 use Rattle.iteration.specs.ListsLaws.{start-in, degree-in}

@@ -3,7 +3,7 @@
 ghost use mathlib.Core.Path.{_≡_};
 ghost use Prim.Native.Nat.{ℕ, _≤_, _<_};
 ghost use lib.ListN.{length};
-ghost use Rattle.lane_memory.specs.Room.{Memory};
+ghost use Rattle.lane16.specs.Memory.{Memory};
 ghost use Rattle.iteration.specs.Lists.{rowsIn};
 ghost use Rattle.fixed.specs.Sequential.{InTurn, Iterated};
 ghost use Rattle.iteration.specs.Once.{stepped};

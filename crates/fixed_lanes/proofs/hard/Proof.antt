@@ -6,7 +6,7 @@ use Prim.Native.Nat.{_-_, _≤_}
 use lib.ListN.{length-set}
 use lib.IntN.{ℤ}
 use Rattle.iteration.specs.Iteration.{hard}
-use Rattle.lane_memory.specs.Column.{column}
+use Rattle.lane16.specs.Column.{column}
 use Rattle.iteration.specs.CheckLaws.{within-at}
 use Rattle.iteration.specs.Check.{within}
 use Rattle.fixed_lanes.specs.Place.{inside-rows}

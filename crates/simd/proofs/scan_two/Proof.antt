@@ -5,7 +5,7 @@ use mathlib.Core.Path.{_≡_, refl}
 use Prim.Native.Nat.{_+_, _-_, _≤_, _<_}
 use lib.ListN.{length, getD-replicate}
 use lib.IntN.{pos}
-use Rattle.lane_memory.specs.Room.{load-room, value-row, row-fits}
+use Rattle.lane16.specs.Memory.{load-room, value-row, row-fits}
 use Rattle.iteration.specs.Lists.{var}
 use Rattle.simd.specs.Pass.{Scan, scan-start, scan-again, scan-end}
 use Rattle.simd.proofs.scan_two.Statement.{statement}

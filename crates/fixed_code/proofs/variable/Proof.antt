@@ -1,8 +1,8 @@
--- `lane_memory::variable` meets its contract. Assumes nothing.
+-- `fixed_code::variable` meets its contract. Assumes nothing.
 use native.Mathlib.Omega.{arith}
 use borrow.Author.Needs.{needs}
-use Rattle.lane_memory.proofs.variable.Statement.{statement}
-use Rattle.lane_memory.proofs.variable.Tie as tie
+use Rattle.fixed_code.proofs.variable.Statement.{statement}
+use Rattle.fixed_code.proofs.variable.Tie as tie
 
 mul-result : tie.Need-mul-result
 mul-result c = search needs

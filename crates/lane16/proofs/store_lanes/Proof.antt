@@ -1,10 +1,10 @@
--- `lane_memory::store_lanes` meets its contract. Assumes nothing.
+-- `lane16::store_lanes` meets its contract. Assumes nothing.
 use native.Mathlib.Omega.{arith}
 use borrow.Author.Needs.{needs}
 use mathlib.Core.Path.{sym}
-use Rattle.lane_memory.specs.Column.{stored-width}
-use Rattle.lane_memory.proofs.store_lanes.Statement.{statement}
-use Rattle.lane_memory.proofs.store_lanes.Tie as tie
+use Rattle.lane16.specs.ColumnLaws.{stored-width}
+use Rattle.lane16.proofs.store_lanes.Statement.{statement}
+use Rattle.lane16.proofs.store_lanes.Tie as tie
 
 store-requires : tie.Need-store-requires
 store-requires c κs = search needs

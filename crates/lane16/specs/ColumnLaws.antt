@@ -1,4 +1,4 @@
--- Interleaved memory: row u of lane i is at u * lanes + i. Column i is one word's rows.
+-- Columns worked on chunk after chunk; the places of rows and lanes; a loop of stores.
 use mathlib.Core.Path.{_≡_, refl, sym, ap, subst, _∙_}
 use mathlib.Core.Bool.{Bool, true, false, cond}
 use mathlib.Core.List.{List}
@@ -13,27 +13,11 @@ use lib.Seq.{getD-set-other}
 use lib.IntN.{ℤ, pos}
 use Rattle.laws.specs.Put.{put}
 use Rattle.laws.specs.Stores.{grown-at}
-use Rattle.lane16.specs.Lanes.{z}
-
-unfoldable pub column : ℕ → List ℤ → ℕ → ℕ → ℤ
-column lanes xs i u = getD xs (u * lanes + i) (pos 0)
-
--- lane i is none of the w lanes from at
-abbrev pub Off : ℕ → ℕ → ℕ → Type 0
-Off at w i = (k : ℕ) → k < w → i ≡ at + k → ⊥
-
--- the w lanes from at of row u were written, and nothing else
-pub record Stored (w lanes u at : ℕ) (x old new : List ℤ) : Type 0 where
-  pub inside : (k : ℕ) → k < w → column lanes new (at + k) ≡ put (column lanes old (at + k)) u (z x k)
-  pub outside : (i : ℕ) → i < lanes → Off at w i → column lanes new i ≡ column lanes old i
+use Rattle.lane16.specs.Lanes.{intAt}
+use Rattle.lane16.specs.Column.{column, Stored, Part}
 
 pub stored-width : {w w′ lanes u at : ℕ} {x old new : List ℤ} → w ≡ w′ → Stored w lanes u at x old new → Stored w′ lanes u at x old new
 stored-width {w} {w′} {lanes} {u} {at} {x} {old} {new} e c = subst (λ (j : ℕ). Stored j lanes u at x old new) e c
-
--- the columns of the w lanes from at are mapped by F, and the others are as they were
-pub record Part (F : (ℕ → ℤ) → ℕ → ℤ) (w lanes at : ℕ) (old new : List ℤ) : Type 0 where
-  pub inside : (k : ℕ) → k < w → column lanes new (at + k) ≡ F (column lanes old (at + k))
-  pub outside : (i : ℕ) → i < lanes → Off at w i → column lanes new i ≡ column lanes old i
 
 pub part-offset : (F : ℤ → (ℕ → ℤ) → ℕ → ℤ) {o o′ : ℤ} {w lanes at : ℕ} {a a′ : List ℤ} → o ≡ o′ → Part (F o) w lanes at a a′ → Part (F o′) w lanes at a a′
 part-offset F {o} {o′} {w} {lanes} {at} {a} {a′} e c = subst (λ (y : ℤ). Part (F y) w lanes at a a′) e c
@@ -87,19 +71,19 @@ column-at lanes xs u at k =
 -- ---- a loop of stores, by places: after i of them
 pub record Storing (base : ℕ) (x old new : List ℤ) (i : ℕ) : Type 0 where
   pub long : length new ≡ length old
-  pub put-in : (k : ℕ) → k < i → getD new (base + k) (pos 0) ≡ z x k
+  pub put-in : (k : ℕ) → k < i → getD new (base + k) (pos 0) ≡ intAt x k
   pub kept : (p : ℕ) → ((k : ℕ) → k < i → p ≡ base + k → ⊥) → getD new p (pos 0) ≡ getD old p (pos 0)
 
 pub storing-start : (base : ℕ) (x a : List ℤ) → Storing base x a a 0
 storing-start base x a = record { long = refl; put-in = λ k q. absurd (omega (arith, q)); kept = λ p no. refl }
 
 pub storing-again : {base : ℕ} {x old a : List ℤ} {i : ℕ} {y : ℤ} (b : List ℤ) → Storing base x old a i → base + i < length old → length b ≡ length a → b ≡ set a (base + i) y
-    → y ≡ z x i → Storing base x old b (i + 1)
+    → y ≡ intAt x i → Storing base x old b (i + 1)
 storing-again {base} {x} {old} {a} {i} {y} b v room same is e =
     record {
       long = same ∙ v .long;
       put-in =
-          λ k q. at-b (base + k) ∙ grown-at (pos 0) (λ k. base + k) (λ k t. t ≡ z x k) a i y (omega (arith, v .long)) (λ k q r. omega arith) (v .put-in) e k q;
+          λ k q. at-b (base + k) ∙ grown-at (pos 0) (λ k. base + k) (λ k t. t ≡ intAt x k) a i y (omega (arith, v .long)) (λ k q r. omega arith) (v .put-in) e k q;
       kept = λ p off. at-b p ∙ getD-set-other a (base + i) p y (pos 0) (λ r. off i (omega arith) r) ∙ v .kept p (λ k q e. off k (omega arith) e);
     }
   where
@@ -115,12 +99,12 @@ storing-end {lanes} {u} {at} {w} {i} {x} {old} {new} v same h =
       outside = λ l p off. λ j r. v .kept (r * lanes + l) (λ k q e. off k (omega arith) (one-place lanes r l u (at + k) p (omega arith) (omega arith) .1)) j;
     }
   where
-    within : (k : ℕ) → k < w → (r : ℕ) (b : Bool) → eqb r u ≡ b → getD new (r * lanes + (at + k)) (pos 0) ≡ cond (eqb r u) (z x k) (getD old (r * lanes + (at + k)) (pos 0))
+    within : (k : ℕ) → k < w → (r : ℕ) (b : Bool) → eqb r u ≡ b → getD new (r * lanes + (at + k)) (pos 0) ≡ cond (eqb r u) (intAt x k) (getD old (r * lanes + (at + k)) (pos 0))
     within k q r true e =
         let m : r * lanes + (at + k) ≡ u * lanes + at + k = (let s : r * lanes ≡ u * lanes = ap (λ (n : ℕ). n * lanes) (eqb-true r u e) in omega arith) in
         ap (λ (p : ℕ). getD new p (pos 0)) m
         ∙ v .put-in k (omega arith)
-        ∙ sym (ap (λ (b : Bool). cond b (z x k) (getD old (r * lanes + (at + k)) (pos 0))) e)
+        ∙ sym (ap (λ (b : Bool). cond b (intAt x k) (getD old (r * lanes + (at + k)) (pos 0))) e)
     within k q r false e =
         v .kept (r * lanes + (at + k)) (λ j b s. eqb-false r u e (one-place lanes r (at + k) u (at + j) (omega arith) (omega arith) (omega arith) .0))
-        ∙ sym (ap (λ (b : Bool). cond b (z x k) (getD old (r * lanes + (at + k)) (pos 0))) e)
+        ∙ sym (ap (λ (b : Bool). cond b (intAt x k) (getD old (r * lanes + (at + k)) (pos 0))) e)

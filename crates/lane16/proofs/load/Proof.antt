@@ -1,4 +1,4 @@
--- `lane_memory::load` meets its contract. Assumes nothing.
+-- `lane16::load` meets its contract. Assumes nothing.
 use borrow.Author.Needs.{needs}
 use native.Mathlib.Omega.{arith}
 use mathlib.Core.Path.{_≡_, refl, _∙_}
@@ -7,14 +7,15 @@ use lib.ListN.{length, getD, length-set}
 use lib.IntN.{ℤ, pos}
 use borrow.Author.Needs.{sfits-of}
 use Rattle.laws.specs.Signed.{plain}
-use Rattle.lane16.specs.Lanes.{z}
+use Rattle.lane16.specs.Lanes.{intAt}
 use Rattle.laws.specs.Stores.{grown}
-use Rattle.lane_memory.specs.Column.{column, column-at}
-use Rattle.lane_memory.proofs.load.Statement.{statement}
-use Rattle.lane_memory.proofs.load.Tie as tie
+use Rattle.lane16.specs.ColumnLaws.{column-at}
+use Rattle.lane16.specs.Column.{column}
+use Rattle.lane16.proofs.load.Statement.{statement}
+use Rattle.lane16.proofs.load.Tie as tie
 
 abbrev Inv-loop : tie.InvT-loop
-Inv-loop a u lanes at base x₀ i₀ x i = (i ≤ 16) × ((length x ≡ 16) × ((k : ℕ) → k < i → z x k ≡ column lanes a (at + k) u))
+Inv-loop a u lanes at base x₀ i₀ x i = (i ≤ 16) × ((length x ≡ 16) × ((k : ℕ) → k < i → intAt x k ≡ column lanes a (at + k) u))
 
 abbrev μ-loop : tie.MeasureT-loop
 μ-loop a u lanes at base x₀ i₀ x i = 16 - i

@@ -1,4 +1,4 @@
--- `lane_memory::store` meets its contract. Assumes nothing.
+-- `lane16::store` meets its contract. Assumes nothing.
 use borrow.Author.Needs.{needs}
 use native.Mathlib.Omega.{arith}
 use mathlib.Core.Path.{refl}
@@ -6,10 +6,10 @@ use Prim.Native.Nat.{_+_, _*_, _-_, _≤_}
 use lib.ListN.{length-set}
 use borrow.Author.Needs.{sfits-of}
 use Rattle.laws.specs.Signed.{plain}
-use Rattle.lane16.specs.Lanes.{z}
-use Rattle.lane_memory.specs.Column.{Storing, storing-start, storing-again, storing-end}
-use Rattle.lane_memory.proofs.store.Statement.{statement}
-use Rattle.lane_memory.proofs.store.Tie as tie
+use Rattle.lane16.specs.Lanes.{intAt}
+use Rattle.lane16.specs.ColumnLaws.{Storing, storing-start, storing-again, storing-end}
+use Rattle.lane16.proofs.store.Statement.{statement}
+use Rattle.lane16.proofs.store.Tie as tie
 
 abbrev Inv-loop : tie.InvT-loop
 Inv-loop a₀ u lanes at w x base i₀ a i = (i ≤ w) × Storing base x a₀ a i
@@ -47,7 +47,7 @@ loop-again c =
     let a = h .before .args in
     let i = h .loop .i in (
       search needs,
-      storing-again _ (h .loop .inv .1) (omega arith) (simp length-set) refl (plain (z (a .t5) i) (sfits-of (c .a .given))),
+      storing-again _ (h .loop .inv .1) (omega arith) (simp length-set) refl (plain (intAt (a .t5) i) (sfits-of (c .a .given))),
     )
 
 same-length : tie.Need-same-length Inv-loop μ-loop
