@@ -1,4 +1,4 @@
--- One iteration of a word, by the schedule: sequential, or layered with its step. q = P / 374.
+-- Every lane's word has one iteration, by the schedule.
 use mathlib.Core.Path.{_≡_, sym, ap, _∙_}
 use mathlib.Core.Bool.{Bool, true, false}
 use mathlib.Core.List.{List}
@@ -6,21 +6,17 @@ use Prim.Native.Nat.{ℕ, _+_, _*_, _/_, _≤_, _<_}
 use native.Mathlib.Omega.{arith}
 use lib.IntN.{ℤ}
 use lib.ListN.{length}
-use Rattle.lane_math.specs.Check.{Word}
-use Rattle.lane_math.specs.Iteration.{Code, sequential, layered}
+use Rattle.iteration.specs.Check.{Word}
+use Rattle.iteration.specs.Iteration.{Code, sequential, layered, iterationOf}
 use Rattle.simd.specs.Words.{word}
 use Rattle.ldpc_shape.specs.Shape.{qOf, eOf}
 use Rattle.ldpc_shape.specs.Accepted.{accepted}
-use Rattle.fixed_code.specs.Lists.{edgesIn}
-use Rattle.fixed_code.specs.Code.{code-at, edges-at}
+use Rattle.iteration.specs.Lists.{edgesIn}
+use Rattle.iteration.specs.CodeLaws.{code-at, edges-at}
 use Rattle.fixed_layered.specs.Layered.{Layered}
 use Rattle.decoder_words.specs.Given.{Coded}
 use Rattle.decoder_words.specs.declared.Plan.{Plan}
 use Rattle.decoder_lanes.specs.Lane.{Working, laneWord, laneCode}
-
-unfoldable pub iterationOf : Bool → ℕ → ℤ → Code → ℕ → Word → Word
-iterationOf false step offset code p x = sequential offset code p x
-iterationOf true step offset code p x = layered offset code (p / 374) step x
 
 -- every lane's word has had an iteration
 abbrev pub Iterates : Bool → ℕ → ℤ → Plan → List ℕ → List ℤ → List ℤ → Type 0
