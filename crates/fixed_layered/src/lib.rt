@@ -8,12 +8,11 @@ ghost use mathlib.Core.Bool.{false};
 ghost use Prim.Native.Nat.{ℕ, _<_, _≤_, _+_, _*_, _-_, min};
 ghost use lib.ListN.{getD, length};
 ghost use Rattle.lane_math.specs.Iteration.{runCount};
-ghost use Rattle.ldpc_shape.specs.Shape.{eOf, refusalOf};
-ghost use Rattle.ldpc_edges.specs.Code.{edgeLists};
 ghost use Rattle.lane_memory.specs.Column.{column};
 ghost use Rattle.lane_memory.specs.Room.{var, sharedIn, Room};
-ghost use Rattle.fixed_code.specs.Lists.{rowsIn, edgesIn, codeIn};
+ghost use Rattle.fixed_code.specs.Lists.{rowsIn, edgesIn, codeIn, Memory};
 ghost use Rattle.fixed_conflicts.specs.Table.{Once, Shares};
+ghost use Rattle.fixed_conflicts.specs.Prepared.{Prepared};
 ghost use Rattle.fixed_layered.specs.Full.{placeOf};
 ghost use Rattle.fixed.specs.Sequential.{stepped};
 ghost use Rattle.fixed_layered.specs.Gather.{gatherAt};
@@ -22,6 +21,7 @@ ghost use Rattle.fixed_layered.specs.Rows.{InRow, Grouped, Smalls, EdgeD
 ghost use Rattle.fixed_layered.specs.Runs.{RunMade, RunsMade, LayersMade, InLayer, AllLayers};
 ghost use Rattle.fixed_layered.specs.Checks.{PartMade};
 ghost use Rattle.fixed_layered.specs.Layered.{Layered};
+use ldpc_shape::Sizes;
 
 fn least(a: usize, b: usize) -> usize
     ensures { λ r. ⌜ r ≡ min a b ⌝ }
@@ -504,47 +504,40 @@ fn layers(
     }
 }
 
-// One layered iteration of every lane's word, with runs of `step` checks. `index` holds exactly the code's lists.
+// One layered iteration of every lane's word, with runs of `step` checks. `lists` are the code's and `spans` the table of its rows' edges (fixed_conflicts);
+// `sums` is work of 374 times 64.
 pub fn layered_iteration(
-    n: u32,
-    lens: &[u32],
-    addrs: &[u16],
-    index: &[u32],
+    of: Sizes,
+    spans: &[u8],
+    lists: &[u32],
     work: &mut [i8],
+    sums: &mut [i32],
     lanes: usize,
     offset: i8,
     step: usize,
 )
-    requires { ⌜ (refusalOf n (now lens) (now addrs) ≡ 0) × (now index ≡ edgeLists n (now lens) (now addrs)) ⌝ }
-    requires { ⌜ (0 < lanes) × ((lanes ≤ 64) × ((n + 3 * eOf n (now lens) (now addrs)) * lanes ≤ length (now work))) ⌝ }
-    requires { ⌜ (0 < step) × (step ≤ 4294967295) ⌝ }
-    ensures { λ _. ⌜ Layered n (now (lens .entry)) (now (addrs .entry)) lanes offset step (now (work .entry)) (now (work .exit)) ⌝ }
+    requires { ⌜ Prepared of (now lists) (now spans) × Memory (of .n) (of .p) lanes (now lists) (now work) ⌝ }
+    requires { ⌜ (23936 ≤ length (now sums)) × ((0 < step) × (step ≤ 4294967295)) ⌝ }
+    ensures { λ _. ⌜ Layered (of .n) (of .p) (of .q) lanes offset step (now (lists .entry)) (now (work .entry)) (now (work .exit)) ⌝ }
 {
-    let mut table: [u8; 14520] = [0; 14520];
-    fixed_conflicts::spans(n, lens, addrs, &mut table);
-    let bits = n as usize;
-    let few = lens.len();
-    let k = 374 * few;
-    let p = bits - k;
-    let q = p / 374;
-    let base = p + 1;
+    let few = of.k / 374;
+    let base = of.p + 1;
     let mut t: [i8; 2048] = [0; 2048];
     let mut u: [i8; 2048] = [0; 2048];
-    let mut sums: [i32; 23936] = [0; 23936];
     layers(
-        index,
-        &index[base..],
+        lists,
+        &lists[base..],
         work,
         &mut t,
         &mut u,
-        &mut sums,
-        &table,
+        sums,
+        spans,
         few,
         offset,
-        bits,
-        p,
+        of.n,
+        of.p,
         lanes,
-        q,
+        of.q,
         step,
     );
 }
