@@ -10,7 +10,7 @@ use Rattle.simd.specs.Words.{word}
 use Rattle.ldpc_shape.specs.declared.Sizes.{Sizes}
 use Rattle.fixed_code.specs.Lists.{edgesIn, codeIn, Memory}
 use Rattle.fixed_conflicts.specs.Prepared.{rowCount, Prepared}
-use Rattle.fixed_layered.specs.Runs.{LayersMade, AllLayers}
+use Rattle.fixed_layered.specs.Runs.{LayersMade, InLayer, Sharing}
 
 -- THE COLUMN LAW: every lane's word is iterated as that word alone, over the code that the lists say. What the rows of t and of old messages hold is left to
 -- the program; all behind the n + 3E rows is as it was.
@@ -21,23 +21,19 @@ pub record Layered (n p q lanes : ℕ) (o : ℤ) (s : ℕ) (lists : List ℕ) (a
 pub layered-law : {n p q lanes s : ℕ} {o : ℤ} {lists : List ℕ} {a a′ : List ℤ} → LayersMade n p lanes o lists q s a q a′ → Layered n p q lanes o s lists a a′
 layered-law v = record { words = v .words; rest = v .rest }
 
-pub all-layers : {of : Sizes} {lanes s : ℕ} {lists table : List ℕ} {a : List ℤ} → Prepared of lists table → Memory (of .n) (of .p) lanes lists a → 0 < s → s ≤ 4294967295
-    → AllLayers (of .n) (of .p) lanes (of .q) s (rowCount of) lists a table
-all-layers {of} w m step small =
-    record {
-      layer =
-          λ l h. record {
-            memory = m;
-            whole = w .bounds .p-is;
-            layer = h;
-            few-edges = omega (arith, w .edges, w .bounds .e-le);
-            few-checks = omega (arith, w .bounds .p-le, w .bounds .n-le);
-            few-bits = w .bounds .n-le;
-            step = step;
-            small-step = small;
-          };
-      shares = w .shares;
-      few-layers = w .bounds .q-le;
-      few-rows = omega (arith, w .bounds .n-is, w .bounds .n-le, w .bounds .p-pos, w .bounds .p-is);
-      long = w .long;
-    }
+module _ {of : Sizes} {lists table : List ℕ} (w : Prepared of lists table) where
+  pub each-layer : {lanes s : ℕ} {a : List ℤ} → Memory (of .n) (of .p) lanes lists a → 0 < s → s ≤ 4294967295 → (l : ℕ) → l < of .q → InLayer (of .n) (of .p) lanes (of .q) s l lists a
+  each-layer m step small l h =
+      record {
+        memory = m;
+        whole = w .bounds .p-is;
+        layer = h;
+        few-edges = omega (arith, w .edges, w .bounds .e-le);
+        few-checks = omega (arith, w .bounds .p-le, w .bounds .n-le);
+        few-bits = w .bounds .n-le;
+        step = step;
+        small-step = small;
+      }
+
+  pub sharing : Sharing (of .n) (of .p) (of .q) (rowCount of) lists table
+  sharing = record { long = w .long; few-rows = omega (arith, w .bounds .n-is, w .bounds .n-le, w .bounds .p-pos, w .bounds .p-is); few-layers = w .bounds .q-le; shares = w .shares }

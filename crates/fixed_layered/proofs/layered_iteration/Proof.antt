@@ -4,25 +4,9 @@ use borrow.Author.Needs.{needs}
 use mathlib.Core.Path.{subst}
 use lib.IntN.{ℤ}
 use Rattle.laws.specs.Signed.{plain}
-use Rattle.fixed_code.specs.Lists.{rows-part}
-use Rattle.fixed_layered.specs.Layered.{Layered, layered-law, all-layers}
+use Rattle.fixed_layered.specs.Layered.{Layered, layered-law, each-layer, sharing}
 use Rattle.fixed_layered.proofs.layered_iteration.Statement.{statement}
 use Rattle.fixed_layered.proofs.layered_iteration.Tie as tie
-
-add-base : tie.Need-add-base
-add-base c = search needs
-
-mul-layers : tie.Need-mul-layers
-mul-layers c = search needs
-
-sub-layers : tie.Need-sub-layers
-sub-layers c = search needs
-
-part-layers-start : tie.Need-part-layers-start
-part-layers-start c = search needs
-
-part-layers-end : tie.Need-part-layers-end
-part-layers-end c = search needs
 
 slice-aggregate-layers : tie.Need-slice-aggregate-layers
 slice-aggregate-layers c = search needs
@@ -32,10 +16,8 @@ slice-aggregate-layers-2 c = search needs
 
 layers-requires : tie.Need-layers-requires
 layers-requires c κs =
-    let s = c .before .before .before .before .before .before .before .before .before in (
-      (all-layers (s .pre .0 .0) (s .pre .0 .1) (s .pre .1 .1 .0) (s .pre .1 .1 .1), rows-part (s .args .of .p) (s .args .lists .now)),
-      (omega arith, (omega arith, s .pre .1 .0)),
-    )
+    let s = c .before .before .before .before .before .before .before in
+    ((each-layer (s .pre .0 .0) (s .pre .0 .1) (s .pre .1 .1 .0) (s .pre .1 .1 .1), sharing (s .pre .0 .0)), (omega arith, (omega arith, s .pre .1 .0)))
 
 same-length : tie.Need-same-length
 same-length c = search needs
@@ -46,20 +28,15 @@ same-length-2 c = search needs
 returns : tie.Need-returns
 returns c =
     let layers = c .before .before .before .before .layers in
-    let s = c .before .before .before .before .before .before .before .before .before .before .before .before .before .before in
+    let s = c .before .before .before .before .before .before .before .before .before .before .before .before in
     let a = s .args in
-    subst (λ (o : ℤ). Layered (a .of .n) (a .of .p) (a .of .q) (a .lanes) o (a .step) (a .lists .now) (a .work .now) (layers .last .1 .1 .0)) (plain (a .offset) (s .fits .offset))
+    subst (λ (o : ℤ). Layered (a .of .n) (a .of .p) (a .of .q) (a .lanes) o (a .step) (a .lists .now) (a .work .now) (layers .last .1 .0)) (plain (a .offset) (s .fits .offset))
     (layered-law (layers .ensures))
 
 pub layered-iteration-spec : {M : Type 1} → statement M
 layered-iteration-spec =
     tie.close
     (tie.spec
-    add-base
-    mul-layers
-    sub-layers
-    part-layers-start
-    part-layers-end
     slice-aggregate-layers
     slice-aggregate-layers-2
     layers-requires
