@@ -1,22 +1,18 @@
--- One iteration of a word, by the schedule: sequential, or layered with its step. q = P / 374.
+-- Every lane's word has one iteration, by the schedule.
 use mathlib.Core.Path.{_≡_, sym, ap, _∙_}
 use mathlib.Core.Bool.{Bool, true, false}
 use mathlib.Core.List.{List}
-use Prim.Native.Nat.{ℕ, _/_, _≤_, _<_}
+use Prim.Native.Nat.{ℕ, _*_, _/_, _≤_, _<_}
 use native.Mathlib.Omega.{arith}
 use lib.IntN.{ℤ}
 use lib.ListN.{length}
-use Rattle.lane_math.specs.Check.{Word}
-use Rattle.lane_math.specs.Iteration.{Code, sequential, layered}
+use Rattle.iteration.specs.Check.{Word}
+use Rattle.iteration.specs.Iteration.{Code, sequential, layered, iterationOf}
 use Rattle.simd.specs.Words.{word}
 use Rattle.ldpc_shape.specs.declared.Sizes.{Sizes}
-use Rattle.fixed_code.specs.Lists.{edgesIn, codeIn}
+use Rattle.iteration.specs.Lists.{edgesIn, codeIn}
 use Rattle.fixed_conflicts.specs.Prepared.{Prepared}
 use Rattle.fixed_layered.specs.Layered.{Layered}
-
-unfoldable pub iterationOf : Bool → ℕ → ℤ → Code → ℕ → Word → Word
-iterationOf false step offset code p x = sequential offset code p x
-iterationOf true step offset code p x = layered offset code (p / 374) step x
 
 -- every lane's word has had an iteration
 abbrev pub Iterates : Bool → ℕ → ℤ → ℕ → ℕ → ℕ → List ℕ → List ℤ → List ℤ → Type 0
@@ -28,8 +24,8 @@ abbrev pub Stepped : Bool → ℕ → Type 0
 Stepped layers step = layers ≡ true → 0 < step
 
 -- and what its layers go by, with room for their sums
-abbrev pub Layering : Bool → Sizes → List ℕ → List ℕ → List ℤ → Type 0
-Layering layers of lists table sums = layers ≡ true → Prepared of lists table × (23936 ≤ length sums)
+abbrev pub Layering : Bool → Sizes → List ℕ → List ℕ → ℕ → List ℤ → Type 0
+Layering layers of lists table lanes sums = layers ≡ true → Prepared of lists table × (374 * lanes ≤ length sums)
 
 module _ (layers : Bool) (step : ℕ) (offset offset′ : ℤ) (code : Code) (p : ℕ) (x y : Word) (same : offset′ ≡ offset) where
   pub by-sequence : layers ≡ false → y ≡ sequential offset′ code p x → y ≡ iterationOf layers step offset code p x

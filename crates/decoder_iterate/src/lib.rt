@@ -1,6 +1,6 @@
 // One iteration of every lane's word, by the schedule.
 ghost use mathlib.Core.Path.{_≡_};
-ghost use Rattle.fixed_code.specs.Lists.{Memory};
+ghost use Rattle.lane16.specs.Memory.{Memory};
 ghost use Rattle.decoder_iterate.specs.Iterate.{Iterates, Stepped, Layering};
 use ldpc_shape::Sizes;
 
@@ -16,7 +16,7 @@ pub fn iterate(
     work: &mut [i8],
     sums: &mut [i32],
 )
-    requires { ⌜ Memory (of .n) (of .p) lanes (now lists) (now work) × Stepped layered step × Layering layered of (now lists) (now spans) (now sums) ⌝ }
+    requires { ⌜ Memory (of .n) (of .p) lanes (now lists) (now work) × Stepped layered step × Layering layered of (now lists) (now spans) lanes (now sums) ⌝ }
     ensures { λ _. ⌜ Iterates layered step offset (of .n) (of .p) lanes (now (lists .entry)) (now (work .entry)) (now (work .exit)) ⌝ }
 {
     if layered {

@@ -10,15 +10,16 @@ use native.Mathlib.Decide.{ℕ-discrete, decLt}
 use borrow.Author.Tests.{ltb-false, eq-eqb, eqb-true}
 use lib.ListN.{length, take, drop, getD, length-append, List·getD-append}
 use lib.Seq.{getD-take, getD-drop, getD-append-add}
-use Rattle.lane_math.specs.Iteration.{degree}
-use Rattle.lane_memory.specs.Room.{sharedIn}
+use Rattle.iteration.specs.Iteration.{degree}
+use Rattle.iteration.specs.Once.{sharedIn, Once}
 use Rattle.ldpc_shape.specs.Shape.{kOf, pOf, qOf, rowsOf, total, countMod}
 use Rattle.ldpc_shape.specs.Accepted.{Accepted, p-is, p-pos, q-pos, n-is}
 use Rattle.ldpc_edges.specs.Code.{only, meets, ofRows, stairs, check, edgeLists}
 use Rattle.ldpc_edges.specs.Degree.{met-by}
-use Rattle.fixed_code.specs.Lists.{Lists, edgesIn, codeIn, start-in, degree-in}
-use Rattle.fixed_code.specs.Code.{lists-in, laid-in}
-use Rattle.fixed_conflicts.specs.Table.{Once, Split, Shares, Flagged, spanAt}
+use Rattle.iteration.specs.ListsLaws.{start-in, degree-in}
+use Rattle.iteration.specs.Lists.{Lists, edgesIn, codeIn}
+use Rattle.iteration.specs.CodeLaws.{lists-in, laid-in}
+use Rattle.fixed_conflicts.specs.Table.{Split, Shares, Flagged, spanAt}
 use Rattle.fixed_conflicts.specs.Edges.{rowOf, parity-without, parity-once, stairs-below, stairs-from, check-length}
 use Rattle.fixed_conflicts.specs.Count.{occurs, occurs-one, occurs-two, sumUp, sum-one, sum-two, layer-occurs, rows-own}
 use Rattle.fixed_conflicts.specs.Spans.{spanOf, span-next, span-within, span-all, groups-below, groups-from}

@@ -9,8 +9,8 @@ use Rattle.ldpc_shape.specs.declared.Sizes.{Sizes}
 use Rattle.ldpc_shape.specs.Shape.{kOf, qOf, refusalOf, sizesOf}
 use Rattle.ldpc_shape.specs.Accepted.{accepted, Bounded, bounded}
 use Rattle.ldpc_edges.specs.Code.{edgeLists}
-use Rattle.fixed_code.specs.Lists.{edgesIn, codeIn}
-use Rattle.fixed_code.specs.Code.{edges-are}
+use Rattle.iteration.specs.Lists.{edgesIn, codeIn}
+use Rattle.iteration.specs.CodeLaws.{edges-are}
 use Rattle.fixed_conflicts.specs.Table.{Flagged, Shares}
 use Rattle.fixed_conflicts.specs.Conflicts.{Spanned}
 use Rattle.fixed_conflicts.specs.Conflicts as conflicts

@@ -8,13 +8,8 @@ use lib.Dec.{T, eqb, ltb}
 use lib.ListN.{getD, set, length, replicate, length-set}
 use lib.Seq.{getD-set-same, getD-set-other}
 use Rattle.laws.specs.Stores.{set-each, grown}
-use Rattle.lane_math.specs.Iteration.{Code, degree}
-use Rattle.lane_memory.specs.Room.{sharedIn}
-
--- variable u has one edge at most among the run's m checks
-pub record Once (code : Code) (c : ℕ → ℕ) (m u : ℕ) : Type 0 where
-  pub one : (x k y l : ℕ) → x < m → y < m → k < degree code (c x) → l < degree code (c y)
-      → code .rows (code .row-start (c x) + k) ≡ u → code .rows (code .row-start (c y) + l) ≡ u → (x ≡ y) × (k ≡ l)
+use Rattle.iteration.specs.Iteration.{Code, degree}
+use Rattle.iteration.specs.Once.{sharedIn, Once}
 
 -- where row g's edges begin in the checks of layer l
 abbrev pub spanAt : List ℕ → ℕ → ℕ → ℕ

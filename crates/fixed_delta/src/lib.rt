@@ -5,7 +5,7 @@ ghost use Prim.Native.Nat.{_≤_, _+_, _*_};
 ghost use lib.ListN.{length};
 ghost use lib.IntN.{natAbs, _+ℤ_, _-ℤ_};
 ghost use Rattle.laws.specs.Signed.{minZ, maxZ};
-ghost use Rattle.lane_math.specs.Value.{satZ};
+ghost use Rattle.iteration.specs.Value.{satZ};
 ghost use Rattle.fixed_delta.specs.Gather.{Small, EdgeGathered, Settled};
 
 // What a lane has gathered, with one edge more.

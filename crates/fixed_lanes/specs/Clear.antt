@@ -12,8 +12,9 @@ use lib.ListN.{getD}
 use lib.IntN.{ℤ, pos}
 use Rattle.laws.specs.Choice.{by-cond, by-bool}
 use Rattle.laws.specs.Put.{put, put-same, put-other, put-self}
-use Rattle.lane_memory.specs.Column.{column}
-use Rattle.simd.specs.Words.{within, wordOf, word}
+use Rattle.lane16.specs.Column.{column}
+use Rattle.simd.specs.Words.{wordOf, word}
+use Rattle.iteration.specs.Check.{within}
 use Rattle.fixed_lanes.specs.Place.{Placed}
 
 abbrev pub on : List Bool → ℕ → Bool

@@ -6,9 +6,9 @@ use native.Mathlib.Omega.{arith}
 use borrow.Author.Tests.{eqb-true, ne-eqb}
 use lib.Dec.{eqb}
 use lib.IntN.{ℤ, _+ℤ_, _-ℤ_}
-use Rattle.lane_math.specs.Value.{satZ}
-use Rattle.lane_math.specs.Iteration.{Code, degree, Run, Sum, nothing, gather, gatherEdge, gatherCheck, gatherRun}
-use Rattle.fixed_layered.specs.Full.{placeOf}
+use Rattle.iteration.specs.Value.{satZ}
+use Rattle.iteration.specs.Iteration.{Code, degree, Run, Sum, nothing, gather, gatherEdge, gatherCheck, gatherRun}
+use Rattle.iteration.specs.Full.{placeOf}
 use Rattle.fixed_layered.specs.Ready.{Ready}
 
 -- variable u from d edges that begin at edge s, their t and old messages at pl

@@ -4,11 +4,12 @@ use mathlib.Core.List.{List}
 use Prim.Native.Nat.{ℕ, _+_, _*_, _≤_, _<_}
 use native.Mathlib.Omega.{arith}
 use lib.IntN.{ℤ}
-use Rattle.lane_math.specs.Iteration.{layered}
-use Rattle.lane_memory.specs.Column.{column}
+use Rattle.iteration.specs.Iteration.{layered}
+use Rattle.lane16.specs.Column.{column}
 use Rattle.simd.specs.Words.{word}
 use Rattle.ldpc_shape.specs.declared.Sizes.{Sizes}
-use Rattle.fixed_code.specs.Lists.{edgesIn, codeIn, Memory}
+use Rattle.lane16.specs.Memory.{Memory}
+use Rattle.iteration.specs.Lists.{edgesIn, codeIn}
 use Rattle.fixed_conflicts.specs.Prepared.{rowCount, Prepared}
 use Rattle.fixed_layered.specs.Runs.{LayersMade, InLayer, Sharing}
 

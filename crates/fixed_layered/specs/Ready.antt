@@ -7,13 +7,16 @@ use borrow.Author.Tests.{ltb-true, ltb-false}
 use lib.Dec.{eqb, ltb}
 use lib.IntN.{ℤ, pos, _-ℤ_}
 use Rattle.laws.specs.Put.{put}
-use Rattle.lane_math.specs.Value.{satZ}
-use Rattle.lane_math.specs.Check.{wrote, tOf}
-use Rattle.lane_math.specs.Iteration.{Code, degree, Run, runOf}
-use Rattle.lane_math.specs.Laws.{wrote-other}
-use Rattle.simd.specs.Words.{within, wordOf, within-at}
-use Rattle.fixed_layered.specs.Full.{Full, placeOf, tSent, oldSent, partFull, fullOf}
-use Rattle.fixed_layered.specs.Order.{Order, laid-at, before, place-ends}
+use Rattle.iteration.specs.Value.{satZ}
+use Rattle.iteration.specs.Check.{wrote, tOf, within}
+use Rattle.iteration.specs.Iteration.{Code, degree, Run, runOf}
+use Rattle.iteration.specs.CheckLaws.{wrote-other, within-at}
+use Rattle.simd.specs.Words.{wordOf}
+use Rattle.fixed_layered.specs.Full.{fullOf}
+use Rattle.iteration.specs.Full.{Full, placeOf, tSent, oldSent, partFull}
+use Rattle.fixed_layered.specs.Order.{laid-at, place-ends}
+use Rattle.iteration.specs.InTurn.{before}
+use Rattle.iteration.specs.Once.{Order}
 
 -- ---- rows written one after the other, of E
 wrote-base : (u : ℕ → ℕ) (x f g : ℕ → ℤ) (d e : ℕ) → f e ≡ g e → wrote u x f d e ≡ wrote u x g d e

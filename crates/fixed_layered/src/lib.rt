@@ -7,14 +7,14 @@ ghost use mathlib.Core.Path.{_≡_};
 ghost use mathlib.Core.Bool.{false};
 ghost use Prim.Native.Nat.{ℕ, _<_, _≤_, _+_, _*_, _-_, min};
 ghost use lib.ListN.{getD, length};
-ghost use Rattle.lane_math.specs.Iteration.{runCount};
-ghost use Rattle.lane_memory.specs.Column.{column};
-ghost use Rattle.lane_memory.specs.Room.{var, sharedIn, Room};
-ghost use Rattle.fixed_code.specs.Lists.{rowsIn, edgesIn, codeIn, Memory};
-ghost use Rattle.fixed_conflicts.specs.Table.{Once, Shares};
+ghost use Rattle.iteration.specs.Iteration.{runCount};
+ghost use Rattle.lane16.specs.Column.{column};
+ghost use Rattle.lane16.specs.Memory.{CheckMemory, Memory};
+ghost use Rattle.iteration.specs.Once.{sharedIn, stepped, Once};
+ghost use Rattle.iteration.specs.Lists.{var, rowsIn, edgesIn, codeIn};
+ghost use Rattle.fixed_conflicts.specs.Table.{Shares};
 ghost use Rattle.fixed_conflicts.specs.Prepared.{Prepared};
-ghost use Rattle.fixed_layered.specs.Full.{placeOf};
-ghost use Rattle.fixed.specs.Sequential.{stepped};
+ghost use Rattle.iteration.specs.Full.{placeOf};
 ghost use Rattle.fixed_layered.specs.Gather.{gatherAt};
 ghost use Rattle.fixed_layered.specs.Run.{InRun};
 ghost use Rattle.fixed_layered.specs.Rows.{InRow, Grouped, Smalls, EdgeDone, Gathers, sumAt, runSum, CheckSettled, RowSettled, FlagWritten, Written};
@@ -66,7 +66,7 @@ fn gather_edge(
     n: usize,
     lanes: usize,
 )
-    requires { ⌜ Room (now rows) e 1 n lanes (now work) × ((at < length (now rows)) × (length (now rows) ≤ 6000000)) ⌝ }
+    requires { ⌜ CheckMemory (now rows) e 1 n lanes (now work) × ((at < length (now rows)) × (length (now rows) ≤ 6000000)) ⌝ }
     requires { ⌜ (374 * lanes ≤ length (now sums)) × ((length (now seen) ≡ 374) × ((base ≤ var (now rows) e) × (var (now rows) e < base + 374))) ⌝ }
     requires { ⌜ Smalls lanes at (now seen) (now sums) ⌝ }
     ensures { λ _. ⌜
@@ -75,7 +75,7 @@ fn gather_edge(
         ⌝ }
 {
     let edges = rows.len();
-    let j = lane_memory::variable(rows, e) - base;
+    let j = fixed_code::variable(rows, e) - base;
     let tu = n + edges + at;
     let ru = n + e;
     let ou = n + 2 * edges + at;
@@ -97,7 +97,7 @@ fn gather_check(
     n: usize,
     lanes: usize,
 )
-    requires { ⌜ Room (now rows) s d n lanes (now work) × ((place + d ≤ length (now rows)) × (length (now rows) ≤ 6000000)) ⌝ }
+    requires { ⌜ CheckMemory (now rows) s d n lanes (now work) × ((place + d ≤ length (now rows)) × (length (now rows) ≤ 6000000)) ⌝ }
     requires { ⌜ (374 * lanes ≤ length (now sums)) × ((length (now seen) ≡ 374) × InRow (var (now rows)) base s d) ⌝ }
     requires { ⌜ Smalls lanes place (now seen) (now sums) ⌝ }
     ensures { λ _. ⌜
@@ -178,12 +178,12 @@ fn settle_check(
     n: usize,
     lanes: usize,
 )
-    requires { ⌜ Room (now rows) s d n lanes (now work) × ((374 * lanes ≤ length (now sums)) × InRow (var (now rows)) base s d) ⌝ }
+    requires { ⌜ CheckMemory (now rows) s d n lanes (now work) × ((374 * lanes ≤ length (now sums)) × InRow (var (now rows)) base s d) ⌝ }
     ensures { λ _. ⌜ CheckSettled (var (now (rows .entry))) base s lanes (now (sums .entry)) (now (work .entry)) d (now (work .exit)) ⌝ }
 {
     let mut k: usize = 0;
     while k < d {
-        let v = lane_memory::variable(rows, s + k);
+        let v = fixed_code::variable(rows, s + k);
         let at = (v - base) * lanes;
         fixed_delta::settle(work, v, lanes, sums, at);
         k += 1;
@@ -241,7 +241,7 @@ fn write_row(
 )
     requires { ⌜ InRun (of .n) (of .p) (of .lanes) (run .first) (of .q) (run .m) (now index) (now work) × (now rows ≡ rowsIn (of .p) (now index)) ⌝ }
     requires { ⌜ Shares (of .n) (of .q) (codeIn (of .p) (now index)) (run .first) (run .m) (run .l) (now table) (now flags) × ((length (now table) ≡ 14520) × ((run .l < 120) × ((g < 120) × (0 < run .m)))) ⌝ }
-    requires { ⌜ 23936 ≤ length (now sums) ⌝ }
+    requires { ⌜ 374 * of .lanes ≤ length (now sums) ⌝ }
     ensures { λ _. ⌜
         FlagWritten (of .n) (edgesIn (of .p) (now (index .entry))) (codeIn (of .p) (now (index .entry))) (stepped (run .first) (of .q)) (run .m) (of .lanes) (now (flags .entry)) g
         (now (work .entry)) (now (work .exit))
@@ -277,7 +277,7 @@ fn write_rows(
 )
     requires { ⌜ InRun (of .n) (of .p) (of .lanes) (run .first) (of .q) (run .m) (now index) (now work) × (now rows ≡ rowsIn (of .p) (now index)) ⌝ }
     requires { ⌜ Shares (of .n) (of .q) (codeIn (of .p) (now index)) (run .first) (run .m) (run .l) (now table) (now flags) × ((length (now table) ≡ 14520) × ((run .l < 120) × (0 < run .m))) ⌝ }
-    requires { ⌜ 23936 ≤ length (now sums) ⌝ }
+    requires { ⌜ 374 * of .lanes ≤ length (now sums) ⌝ }
     ensures { λ _. ⌜ Written (of .n) (edgesIn (of .p) (now (index .entry))) (codeIn (of .p) (now (index .entry))) (stepped (run .first) (of .q)) (run .m) (of .lanes) (now (flags .entry)) (now (work .entry)) 120 (now (work .exit)) ⌝ }
 {
     let mut g: usize = 0;
@@ -340,7 +340,7 @@ fn run(
     requires { ⌜ InRun (of .n) (of .p) (of .lanes) (run .first) (of .q) (run .m) (now index) (now work) ⌝ }
     requires { ⌜ Shares (of .n) (of .q) (codeIn (of .p) (now index)) (run .first) (run .m) (run .l) (now table) (now flags) × ((length (now table) ≡ 14520) × ((run .l < 120) × (0 < run .m))) ⌝ }
     requires { ⌜ (run .shared ≡ false → (g : ℕ) → getD (now flags) g false ≡ false) ⌝ }
-    requires { ⌜ (2048 ≤ length (now t)) × ((2048 ≤ length (now u)) × (23936 ≤ length (now sums))) ⌝ }
+    requires { ⌜ (2048 ≤ length (now t)) × ((2048 ≤ length (now u)) × (374 * of .lanes ≤ length (now sums))) ⌝ }
     ensures { λ _. ⌜ RunMade (of .n) (of .p) (of .lanes) offset (now (index .entry)) (run .first) (of .q) (run .m) (now (work .entry)) (now (work .exit)) ⌝ }
 {
     let base = of.p + 1;
@@ -380,7 +380,7 @@ fn runs(
 )
     requires { ⌜ InLayer (of .n) (of .p) (of .lanes) (of .q) (of .step) l (now index) (now work) ⌝ }
     requires { ⌜ Sharing (of .n) (of .p) (of .q) (of .rows) (now index) (now table) ⌝ }
-    requires { ⌜ (2048 ≤ length (now t)) × ((2048 ≤ length (now u)) × (23936 ≤ length (now sums))) ⌝ }
+    requires { ⌜ (2048 ≤ length (now t)) × ((2048 ≤ length (now u)) × (374 * of .lanes ≤ length (now sums))) ⌝ }
     ensures { λ _. ⌜ RunsMade (of .n) (of .p) (of .lanes) offset (now (index .entry)) (of .q) (of .step) l (now (work .entry)) (runCount (of .step)) (now (work .exit)) ⌝ }
 {
     let q = of.q;
@@ -417,7 +417,7 @@ fn layers(
     offset: i8,
 )
     requires { ⌜ ((l : ℕ) → l < of .q → InLayer (of .n) (of .p) (of .lanes) (of .q) (of .step) l (now index) (now work)) × Sharing (of .n) (of .p) (of .q) (of .rows) (now index) (now table) ⌝ }
-    requires { ⌜ (2048 ≤ length (now t)) × ((2048 ≤ length (now u)) × (23936 ≤ length (now sums))) ⌝ }
+    requires { ⌜ (2048 ≤ length (now t)) × ((2048 ≤ length (now u)) × (374 * of .lanes ≤ length (now sums))) ⌝ }
     ensures { λ _. ⌜ LayersMade (of .n) (of .p) (of .lanes) offset (now (index .entry)) (of .q) (of .step) (now (work .entry)) (of .q) (now (work .exit)) ⌝ }
 {
     let q = of.q;
@@ -429,7 +429,7 @@ fn layers(
 }
 
 // One layered iteration of every lane's word, with runs of `step` checks. `lists` are the code's and `spans` the table of its rows' edges (fixed_conflicts);
-// `sums` is work of 374 times 64.
+// `sums` is work of 374 times `lanes`.
 pub fn layered_iteration(
     of: Sizes,
     spans: &[u8],
@@ -441,7 +441,7 @@ pub fn layered_iteration(
     step: usize,
 )
     requires { ⌜ Prepared of (now lists) (now spans) × Memory (of .n) (of .p) lanes (now lists) (now work) ⌝ }
-    requires { ⌜ (23936 ≤ length (now sums)) × ((0 < step) × (step ≤ 4294967295)) ⌝ }
+    requires { ⌜ (374 * lanes ≤ length (now sums)) × ((0 < step) × (step ≤ 4294967295)) ⌝ }
     ensures { λ _. ⌜ Layered (of .n) (of .p) (of .q) lanes offset step (now (lists .entry)) (now (work .entry)) (now (work .exit)) ⌝ }
 {
     let pass = Pass {

@@ -7,7 +7,7 @@ use mir.Val.{toZ, ofZ}
 use mir.ValLaws.{toZ-ofZ}
 use Rattle.laws.specs.Signed.{minZ, maxZ, plain}
 use Rattle.fixed_delta.specs.Bounds.{widen32}
-use Rattle.lane_math.specs.Value.{satZ}
+use Rattle.iteration.specs.Value.{satZ}
 use Rattle.lane_math.specs.Fits.{sat-fits}
 use Rattle.fixed_delta.proofs.sat.Statement.{statement}
 use Rattle.fixed_delta.proofs.sat.Tie as tie

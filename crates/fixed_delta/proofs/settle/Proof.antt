@@ -9,7 +9,7 @@ use borrow.Author.Needs.{sfits-of}
 use mir.Syntax.{w32}
 use mir.ValLaws.{toZ-ofZ}
 use Rattle.laws.specs.Signed.{plain}
-use Rattle.lane_math.specs.Value.{satZ}
+use Rattle.iteration.specs.Value.{satZ}
 use Rattle.fixed_delta.specs.Gather.{Settled, settled-start, settled-again, settled-end}
 use Rattle.fixed_delta.proofs.settle.Statement.{statement}
 use Rattle.fixed_delta.proofs.settle.Tie as tie

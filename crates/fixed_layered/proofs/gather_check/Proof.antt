@@ -4,7 +4,7 @@ use borrow.Author.Needs.{needs}
 use mathlib.Core.Path.{_≡_, refl}
 use Prim.Native.Nat.{_+_, _-_, _≤_}
 use lib.ListN.{length}
-use Rattle.lane_memory.specs.Room.{var}
+use Rattle.iteration.specs.Lists.{var}
 use Rattle.fixed_layered.specs.Run.{edge-room}
 use Rattle.fixed_layered.specs.Rows.{Gathers, sumAt, after, gathers-start, gathers-again, gathers-end}
 use Rattle.fixed_layered.proofs.gather_check.Statement.{statement}

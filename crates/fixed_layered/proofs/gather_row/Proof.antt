@@ -5,11 +5,10 @@ use mathlib.Core.Path.{_≡_, refl, ap, subst}
 use mathlib.Core.List.{List}
 use Prim.Native.Nat.{ℕ, _+_, _-_, _≤_}
 use lib.ListN.{length, getD}
-use Rattle.lane_memory.specs.Column.{column}
-use Rattle.lane_memory.specs.Room.{var}
-use Rattle.fixed_code.specs.Lists.{edgesIn, codeIn}
-use Rattle.fixed_layered.specs.Full.{placeOf}
-use Rattle.fixed.specs.Sequential.{stepped}
+use Rattle.lane16.specs.Column.{column}
+use Rattle.iteration.specs.Lists.{var, edgesIn, codeIn}
+use Rattle.iteration.specs.Full.{placeOf}
+use Rattle.iteration.specs.Once.{stepped}
 use Rattle.fixed_layered.specs.Gather.{gatherAt}
 use Rattle.fixed_layered.specs.Run.{few-turns, place-first, place-next, place-room}
 use Rattle.fixed_layered.specs.Runs.{row-part}

@@ -4,7 +4,7 @@ use native.Mathlib.Omega.{arith}
 use Prim.Native.Nat.{_/_}
 use borrow.Author.Tests.{not-true}
 use Rattle.laws.specs.Signed.{plain}
-use Rattle.fixed_code.specs.Lists.{rows-part}
+use Rattle.iteration.specs.ListsLaws.{rows-part}
 use Rattle.fixed_layered.specs.Run.{in-run-to}
 use Rattle.fixed_layered.specs.Runs.{run-offset}
 use Rattle.fixed_layered.specs.Checks.{turn-made, run-law}

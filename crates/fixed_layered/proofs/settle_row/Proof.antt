@@ -5,9 +5,8 @@ use mathlib.Core.Path.{_≡_, refl, ap, subst}
 use mathlib.Core.List.{List}
 use Prim.Native.Nat.{ℕ, _+_, _-_, _≤_}
 use lib.ListN.{length, getD}
-use Rattle.lane_memory.specs.Room.{var}
-use Rattle.fixed_code.specs.Lists.{edgesIn, codeIn}
-use Rattle.fixed.specs.Sequential.{stepped}
+use Rattle.iteration.specs.Lists.{var, edgesIn, codeIn}
+use Rattle.iteration.specs.Once.{stepped}
 use Rattle.fixed_layered.specs.Run.{few-turns, in-run-to}
 use Rattle.fixed_layered.specs.Runs.{row-part}
 use Rattle.fixed_layered.specs.Rows.{CheckSettled, RowSettled, settled-row-start, settled-row-again, settled-row-end}

@@ -8,11 +8,11 @@ use lib.ListN.{length, getD}
 use mir.Syntax.{w8}
 use mir.Val.{toZ, ofZ}
 use Rattle.laws.specs.Signed.{plain}
-use Rattle.lane_memory.specs.Room.{sharedIn, Room}
+use Rattle.lane16.specs.Memory.{CheckMemory, check-memory, memory-to}
+use Rattle.iteration.specs.Once.{sharedIn, stepped}
 use Rattle.simd_layered.specs.Checked.{Checked}
-use Rattle.fixed_code.specs.Lists.{codeIn, room, memory-to}
-use Rattle.fixed_layered.specs.Full.{placeOf}
-use Rattle.fixed.specs.Sequential.{stepped}
+use Rattle.iteration.specs.Lists.{codeIn}
+use Rattle.iteration.specs.Full.{placeOf}
 use Rattle.fixed_layered.specs.Run.{few-turns, place-first, place-next, place-room}
 use Rattle.fixed_layered.specs.Checks.{ChecksMade, checks-start, checks-again, checks-end}
 use Rattle.fixed_layered.proofs.shared_run.Statement.{statement}
@@ -66,8 +66,8 @@ check-shared-requires c κs =
     let r = c .before .before .before .before .start in
     let d = c .before .before .before .degree in (
       (
-        subst (λ (l : List ℕ). Room l (r .result) (d .result) (s .args .of .n) (s .args .of .lanes) (h .loop .work)) (sym (s .pre .0 .1))
-            (room (stepped (s .args .run .first) (s .args .of .q) (h .loop .x)) (r .result) (d .result) (memory-to (h .loop .inv .1 .0) (s .pre .0 .0 .memory)) inside (r .ensures)
+        subst (λ (l : List ℕ). CheckMemory l (r .result) (d .result) (s .args .of .n) (s .args .of .lanes) (h .loop .work)) (sym (s .pre .0 .1))
+            (check-memory (stepped (s .args .run .first) (s .args .of .q) (h .loop .x)) (r .result) (d .result) (memory-to (h .loop .inv .1 .0) (s .pre .0 .0 .memory)) inside (r .ensures)
             (omega (arith, r .ensures, d .ensures))),
         s .pre .0 .0 .few-bits,
       ),

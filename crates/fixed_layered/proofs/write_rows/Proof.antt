@@ -4,8 +4,8 @@ use borrow.Author.Needs.{needs}
 use mathlib.Core.Path.{_≡_, refl}
 use Prim.Native.Nat.{_-_, _≤_}
 use lib.ListN.{length}
-use Rattle.fixed_code.specs.Lists.{edgesIn, codeIn}
-use Rattle.fixed.specs.Sequential.{stepped}
+use Rattle.iteration.specs.Lists.{edgesIn, codeIn}
+use Rattle.iteration.specs.Once.{stepped}
 use Rattle.fixed_layered.specs.Run.{in-run-to}
 use Rattle.fixed_layered.specs.Rows.{Written, written-start, written-again, written-end}
 use Rattle.fixed_layered.proofs.write_rows.Statement.{statement}
