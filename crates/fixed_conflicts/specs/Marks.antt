@@ -12,24 +12,24 @@ use Rattle.laws.specs.Stores.{grown-at}
 use Rattle.ldpc_shape.specs.Shape.{qOf, total, countMod}
 use Rattle.ldpc_shape.specs.Counts.{Counted}
 use Rattle.ldpc_shape.specs.Accepted.{Accepted, few}
-use Rattle.fixed_conflicts.specs.Table.{spanAt}
+use Rattle.fixed_conflicts.specs.Table.{spansLength, spanAt}
 use Rattle.fixed_conflicts.specs.Edges.{rowOf}
 use Rattle.fixed_conflicts.specs.Spans.{spanOf, span-next, span-within}
 use Rattle.fixed_conflicts.specs.Conflicts.{Spanned, total-next}
 
 -- ---- row g + 1 of the table from row g, the first k layers
-pub record Advanced (table counts : List ℕ) (g k : ℕ) (table′ : List ℕ) : Type 0 where
+pub record NextRow (table counts : List ℕ) (g k : ℕ) (table′ : List ℕ) : Type 0 where
   pub long : length table′ ≡ length table
   pub done : (l : ℕ) → l < k → spanAt table′ l (g + 1) ≡ spanAt table l g + getD counts l 0
   pub still : (i : ℕ) → i < (g + 1) * 120 → getD table′ i 0 ≡ getD table i 0
 
-pub advanced-start : (table counts : List ℕ) (g : ℕ) → Advanced table counts g 0 table
-advanced-start table counts g = record { long = refl; done = λ l h. absurd (omega (arith, h)); still = λ i h. refl }
+pub next-row-start : (table counts : List ℕ) (g : ℕ) → NextRow table counts g 0 table
+next-row-start table counts g = record { long = refl; done = λ l h. absurd (omega (arith, h)); still = λ i h. refl }
 
-pub advanced-again : {table counts : List ℕ} {g k : ℕ} {table′ : List ℕ} {y : ℕ} → Advanced table counts g k table′ → k < 120 → (g + 1) * 120 + k < length table
+pub next-row-again : {table counts : List ℕ} {g k : ℕ} {table′ : List ℕ} {y : ℕ} → NextRow table counts g k table′ → k < 120 → (g + 1) * 120 + k < length table
     → y ≡ spanAt table′ k g + getD counts k 0
-    → Advanced table counts g (k + 1) (set table′ ((g + 1) * 120 + k) y)
-advanced-again {table} {counts} {g} {k} {table′} {y} v few room e =
+    → NextRow table counts g (k + 1) (set table′ ((g + 1) * 120 + k) y)
+next-row-again {table} {counts} {g} {k} {table′} {y} v few room e =
     record {
       long = simp length-set (v .long);
       done =
@@ -38,16 +38,16 @@ advanced-again {table} {counts} {g} {k} {table′} {y} v few room e =
       still = λ i h. getD-set-other table′ ((g + 1) * 120 + k) i y 0 (λ r. omega arith) ∙ v .still i h;
     }
 
-pub advanced-end : {table counts : List ℕ} {g k q : ℕ} {table′ : List ℕ} → k ≡ q → Advanced table counts g k table′ → Advanced table counts g q table′
-advanced-end {table} {counts} {g} {k} {q} {table′} e v = subst (λ (j : ℕ). Advanced table counts g j table′) e v
+pub next-row-end : {table counts : List ℕ} {g k q : ℕ} {table′ : List ℕ} → k ≡ q → NextRow table counts g k table′ → NextRow table counts g q table′
+next-row-end {table} {counts} {g} {k} {q} {table′} e v = subst (λ (j : ℕ). NextRow table counts g j table′) e v
 
 -- ---- the first g rows
 pub record Begun (q : ℕ) (lens addrs : List ℕ) (g at : ℕ) (table : List ℕ) : Type 0 where
-  pub long : length table ≡ 14520
+  pub long : length table ≡ spansLength
   pub at-is : at ≡ total (take g lens)
   pub rows : (h l : ℕ) → h ≤ g → l < q → spanAt table l h ≡ spanOf q l lens addrs h
 
-pub begun-start : (q : ℕ) (lens addrs table : List ℕ) → length table ≡ 14520 → q ≤ 120 → ((l : ℕ) → l < 120 → getD table l 0 ≡ 0) → Begun q lens addrs 0 0 table
+pub begun-start : (q : ℕ) (lens addrs table : List ℕ) → length table ≡ spansLength → q ≤ 120 → ((l : ℕ) → l < 120 → getD table l 0 ≡ 0) → Begun q lens addrs 0 0 table
 unfolding total spanOf
 begun-start q lens addrs table a few zeros =
     record {
@@ -60,12 +60,12 @@ begun-start q lens addrs table a few zeros =
     }
 
 -- rows before are as they were
-kept : {table counts : List ℕ} {g q : ℕ} {table′ : List ℕ} → Advanced table counts g q table′ → (h l : ℕ) → h ≤ g → l < 120 → spanAt table′ l h ≡ spanAt table l h
+kept : {table counts : List ℕ} {g q : ℕ} {table′ : List ℕ} → NextRow table counts g q table′ → (h l : ℕ) → h ≤ g → l < 120 → spanAt table′ l h ≡ spanAt table l h
 kept {table} {counts} {g} v h l a b = let z : h * 120 ≤ g * 120 = mul-le-mul-right 120 a in v .still (h * 120 + l) (omega arith)
 
 pub begun-again : {q : ℕ} {lens addrs : List ℕ} {g at : ℕ} {table table′ : List ℕ} (to : ℕ) (counts : List ℕ) → Begun q lens addrs g at table → q ≤ 120
     → g < length lens → to ≡ at + getD lens g 0
-    → Counted counts q (take (to - at) (drop at addrs)) → Advanced table counts g q table′ → Begun q lens addrs (g + 1) to table′
+    → Counted counts q (take (to - at) (drop at addrs)) → NextRow table counts g q table′ → Begun q lens addrs (g + 1) to table′
 begun-again {q} {lens} {addrs} {g} {at} {table} {table′} to counts w few h e count v =
     record {
       long = v .long ∙ w .long;
@@ -110,7 +110,7 @@ module _ {n : ℕ} {lens addrs : List ℕ} (A : Accepted n lens addrs) {q g at :
 
 pub begun-end : {n q : ℕ} {lens addrs : List ℕ} {g at : ℕ} {table table′ two : List ℕ} → g ≡ length lens → q ≡ qOf n lens → q ≤ 120 → Begun q lens addrs g at table
     → ((l : ℕ) → l < q → getD two l 0 ≡ 2)
-    → Advanced table two g q table′ → Spanned n lens addrs table′
+    → NextRow table two g q table′ → Spanned n lens addrs table′
 begun-end {n} {q} {lens} {addrs} {g} {at} {table} {table′} e same few w is v =
     record {
       long = v .long ∙ w .long;

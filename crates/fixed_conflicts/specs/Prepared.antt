@@ -11,7 +11,7 @@ use Rattle.ldpc_shape.specs.Accepted.{accepted, Bounded, bounded}
 use Rattle.ldpc_edges.specs.Code.{edgeLists}
 use Rattle.iteration.specs.Lists.{edgesIn, codeIn}
 use Rattle.iteration.specs.CodeLaws.{edges-are}
-use Rattle.fixed_conflicts.specs.Table.{Flagged, Shares}
+use Rattle.fixed_conflicts.specs.Table.{spansLength, Flagged, Shares}
 use Rattle.fixed_conflicts.specs.Conflicts.{Spanned}
 use Rattle.fixed_conflicts.specs.Conflicts as conflicts
 
@@ -22,7 +22,7 @@ rowCount of = of .k / 374
 pub record Prepared (of : Sizes) (lists table : List ℕ) : Type 0 where
   pub bounds : Bounded of
   pub edges : edgesIn (of .p) lists ≡ of .e
-  pub long : length table ≡ 14520
+  pub long : length table ≡ spansLength
   pub shares : (l : ℕ) → l < of .q → (flags : List Bool) (any : Bool) → Flagged table (rowCount of) (of .q) l (rowCount of) flags any
       → Shares (of .n) (of .q) (codeIn (of .p) lists) l 374 l table flags
 

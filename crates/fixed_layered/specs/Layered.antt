@@ -11,7 +11,7 @@ use Rattle.ldpc_shape.specs.declared.Sizes.{Sizes}
 use Rattle.lane16.specs.Memory.{Memory}
 use Rattle.iteration.specs.Lists.{edgesIn, codeIn}
 use Rattle.fixed_conflicts.specs.Prepared.{rowCount, Prepared}
-use Rattle.fixed_layered.specs.Runs.{LayersMade, InLayer, Sharing}
+use Rattle.fixed_layered.specs.Layers.{LayersMade, InLayer, Sharing}
 
 -- THE COLUMN LAW: every lane's word is iterated as that word alone, over the code that the lists say. What the rows of t and of old messages hold is left to
 -- the program; all behind the n + 3E rows is as it was.

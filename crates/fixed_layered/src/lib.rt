@@ -4,24 +4,31 @@
 // In a layer in which variables can have several edges (fixed_conflicts), a run first leaves their values. Then row after row of 374 variables
 // is gathered into `sums`, 374 times `lanes` of them, and settled.
 ghost use mathlib.Core.Path.{_≡_};
-ghost use mathlib.Core.Bool.{false};
+ghost use mathlib.Core.Bool.{cond, true, false};
 ghost use Prim.Native.Nat.{ℕ, _<_, _≤_, _+_, _*_, _-_, min};
 ghost use lib.ListN.{getD, length};
+ghost use lib.IntN.{natAbs, _+ℤ_, _-ℤ_};
+ghost use Rattle.laws.specs.Signed.{minZ, maxZ};
+ghost use Rattle.iteration.specs.Value.{satZ};
 ghost use Rattle.iteration.specs.Iteration.{runCount};
 ghost use Rattle.lane16.specs.Column.{column};
 ghost use Rattle.lane16.specs.Memory.{CheckMemory, Memory};
 ghost use Rattle.iteration.specs.Once.{sharedIn, stepped, Once};
 ghost use Rattle.iteration.specs.Lists.{var, rowsIn, edgesIn, codeIn};
-ghost use Rattle.fixed_conflicts.specs.Table.{Shares};
+ghost use Rattle.fixed_conflicts.specs.Table.{spansLength, Shares};
 ghost use Rattle.fixed_conflicts.specs.Prepared.{Prepared};
 ghost use Rattle.iteration.specs.Full.{placeOf};
+ghost use Rattle.fixed_layered.specs.Sums.{SmallSums, EdgeGathered, Settled};
 ghost use Rattle.fixed_layered.specs.Gather.{gatherAt};
-ghost use Rattle.fixed_layered.specs.Run.{InRun};
+ghost use Rattle.fixed_layered.specs.RunMemory.{InRun};
 ghost use Rattle.fixed_layered.specs.Rows.{InRow, Grouped, Smalls, EdgeDone, Gathers, sumAt, runSum, CheckSettled, RowSettled, FlagWritten, Written};
-ghost use Rattle.fixed_layered.specs.Runs.{RunMade, RunsMade, LayersMade, InLayer, Sharing};
+ghost use Rattle.fixed_layered.specs.Layers.{RunMade, RunsMade, LayersMade, InLayer, Sharing};
 ghost use Rattle.fixed_layered.specs.Checks.{PartMade};
 ghost use Rattle.fixed_layered.specs.Layered.{Layered};
 use ldpc_shape::Sizes;
+
+// How many sums 64 lanes have: 374 each.
+pub const SUMS: usize = 23936;
 
 // What an iteration goes by: n variables, p checks in q layers, the rows of addresses, the lanes, and how many checks a run has.
 struct Pass {
@@ -54,6 +61,79 @@ fn least(a: usize, b: usize) -> usize
     if a < b { a } else { b }
 }
 
+// What a lane has gathered, with one edge more.
+fn gathered(seen: bool, sum: i32, t: i8, new: i8, old: i8) -> i32
+    requires { ⌜ (seen ≡ true → natAbs sum ≤ 2000000000) ⌝ }
+    ensures { λ r. ⌜ r ≡ cond seen (sum +ℤ (new -ℤ old)) (t +ℤ new) ⌝ }
+{
+    if seen {
+        return sum + ((new as i32) - (old as i32));
+    }
+    (t as i32) + (new as i32)
+}
+
+// One edge more, with its t in row tu, its message in row ru and its old message in row ou, gathered by every lane; `seen` if there was one before. `many` edges
+// have been gathered at most.
+fn gather(
+    sums: &mut [i32],
+    at: usize,
+    work: &[i8],
+    tu: usize,
+    ru: usize,
+    ou: usize,
+    lanes: usize,
+    seen: bool,
+    many: usize,
+)
+    requires { ⌜ (tu * lanes + lanes ≤ length (now work)) × ((ru * lanes + lanes ≤ length (now work)) × (ou * lanes + lanes ≤ length (now work))) ⌝ }
+    requires { ⌜ (at + lanes ≤ length (now sums)) × ((many ≤ 7000000) × (seen ≡ true → SmallSums lanes at many (now sums))) ⌝ }
+    ensures { λ _. ⌜
+        EdgeGathered lanes at tu ru ou seen (now (work .entry)) (now (sums .entry)) lanes (now (sums .exit)) × SmallSums lanes at (many + 1) (now (sums .exit))
+        ⌝ }
+{
+    let mut i: usize = 0;
+    while i < lanes {
+        let t = fixed_lanes::value(work, tu, lanes, i);
+        let new = fixed_lanes::value(work, ru, lanes, i);
+        let old = fixed_lanes::value(work, ou, lanes, i);
+        let s = sums[at + i];
+        sums[at + i] = gathered(seen, s, t, new, old);
+        i += 1;
+    }
+}
+
+fn min32(a: i32, b: i32) -> i32
+    ensures { λ r. ⌜ r ≡ minZ a b ⌝ }
+{
+    if a < b { a } else { b }
+}
+
+fn max32(a: i32, b: i32) -> i32
+    ensures { λ r. ⌜ r ≡ maxZ a b ⌝ }
+{
+    if a < b { b } else { a }
+}
+
+fn sat(x: i32) -> i8
+    ensures { λ r. ⌜ r ≡ satZ x ⌝ }
+{
+    min32(max32(x, -128), 127) as i8
+}
+
+// The variable's row u of every lane from what the lane gathered, clamped once.
+fn settle(work: &mut [i8], u: usize, lanes: usize, sums: &[i32], at: usize)
+    requires { ⌜ (u * lanes + lanes ≤ length (now work)) × (at + lanes ≤ length (now sums)) ⌝ }
+    ensures { λ _. ⌜ Settled lanes u at (now (sums .entry)) (now (work .entry)) lanes (now (work .exit)) ⌝ }
+{
+    let mut i: usize = 0;
+    while i < lanes {
+        let s = sums[at + i];
+        let x = sat(s);
+        fixed_lanes::place(work, u, lanes, i, x);
+        i += 1;
+    }
+}
+
 // Edge e, whose t and old message are at `at`, gathered by every lane for its variable, one of the row that begins at variable `base`.
 fn gather_edge(
     sums: &mut [i32],
@@ -80,7 +160,7 @@ fn gather_edge(
     let ru = n + e;
     let ou = n + 2 * edges + at;
     let was = seen[j];
-    fixed_delta::gather(sums, j * lanes, work, tu, ru, ou, lanes, was, at);
+    gather(sums, j * lanes, work, tu, ru, ou, lanes, was, at);
     seen[j] = true;
 }
 
@@ -185,7 +265,7 @@ fn settle_check(
     while k < d {
         let v = fixed_code::variable(rows, s + k);
         let at = (v - base) * lanes;
-        fixed_delta::settle(work, v, lanes, sums, at);
+        settle(work, v, lanes, sums, at);
         k += 1;
     }
 }
@@ -240,7 +320,7 @@ fn write_row(
     run: CheckRun,
 )
     requires { ⌜ InRun (of .n) (of .p) (of .lanes) (run .first) (of .q) (run .m) (now index) (now work) × (now rows ≡ rowsIn (of .p) (now index)) ⌝ }
-    requires { ⌜ Shares (of .n) (of .q) (codeIn (of .p) (now index)) (run .first) (run .m) (run .l) (now table) (now flags) × ((length (now table) ≡ 14520) × ((run .l < 120) × ((g < 120) × (0 < run .m)))) ⌝ }
+    requires { ⌜ Shares (of .n) (of .q) (codeIn (of .p) (now index)) (run .first) (run .m) (run .l) (now table) (now flags) × ((length (now table) ≡ spansLength) × ((run .l < 120) × ((g < 120) × (0 < run .m)))) ⌝ }
     requires { ⌜ 374 * of .lanes ≤ length (now sums) ⌝ }
     ensures { λ _. ⌜
         FlagWritten (of .n) (edgesIn (of .p) (now (index .entry))) (codeIn (of .p) (now (index .entry))) (stepped (run .first) (of .q)) (run .m) (of .lanes) (now (flags .entry)) g
@@ -276,7 +356,7 @@ fn write_rows(
     run: CheckRun,
 )
     requires { ⌜ InRun (of .n) (of .p) (of .lanes) (run .first) (of .q) (run .m) (now index) (now work) × (now rows ≡ rowsIn (of .p) (now index)) ⌝ }
-    requires { ⌜ Shares (of .n) (of .q) (codeIn (of .p) (now index)) (run .first) (run .m) (run .l) (now table) (now flags) × ((length (now table) ≡ 14520) × ((run .l < 120) × (0 < run .m))) ⌝ }
+    requires { ⌜ Shares (of .n) (of .q) (codeIn (of .p) (now index)) (run .first) (run .m) (run .l) (now table) (now flags) × ((length (now table) ≡ spansLength) × ((run .l < 120) × (0 < run .m))) ⌝ }
     requires { ⌜ 374 * of .lanes ≤ length (now sums) ⌝ }
     ensures { λ _. ⌜ Written (of .n) (edgesIn (of .p) (now (index .entry))) (codeIn (of .p) (now (index .entry))) (stepped (run .first) (of .q)) (run .m) (of .lanes) (now (flags .entry)) (now (work .entry)) 120 (now (work .exit)) ⌝ }
 {
@@ -338,7 +418,7 @@ fn run(
     run: CheckRun,
 )
     requires { ⌜ InRun (of .n) (of .p) (of .lanes) (run .first) (of .q) (run .m) (now index) (now work) ⌝ }
-    requires { ⌜ Shares (of .n) (of .q) (codeIn (of .p) (now index)) (run .first) (run .m) (run .l) (now table) (now flags) × ((length (now table) ≡ 14520) × ((run .l < 120) × (0 < run .m))) ⌝ }
+    requires { ⌜ Shares (of .n) (of .q) (codeIn (of .p) (now index)) (run .first) (run .m) (run .l) (now table) (now flags) × ((length (now table) ≡ spansLength) × ((run .l < 120) × (0 < run .m))) ⌝ }
     requires { ⌜ (run .shared ≡ false → (g : ℕ) → getD (now flags) g false ≡ false) ⌝ }
     requires { ⌜ (2048 ≤ length (now t)) × ((2048 ≤ length (now u)) × (374 * of .lanes ≤ length (now sums))) ⌝ }
     ensures { λ _. ⌜ RunMade (of .n) (of .p) (of .lanes) offset (now (index .entry)) (run .first) (of .q) (run .m) (now (work .entry)) (now (work .exit)) ⌝ }

@@ -10,8 +10,8 @@ use Rattle.iteration.specs.Lists.{var, edgesIn, codeIn}
 use Rattle.iteration.specs.Full.{placeOf}
 use Rattle.iteration.specs.Once.{stepped}
 use Rattle.fixed_layered.specs.Gather.{gatherAt}
-use Rattle.fixed_layered.specs.Run.{few-turns, place-first, place-next, place-room}
-use Rattle.fixed_layered.specs.Runs.{row-part}
+use Rattle.fixed_layered.specs.RunMemory.{few-turns, place-first, place-next, place-room}
+use Rattle.fixed_layered.specs.Layers.{row-part}
 use Rattle.fixed_layered.specs.Rows.{Gathers, sumAt, runSum, row-start, row-again, more}
 use Rattle.fixed_layered.proofs.gather_row.Statement.{statement}
 use Rattle.fixed_layered.proofs.gather_row.Tie as tie

@@ -7,7 +7,7 @@ use lib.ListN.{length}
 use mir.Syntax.{w8}
 use mir.Val.{toZ, ofZ}
 use Rattle.laws.specs.Signed.{plain}
-use Rattle.fixed_layered.specs.Runs.{LayersMade, layers-start, layers-again, layers-end, in-layer-to}
+use Rattle.fixed_layered.specs.Layers.{LayersMade, layers-start, layers-again, layers-end, in-layer-to}
 use Rattle.fixed_layered.proofs.layers.Statement.{statement}
 use Rattle.fixed_layered.proofs.layers.Tie as tie
 

@@ -5,8 +5,8 @@ use Prim.Native.Nat.{_/_}
 use borrow.Author.Tests.{not-true}
 use Rattle.laws.specs.Signed.{plain}
 use Rattle.iteration.specs.ListsLaws.{rows-part}
-use Rattle.fixed_layered.specs.Run.{in-run-to}
-use Rattle.fixed_layered.specs.Runs.{run-offset}
+use Rattle.fixed_layered.specs.RunMemory.{in-run-to}
+use Rattle.fixed_layered.specs.Layers.{run-offset}
 use Rattle.fixed_layered.specs.Checks.{turn-made, run-law}
 use Rattle.fixed_layered.proofs.run.Statement.{statement}
 use Rattle.fixed_layered.proofs.run.Tie as tie

@@ -8,7 +8,7 @@ use lib.ListN.{length}
 use mir.Syntax.{w8}
 use mir.Val.{toZ, ofZ}
 use Rattle.laws.specs.Signed.{plain}
-use Rattle.fixed_layered.specs.Runs.{RunsMade, runs-start, runs-again, runs-end, in-layer-to, in-run, shares-part}
+use Rattle.fixed_layered.specs.Layers.{RunsMade, runs-start, runs-again, runs-end, in-layer-to, in-run, shares-part}
 use Rattle.fixed_layered.proofs.runs.Statement.{statement}
 use Rattle.fixed_layered.proofs.runs.Tie as tie
 

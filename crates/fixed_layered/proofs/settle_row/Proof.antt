@@ -7,8 +7,8 @@ use Prim.Native.Nat.{ℕ, _+_, _-_, _≤_}
 use lib.ListN.{length, getD}
 use Rattle.iteration.specs.Lists.{var, edgesIn, codeIn}
 use Rattle.iteration.specs.Once.{stepped}
-use Rattle.fixed_layered.specs.Run.{few-turns, in-run-to}
-use Rattle.fixed_layered.specs.Runs.{row-part}
+use Rattle.fixed_layered.specs.RunMemory.{few-turns, in-run-to}
+use Rattle.fixed_layered.specs.Layers.{row-part}
 use Rattle.fixed_layered.specs.Rows.{CheckSettled, RowSettled, settled-row-start, settled-row-again, settled-row-end}
 use Rattle.fixed_layered.proofs.settle_row.Statement.{statement}
 use Rattle.fixed_layered.proofs.settle_row.Tie as tie

@@ -13,7 +13,7 @@ use Rattle.iteration.specs.Once.{sharedIn, stepped}
 use Rattle.simd_layered.specs.Checked.{Checked}
 use Rattle.iteration.specs.Lists.{codeIn}
 use Rattle.iteration.specs.Full.{placeOf}
-use Rattle.fixed_layered.specs.Run.{few-turns, place-first, place-next, place-room}
+use Rattle.fixed_layered.specs.RunMemory.{few-turns, place-first, place-next, place-room}
 use Rattle.fixed_layered.specs.Checks.{ChecksMade, checks-start, checks-again, checks-end}
 use Rattle.fixed_layered.proofs.shared_run.Statement.{statement}
 use Rattle.fixed_layered.proofs.shared_run.Tie as tie

@@ -7,7 +7,7 @@ use borrow.Author.Tests.{not-true, not-false}
 use lib.ListN.{getD, length-replicate}
 use Rattle.fixed_conflicts.specs.Table.{zeros}
 use Rattle.fixed_layered.specs.Rows.{row-written}
-use Rattle.fixed_layered.specs.Runs.{grouped}
+use Rattle.fixed_layered.specs.Layers.{grouped}
 use Rattle.fixed_layered.proofs.write_row.Statement.{statement}
 use Rattle.fixed_layered.proofs.write_row.Tie as tie
 

@@ -6,7 +6,7 @@ use Prim.Native.Nat.{_-_, _≤_}
 use lib.ListN.{length}
 use Rattle.iteration.specs.Lists.{edgesIn, codeIn}
 use Rattle.iteration.specs.Once.{stepped}
-use Rattle.fixed_layered.specs.Run.{in-run-to}
+use Rattle.fixed_layered.specs.RunMemory.{in-run-to}
 use Rattle.fixed_layered.specs.Rows.{Written, written-start, written-again, written-end}
 use Rattle.fixed_layered.proofs.write_rows.Statement.{statement}
 use Rattle.fixed_layered.proofs.write_rows.Tie as tie

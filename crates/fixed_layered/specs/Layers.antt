@@ -14,9 +14,9 @@ use Rattle.simd.specs.Words.{word}
 use Rattle.lane16.specs.Memory.{CheckMemory, Memory, memory-to, check-memory}
 use Rattle.iteration.specs.Lists.{var, rowsIn, edgesIn, codeIn}
 use Rattle.iteration.specs.ListsLaws.{start-in, degree-in}
-use Rattle.fixed_conflicts.specs.Table.{Split, Shares, Flagged, spanAt}
+use Rattle.fixed_conflicts.specs.Table.{spansLength, Split, Shares, Flagged, spanAt}
 use Rattle.iteration.specs.Once.{stepped}
-use Rattle.fixed_layered.specs.Run.{InRun}
+use Rattle.fixed_layered.specs.RunMemory.{InRun}
 use Rattle.fixed_layered.specs.Rows.{InRow, Grouped, part-in}
 
 -- ---- one run. What the rows of t and of old messages hold is left to the program; all behind them is as it was.
@@ -188,7 +188,7 @@ row-part {n} {p} {lanes} {first} {q} {m} {base} {from} {upto} {x} {s} {d} {end} 
 
 -- ---- what the layers count on of the table: the flags that are set by it say which rows share
 pub record Sharing (n p q rows : ℕ) (index table : List ℕ) : Type 0 where
-  pub long : length table ≡ 14520
+  pub long : length table ≡ spansLength
   pub few-rows : rows ≤ 119
   pub few-layers : q ≤ 120
   pub shares : (l : ℕ) → l < q → (flags : List Bool) (any : Bool) → Flagged table rows q l rows flags any → Shares n q (codeIn p index) l 374 l table flags

@@ -14,10 +14,10 @@ use Rattle.iteration.specs.Value.{satZ}
 use Rattle.lane16.specs.Lanes.{intAt}
 use Rattle.lane16.specs.Column.{column}
 use Rattle.fixed_lanes.specs.Place.{Placed}
-use Rattle.fixed_delta.specs.Bounds.{abs-add, abs-sub}
+use Rattle.fixed_layered.specs.Bounds.{abs-add, abs-sub}
 
 -- after m edges no lane's sum is above 256 (m + 1); the sums begin at `at`
-pub record Small (lanes at m : ℕ) (sums : List ℤ) : Type 0 where
+pub record SmallSums (lanes at m : ℕ) (sums : List ℤ) : Type 0 where
   pub small : (i : ℕ) → i < lanes → natAbs (intAt sums (at + i)) ≤ 256 * (m + 1)
 
 -- nothing gathered: t + new; else (new − old) added
@@ -58,7 +58,7 @@ pub record Growing (lanes at m : ℕ) (seen : Bool) (k : ℕ) (sums : List ℤ) 
   pub done : (i : ℕ) → i < k → natAbs (intAt sums (at + i)) ≤ 256 * (m + 1 + 1)
   pub still : seen ≡ true → (i : ℕ) → k ≤ i → i < lanes → natAbs (intAt sums (at + i)) ≤ 256 * (m + 1)
 
-pub growing-start : {lanes at m : ℕ} {seen : Bool} {sums : List ℤ} → (seen ≡ true → Small lanes at m sums) → Growing lanes at m seen 0 sums
+pub growing-start : {lanes at m : ℕ} {seen : Bool} {sums : List ℤ} → (seen ≡ true → SmallSums lanes at m sums) → Growing lanes at m seen 0 sums
 growing-start h = record { done = λ i q. absurd (omega (arith, q)); still = λ e i q l. h e .small i l }
 
 pub growing-again : {lanes at m k : ℕ} {sums : List ℤ} (seen : Bool) (f : ℕ → ℤ) (tu ru ou : ℕ) (y : ℤ) → Growing lanes at m seen k sums → k < lanes → at + k < length sums
@@ -71,7 +71,7 @@ growing-again {lanes} {at} {m} {k} {sums} seen f tu ru ou y g h room ht hr ho e 
       still = λ b i q l. subst (λ (x : ℤ). natAbs x ≤ 256 * (m + 1)) (sym (getD-set-other sums (at + k) (at + i) y (pos 0) (λ x. omega arith))) (g .still b i (omega arith) l);
     }
 
-pub growing-end : {lanes at m k : ℕ} {seen : Bool} {sums : List ℤ} → lanes ≤ k → Growing lanes at m seen k sums → Small lanes at (m + 1) sums
+pub growing-end : {lanes at m k : ℕ} {seen : Bool} {sums : List ℤ} → lanes ≤ k → Growing lanes at m seen k sums → SmallSums lanes at (m + 1) sums
 growing-end h g = record { small = λ i q. g .done i (omega arith) }
 
 -- ---- row u of the first k lanes from their sums, clamped once

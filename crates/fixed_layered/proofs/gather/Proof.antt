@@ -1,4 +1,4 @@
--- `fixed_delta::gather` meets its contract. Assumes nothing.
+-- `fixed_layered::gather` meets its contract. Assumes nothing.
 use borrow.Author.Needs.{needs}
 use native.Mathlib.Omega.{arith}
 use mathlib.Core.Path.{_≡_, _∙_, subst}
@@ -13,11 +13,11 @@ use mir.Val.{toZ, ofZ}
 use mir.ValLaws.{toZ-ofZ}
 use Rattle.laws.specs.Signed.{plain}
 use Rattle.lane16.specs.Lanes.{intAt}
-use Rattle.fixed_delta.specs.Bounds.{abs-byte}
-use Rattle.fixed_delta.specs.Gather.{plus, EdgeGathered, Growing, edge-start, edge-again, edge-end, growing-start, growing-again, growing-end}
+use Rattle.fixed_layered.specs.Bounds.{abs-byte}
+use Rattle.fixed_layered.specs.Sums.{plus, EdgeGathered, Growing, edge-start, edge-again, edge-end, growing-start, growing-again, growing-end}
 use Rattle.lane16.specs.Column.{column}
-use Rattle.fixed_delta.proofs.gather.Statement.{statement}
-use Rattle.fixed_delta.proofs.gather.Tie as tie
+use Rattle.fixed_layered.proofs.gather.Statement.{statement}
+use Rattle.fixed_layered.proofs.gather.Tie as tie
 
 -- a value that was read is a byte
 byte : (x : ℤ) → mag x < 128 → {y : ℤ} → x ≡ y → natAbs y ≤ 128
