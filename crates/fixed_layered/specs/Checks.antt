@@ -12,7 +12,7 @@ use lib.IntN.{ℤ, pos}
 use Rattle.iteration.specs.Check.{wrote, tOf, within}
 use Rattle.iteration.specs.Iteration.{Code, degree, Sum, gatherRun, settle, run, runOf}
 use Rattle.iteration.specs.CheckLaws.{within-at}
-use Rattle.lane_memory.specs.Column.{column}
+use Rattle.lane16.specs.Column.{column}
 use Rattle.iteration.specs.Once.{sharedIn, stepped, Once, Order}
 use Rattle.iteration.specs.Lists.{var, rowsIn, edgesIn, codeIn}
 use Rattle.simd.specs.Words.{wordOf, word}
@@ -22,11 +22,11 @@ use Rattle.iteration.specs.ListsLaws.{start-in, degree-in, order}
 use Rattle.fixed_layered.specs.Full.{fullOf, full}
 use Rattle.fixed.specs.Sequential.{InTurn}
 use Rattle.iteration.specs.InTurn.{checks-run, in-turn-run}
-use Rattle.fixed_layered.specs.Ready.{within-wrote, ready}
+use Rattle.fixed_layered.specs.Sent.{within-wrote, sent}
 use Rattle.fixed_layered.specs.Gather.{gatherRunAt, run-gathers, run-none}
 use Rattle.fixed_layered.specs.Rows.{writtenAt, Written}
-use Rattle.fixed_layered.specs.Run.{InRun}
-use Rattle.fixed_layered.specs.Runs.{RunMade}
+use Rattle.fixed_layered.specs.RunMemory.{InRun}
+use Rattle.fixed_layered.specs.Layers.{RunMade}
 
 -- ---- on the memory: the run but for the values of shared variables
 pub record PartMade (sh : ℕ → Bool) (n p lanes : ℕ) (o : ℤ) (index : List ℕ) (first q m : ℕ) (a a′ : List ℤ) : Type 0 where
@@ -113,7 +113,7 @@ made {n} {E} {code} {c} {m} flags o f f′ w ord few low is zeros done still =
         go true e = absurd (omega (arith, low (u / 374) e))
 
     gathers : (u : ℕ) → gatherRunAt n E code c u f m ≡ gatherRun (runOf o code c m (w .word)) code c u m
-    gathers u = run-gathers (ready (sharedIn flags) o f w ord is) refl u m (omega arith)
+    gathers u = run-gathers (sent (sharedIn flags) o f w ord is) refl u m (omega arith)
 
     before-is : (u : ℕ) → u < n → f u ≡ cond (sharedIn flags u) (w .word .L u) (settle (gatherRun (runOf o code c m (w .word)) code c u m) (w .word .L u))
     before-is u q = sym (within-at n f u q) ∙ ap (λ (x : Full). x .word .L u) is

@@ -3,7 +3,7 @@ use Prim.Native.Nat.{ℕ, _+_, _*_}
 use lib.IntN.{ℤ}
 use Rattle.iteration.specs.Check.{within}
 use Rattle.simd.specs.Words.{wordOf}
-use Rattle.lane_memory.specs.Column.{column}
+use Rattle.lane16.specs.Column.{column}
 use Rattle.iteration.specs.Full.{Full}
 use mathlib.Core.List.{List}
 

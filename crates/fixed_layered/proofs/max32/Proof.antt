@@ -1,11 +1,11 @@
--- `fixed_delta::max32` meets its contract. Assumes nothing.
+-- `fixed_layered::max32` meets its contract. Assumes nothing.
 use mathlib.Core.Path.{sym, ap, _∙_}
 use mathlib.Core.Bool.{Bool, cond}
 use mir.Syntax.{w32}
 use mir.ValLaws.{toZ-ofZ}
 use Rattle.laws.specs.Signed.{lt-plain}
-use Rattle.fixed_delta.proofs.max32.Statement.{statement}
-use Rattle.fixed_delta.proofs.max32.Tie as tie
+use Rattle.fixed_layered.proofs.max32.Statement.{statement}
+use Rattle.fixed_layered.proofs.max32.Tie as tie
 
 returns : tie.Need-returns
 returns c =

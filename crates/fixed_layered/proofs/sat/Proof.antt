@@ -1,4 +1,4 @@
--- `fixed_delta::sat` meets its contract. Assumes nothing.
+-- `fixed_layered::sat` meets its contract. Assumes nothing.
 use borrow.Author.Needs.{needs, sfits-of}
 use mathlib.Core.Path.{_≡_, ap, _∙_}
 use lib.IntN.{ℤ, pos, negsuc}
@@ -6,11 +6,11 @@ use mir.Syntax.{w32}
 use mir.Val.{toZ, ofZ}
 use mir.ValLaws.{toZ-ofZ}
 use Rattle.laws.specs.Signed.{minZ, maxZ, plain}
-use Rattle.fixed_delta.specs.Bounds.{widen32}
-use Rattle.lane_math.specs.Value.{satZ}
+use Rattle.fixed_layered.specs.Bounds.{widen32}
+use Rattle.iteration.specs.Value.{satZ}
 use Rattle.lane_math.specs.Fits.{sat-fits}
-use Rattle.fixed_delta.proofs.sat.Statement.{statement}
-use Rattle.fixed_delta.proofs.sat.Tie as tie
+use Rattle.fixed_layered.proofs.sat.Statement.{statement}
+use Rattle.fixed_layered.proofs.sat.Tie as tie
 
 max32-requires : tie.Need-max32-requires
 max32-requires c κs = search needs

@@ -1,13 +1,13 @@
--- `fixed_delta::gathered` meets its contract. Assumes nothing.
+-- `fixed_layered::gathered` meets its contract. Assumes nothing.
 use mathlib.Core.Path.{sym, ap, _∙_}
 use mathlib.Core.Bool.{Bool, cond}
 use lib.IntN.{_+ℤ_, _-ℤ_}
 use mir.Syntax.{w32}
 use mir.ValLaws.{toZ-ofZ}
 use Rattle.laws.specs.Signed.{plain}
-use Rattle.fixed_delta.specs.Bounds.{widen32, wide32, diff-fits32, sum-fits32, more-fits32}
-use Rattle.fixed_delta.proofs.gathered.Statement.{statement}
-use Rattle.fixed_delta.proofs.gathered.Tie as tie
+use Rattle.fixed_layered.specs.Bounds.{widen32, wide32, diff-fits32, sum-fits32, more-fits32}
+use Rattle.fixed_layered.proofs.gathered.Statement.{statement}
+use Rattle.fixed_layered.proofs.gathered.Tie as tie
 
 cast-result : tie.Need-cast-result
 cast-result c = let s = c .before in rw (plain (s .args .new) (s .fits .new)) (widen32 (s .fits .new))

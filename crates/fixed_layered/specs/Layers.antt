@@ -8,14 +8,15 @@ use native.Mathlib.Nat.{add-mul-div-right, div-eq-of-lt, mul-le-mul-right}
 use native.Mathlib.Numerals.{add-one}
 use lib.ListN.{getD, length}
 use lib.IntN.{ℤ}
-use Rattle.lane_math.specs.Iteration.{Code, degree, run, inRun, runs, runCount, layers}
-use Rattle.lane_memory.specs.Column.{column}
+use Rattle.iteration.specs.Iteration.{Code, degree, run, inRun, runs, runCount, layers}
+use Rattle.lane16.specs.Column.{column}
 use Rattle.simd.specs.Words.{word}
-use Rattle.lane_memory.specs.Room.{var, Room}
-use Rattle.fixed_code.specs.Lists.{rowsIn, edgesIn, codeIn, Memory, memory-to, room, start-in, degree-in}
-use Rattle.fixed_conflicts.specs.Table.{Split, Shares, Flagged, spanAt}
-use Rattle.fixed.specs.Sequential.{stepped}
-use Rattle.fixed_layered.specs.Run.{InRun}
+use Rattle.lane16.specs.Memory.{CheckMemory, Memory, memory-to, check-memory}
+use Rattle.iteration.specs.Lists.{var, rowsIn, edgesIn, codeIn}
+use Rattle.iteration.specs.ListsLaws.{start-in, degree-in}
+use Rattle.fixed_conflicts.specs.Table.{spansLength, Split, Shares, Flagged, spanAt}
+use Rattle.iteration.specs.Once.{stepped}
+use Rattle.fixed_layered.specs.RunMemory.{InRun}
 use Rattle.fixed_layered.specs.Rows.{InRow, Grouped, part-in}
 
 -- ---- one run. What the rows of t and of old messages hold is left to the program; all behind them is as it was.
@@ -148,7 +149,7 @@ pub record RowPart (n p lanes first q base from upto x s d end : ℕ) (index row
   pub all : end < upto → end ≡ degree (codeIn p index) (stepped first q x)
   pub below : end ≤ d
   pub start-is : s ≡ codeIn p index .row-start (stepped first q x)
-  pub part-room : Room rows (s + from) (end - from) n lanes a
+  pub part-room : CheckMemory rows (s + from) (end - from) n lanes a
   pub in-row : InRow (var rows) base (s + from) (end - from)
 
 pub row-part : {n p lanes first q m base from upto x s d end : ℕ} {index rows : List ℕ} {a : List ℤ} → InRun n p lanes first q m index a → rows ≡ rowsIn p index
@@ -163,8 +164,8 @@ row-part {n} {p} {lanes} {first} {q} {m} {base} {from} {upto} {x} {s} {d} {end} 
       below = omega arith;
       start-is = S;
       part-room =
-          subst (λ (l : List ℕ). Room l (s + from) (end - from) n lanes a) (sym same)
-          (let w = room (stepped first q x) s d (r .memory) (r .inside x h) e f in
+          subst (λ (l : List ℕ). CheckMemory l (s + from) (end - from) n lanes a) (sym same)
+          (let w = check-memory (stepped first q x) s d (r .memory) (r .inside x h) e f in
           record {
             edges = omega (arith, w .edges, D, g .rises, g .begins x h);
             degree = omega (arith, w .degree);
@@ -172,7 +173,6 @@ row-part {n} {p} {lanes} {first} {q} {m} {base} {from} {upto} {x} {s} {d} {end} 
             long = w .long;
             many = w .many;
             some-lanes = w .some-lanes;
-            few-lanes = w .few-lanes;
           });
       in-row =
           subst (λ (l : List ℕ). InRow (var l) base (s + from) (end - from)) (sym same)
@@ -186,9 +186,9 @@ row-part {n} {p} {lanes} {first} {q} {m} {base} {from} {upto} {x} {s} {d} {end} 
     D : degree (codeIn p index) (stepped first q x) ≡ d
     D = degree-in p index (stepped first q x) s d (r .inside x h) e f
 
-pub record AllLayers (n p lanes q s rows : ℕ) (index : List ℕ) (a : List ℤ) (table : List ℕ) : Type 0 where
-  pub layer : (l : ℕ) → l < q → InLayer n p lanes q s l index a
-  pub shares : (l : ℕ) → l < q → (flags : List Bool) (any : Bool) → Flagged table rows q l rows flags any → Shares n q (codeIn p index) l 374 l table flags
-  pub few-layers : q ≤ 120
+-- ---- what the layers count on of the table: the flags that are set by it say which rows share
+pub record Sharing (n p q rows : ℕ) (index table : List ℕ) : Type 0 where
+  pub long : length table ≡ spansLength
   pub few-rows : rows ≤ 119
-  pub long : length table ≡ 14520
+  pub few-layers : q ≤ 120
+  pub shares : (l : ℕ) → l < q → (flags : List Bool) (any : Bool) → Flagged table rows q l rows flags any → Shares n q (codeIn p index) l 374 l table flags

@@ -1,4 +1,4 @@
--- `fixed_delta::gather` meets its contract. Assumes nothing.
+-- `fixed_layered::gather` meets its contract. Assumes nothing.
 use borrow.Author.Needs.{needs}
 use native.Mathlib.Omega.{arith}
 use mathlib.Core.Path.{_≡_, _∙_, subst}
@@ -12,16 +12,16 @@ use mir.Syntax.{w32}
 use mir.Val.{toZ, ofZ}
 use mir.ValLaws.{toZ-ofZ}
 use Rattle.laws.specs.Signed.{plain}
-use Rattle.lane16.specs.Lanes.{z}
-use Rattle.fixed_delta.specs.Bounds.{abs-byte}
-use Rattle.fixed_delta.specs.Gather.{plus, EdgeGathered, Growing, edge-start, edge-again, edge-end, growing-start, growing-again, growing-end}
-use Rattle.lane_memory.specs.Column.{column}
-use Rattle.fixed_delta.proofs.gather.Statement.{statement}
-use Rattle.fixed_delta.proofs.gather.Tie as tie
+use Rattle.lane16.specs.Lanes.{intAt}
+use Rattle.fixed_layered.specs.Bounds.{abs-byte}
+use Rattle.fixed_layered.specs.Sums.{plus, EdgeGathered, Growing, edge-start, edge-again, edge-end, growing-start, growing-again, growing-end}
+use Rattle.lane16.specs.Column.{column}
+use Rattle.fixed_layered.proofs.gather.Statement.{statement}
+use Rattle.fixed_layered.proofs.gather.Tie as tie
 
 -- a value that was read is a byte
 byte : (x : ℤ) → mag x < 128 → {y : ℤ} → x ≡ y → natAbs y ≤ 128
-byte x h {y} e = subst (λ (z : ℤ). natAbs z ≤ 128) e (abs-byte x (sfits-of h))
+byte x h {y} e = subst (λ (intAt : ℤ). natAbs intAt ≤ 128) e (abs-byte x (sfits-of h))
 
 abbrev Inv-loop : tie.InvT-loop
 Inv-loop sums₀ at work tu ru ou lanes seen many i₀ sums i = (i ≤ lanes) × (EdgeGathered lanes at tu ru ou seen work sums₀ i sums × Growing lanes at many seen i sums)
@@ -58,7 +58,7 @@ gathered-requires c κs =
     let s = c .before .before .before .before .before .before in
     let h = c .before .before .before .before .before in
     let q = loop-test .taken in
-    rw (toZ-ofZ w32 (z (h .loop .sums) (s .args .at + h .loop .i)) (sfits-of (c .s .given))) (λ b. omega (arith, h .loop .inv .1 .1 .still b (h .loop .i) (omega arith) q, s .pre .1 .1 .0))
+    rw (toZ-ofZ w32 (intAt (h .loop .sums) (s .args .at + h .loop .i)) (sfits-of (c .s .given))) (λ b. omega (arith, h .loop .inv .1 .1 .still b (h .loop .i) (omega arith) q, s .pre .1 .1 .0))
 
 add-t16 : tie.Need-add-t16 Inv-loop μ-loop
 add-t16 c = search needs
@@ -91,12 +91,12 @@ loop-again c =
     let g = c .gathered in
     let f = column (a .lanes) (a .work .now) (h .loop .i) in
     let room : a .at + h .loop .i < length (a .sums .now) = omega (arith, s .pre .1 .0, q) in
-    let is : toZ w32 (ofZ w32 (g .result)) ≡ plus (a .seen) f (a .tu) (a .ru) (a .ou) (z (h .loop .sums) (s .args .at + h .loop .i)) =
+    let is : toZ w32 (ofZ w32 (g .result)) ≡ plus (a .seen) f (a .tu) (a .ru) (a .ou) (intAt (h .loop .sums) (s .args .at + h .loop .i)) =
     toZ-ofZ w32 (g .result) (sfits-of (g .ok))
     ∙ g .ensures
     ∙ (λ j.
     cond (a .seen)
-    (toZ-ofZ w32 (z (h .loop .sums) (s .args .at + h .loop .i)) (sfits-of (c .before .s .given)) j +ℤ
+    (toZ-ofZ w32 (intAt (h .loop .sums) (s .args .at + h .loop .i)) (sfits-of (c .before .s .given)) j +ℤ
     ((plain (n .result) (sfits-of (n .ok)) ∙ n .ensures) j -ℤ (plain (o .result) (sfits-of (o .ok)) ∙ o .ensures) j))
     ((plain (t .result) (sfits-of (t .ok)) ∙ t .ensures) j +ℤ (plain (n .result) (sfits-of (n .ok)) ∙ n .ensures) j)) in (
       search needs,

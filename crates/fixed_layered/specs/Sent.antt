@@ -7,13 +7,16 @@ use borrow.Author.Tests.{ltb-true, ltb-false}
 use lib.Dec.{eqb, ltb}
 use lib.IntN.{ℤ, pos, _-ℤ_}
 use Rattle.laws.specs.Put.{put}
-use Rattle.lane_math.specs.Value.{satZ}
-use Rattle.lane_math.specs.Check.{wrote, tOf}
-use Rattle.lane_math.specs.Iteration.{Code, degree, Run, runOf}
-use Rattle.lane_math.specs.Laws.{wrote-other}
-use Rattle.simd.specs.Words.{within, wordOf, within-at}
-use Rattle.fixed_layered.specs.Full.{Full, placeOf, tSent, oldSent, partFull, fullOf}
-use Rattle.fixed_layered.specs.Order.{Order, laid-at, before, place-ends}
+use Rattle.iteration.specs.Value.{satZ}
+use Rattle.iteration.specs.Check.{wrote, tOf, within}
+use Rattle.iteration.specs.Iteration.{Code, degree, Run, runOf}
+use Rattle.iteration.specs.CheckLaws.{wrote-other, within-at}
+use Rattle.simd.specs.Words.{wordOf}
+use Rattle.fixed_layered.specs.Full.{fullOf}
+use Rattle.iteration.specs.Full.{Full, placeOf, tSent, oldSent, partFull}
+use Rattle.fixed_layered.specs.Order.{laid-at, place-ends}
+use Rattle.iteration.specs.InTurn.{before}
+use Rattle.iteration.specs.Once.{Order}
 
 -- ---- rows written one after the other, of E
 wrote-base : (u : ℕ → ℕ) (x f g : ℕ → ℤ) (d e : ℕ) → f e ≡ g e → wrote u x f d e ≡ wrote u x g d e
@@ -31,15 +34,15 @@ within-wrote E p d x f g h is = λ i e. go e (ltb e E) refl i
         sym (wrote-other (λ k. p + k) x (within E f) d e (λ k q y. omega (arith, ltb-false e E s)) ∙ ap (λ (b : Bool). cond b (f e) (pos 0)) s)
 
 -- ---- what a column holds of the edges of a run whose messages are sent
-pub record Ready (n E : ℕ) (code : Code) (c : ℕ → ℕ) (m : ℕ) (w : Run) (f : ℕ → ℤ) : Type 0 where
+pub record Sent (n E : ℕ) (code : Code) (c : ℕ → ℕ) (m : ℕ) (w : Run) (f : ℕ → ℤ) : Type 0 where
   pub t-is : (x k : ℕ) → x < m → k < degree code (c x) → f (n + E + (placeOf code c x + k)) ≡ satZ (w .L (code .rows (code .row-start (c x) + k)) -ℤ w .old (code .row-start (c x) + k))
   pub old-is : (x k : ℕ) → x < m → k < degree code (c x) → f (n + 2 * E + (placeOf code c x + k)) ≡ w .old (code .row-start (c x) + k)
   pub new-is : (x k : ℕ) → x < m → k < degree code (c x) → f (n + (code .row-start (c x) + k)) ≡ w .new (code .row-start (c x) + k)
 
-pub ready : {n E : ℕ} {code : Code} {c : ℕ → ℕ} {m : ℕ} (sh : ℕ → Bool) (o : ℤ) (f : ℕ → ℤ) (w : Full) → Order code c m E n → fullOf n E f ≡ partFull o code c sh m w
-    → Ready n E code c m (runOf o code c m (w .word)) f
+pub sent : {n E : ℕ} {code : Code} {c : ℕ → ℕ} {m : ℕ} (sh : ℕ → Bool) (o : ℤ) (f : ℕ → ℤ) (w : Full) → Order code c m E n → fullOf n E f ≡ partFull o code c sh m w
+    → Sent n E code c m (runOf o code c m (w .word)) f
 unfolding tOf wordOf
-ready {n} {E} {code} {c} {m} sh o f w ord is =
+sent {n} {E} {code} {c} {m} sh o f w ord is =
     record {
       t-is =
           λ x k h q. sym (within-at E (λ e. f (n + E + e)) (placeOf code c x + k) (omega (arith, place-ends ord x h)))

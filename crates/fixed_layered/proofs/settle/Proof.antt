@@ -1,4 +1,4 @@
--- `fixed_delta::settle` meets its contract. Assumes nothing.
+-- `fixed_layered::settle` meets its contract. Assumes nothing.
 use borrow.Author.Needs.{needs}
 use native.Mathlib.Omega.{arith}
 use mathlib.Core.Path.{_≡_, refl, ap, _∙_}
@@ -9,10 +9,10 @@ use borrow.Author.Needs.{sfits-of}
 use mir.Syntax.{w32}
 use mir.ValLaws.{toZ-ofZ}
 use Rattle.laws.specs.Signed.{plain}
-use Rattle.lane_math.specs.Value.{satZ}
-use Rattle.fixed_delta.specs.Gather.{Settled, settled-start, settled-again, settled-end}
-use Rattle.fixed_delta.proofs.settle.Statement.{statement}
-use Rattle.fixed_delta.proofs.settle.Tie as tie
+use Rattle.iteration.specs.Value.{satZ}
+use Rattle.fixed_layered.specs.Sums.{Settled, settled-start, settled-again, settled-end}
+use Rattle.fixed_layered.proofs.settle.Statement.{statement}
+use Rattle.fixed_layered.proofs.settle.Tie as tie
 
 abbrev Inv-loop : tie.InvT-loop
 Inv-loop work₀ u lanes sums at i₀ work i = (i ≤ lanes) × ((length work ≡ length work₀) × Settled lanes u at sums work₀ i work)
