@@ -1,6 +1,6 @@
 -- Elements of the fields of 2 ^ suc n elements as numbers: digit i is the coefficient of α^i, xor the sum. `poly` is α^(suc n).
 use Prim.Native.Nat.{ℕ, zero, suc, _*_, _/_, _%_, _^_, _<_}
-use Rattle.laws.specs.Xor.{_⊕_}
+use Rattle.laws.specs.Definitions.{_⊕_}
 
 abbrev pub El : ℕ → Type 0
 El n = (x : ℕ) × (x < 2 ^ suc n)

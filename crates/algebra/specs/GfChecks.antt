@@ -10,7 +10,8 @@ use native.Mathlib.Omega.{arith}
 use lib.Dec.{T, eqb, eqb→eq}
 use lib.Pow.{pow-lt}
 use Rattle.laws.specs.Tests.{below, below-at}
-use Rattle.laws.specs.Xor.{_⊕_, ⊕-self, ⊕-zero, ⊕-half, ⊕-odd, ⊕-double, ⊕-swap, bit-mul, two-cases, two-pos, span}
+use Rattle.laws.specs.Xor.{⊕-self, ⊕-zero, ⊕-half, ⊕-odd, ⊕-double, ⊕-swap, bit-mul, two-cases, two-pos, span}
+use Rattle.laws.specs.Definitions.{_⊕_}
 use Rattle.algebra.specs.RingLaws.{sqs, sqs-add, sqs-mul, sqs-zero, sqs-one, square-add}
 use Rattle.algebra.specs.Gf.{El, mul}
 use Rattle.algebra.specs.GfLaws.{el-path, mul-two, mul-zero-l}

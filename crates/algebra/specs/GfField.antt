@@ -8,7 +8,8 @@ use native.Mathlib.Bridge.{le-prop}
 use native.Mathlib.Decide.{ℕ-discrete}
 use native.Mathlib.Omega.{arith}
 use lib.Pow.{pow-pos, pow-lt}
-use Rattle.laws.specs.Xor.{_⊕_, ⊕-assoc, ⊕-comm, ⊕-self, ⊕-zero, ⊕-lt}
+use Rattle.laws.specs.Xor.{⊕-assoc, ⊕-comm, ⊕-self, ⊕-zero, ⊕-lt}
+use Rattle.laws.specs.Definitions.{_⊕_}
 use Rattle.algebra.specs.Ring.{Ring, Field}
 use Rattle.algebra.specs.RingLaws.{sqs, ones-power, fermat-inverse}
 use Rattle.algebra.specs.Gf.{El, mul}

@@ -6,7 +6,8 @@ use native.Mathlib.Nat.{not-suc-le-zero, le-of-suc-le-suc, mod-lt, pow-suc, one-
 use native.Mathlib.Bridge.{le-prop}
 use native.Mathlib.Omega.{arith}
 use lib.Pow.{pow-pos, pow-lt}
-use Rattle.laws.specs.Xor.{_⊕_, ⊕-self, ⊕-zero, zero-⊕, ⊕-lt, ⊕-div, ⊕-mod, ⊕-half, ⊕-odd, ⊕-double, ⊕-swap, bit-mul, two-cases, two-pos, span}
+use Rattle.laws.specs.Xor.{⊕-self, ⊕-zero, zero-⊕, ⊕-lt, ⊕-div, ⊕-mod, ⊕-half, ⊕-odd, ⊕-double, ⊕-swap, bit-mul, two-cases, two-pos, span}
+use Rattle.laws.specs.Definitions.{_⊕_}
 use Rattle.algebra.specs.Gf.{xt, mulN, mul}
 
 -- equal numbers are equal elements

@@ -4,8 +4,9 @@ use Prim.Native.Nat.{ℕ, zero, suc, _+_, _*_, _/_, _%_, _^_, _≤_, _<_}
 use native.Mathlib.Nat.{not-suc-le-zero, le-of-suc-le-suc, mod-lt, zero-mul, one-mul, le-refl, mul-div-cancel, mul-mod-left, div-one}
 use native.Mathlib.Omega.{arith}
 use lib.Arith.{lt-one}
-use Rattle.laws.specs.Xor.{_⊕_, ⊕-half, ⊕-odd, two-cases, two-pos}
-use Rattle.laws.specs.Poly.{clmul, rem, quo, deeper, half-down, division, rem-lt}
+use Rattle.laws.specs.Xor.{⊕-half, ⊕-odd, two-cases, two-pos}
+use Rattle.laws.specs.Definitions.{_⊕_, clmul, rem}
+use Rattle.laws.specs.Poly.{quo, deeper, half-down, division, rem-lt}
 use Rattle.algebra.specs.Ring.{Ring, Field}
 use Rattle.algebra.specs.RingLaws.{zero-⊞, one-⊠, ⊠-zero, zero-⊠, ⊞-swap, ⊠-swap, dist-⊠, square-add}
 use Rattle.algebra.specs.Series.{eval, bit, ev}

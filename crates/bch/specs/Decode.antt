@@ -7,7 +7,7 @@ use mathlib.Core.List.{List, [], _∷_}
 use Prim.Native.Nat.{ℕ, _+_}
 use native.Mathlib.Decide.{ℕ-discrete, decLe}
 use lib.ListN.{length}
-use Rattle.laws.specs.Xor.{_⊕_}
+use Rattle.laws.specs.Definitions.{_⊕_}
 use Rattle.algebra.specs.Series.{pow, ev, zeros}
 use Rattle.algebra.specs.Massey.{shortest-exists}
 use Rattle.algebra.specs.Register.{Shortest}

@@ -6,7 +6,8 @@ use native.Mathlib.Nat.{not-suc-le-zero, le-of-suc-le-suc, le-of-lt, pow-suc, mo
 use native.Mathlib.Omega.{arith}
 use lib.Dec.{T, eqb, eqb→eq, ltb, ltb→lt, lit<}
 use lib.Bits.{bitAnd, bitXor, and-mask}
-use Rattle.laws.specs.Xor.{_⊕_, ⊕-zero, ⊕-div, ⊕-mod, ⊕-swap, span}
+use Rattle.laws.specs.Xor.{⊕-zero, ⊕-div, ⊕-mod, ⊕-swap, span}
+use Rattle.laws.specs.Definitions.{_⊕_}
 use Rattle.laws.specs.Poly.{⊕-shift}
 use Rattle.laws.specs.Tests.{below, below-at}
 use Rattle.algebra.specs.Ring.{Ring}

@@ -10,7 +10,8 @@ use lib.Bits.{bitXor}
 use lib.Pow.{shr-shr}
 use lib.ListN.{getD, length, set, length-set, replicate}
 use lib.Seq.{getD-set-same, getD-set-other}
-use Rattle.laws.specs.Xor.{_⊕_, ⊕-lt, two-cases, two-pos}
+use Rattle.laws.specs.Xor.{⊕-lt, two-cases, two-pos}
+use Rattle.laws.specs.Definitions.{_⊕_}
 use Rattle.algebra.specs.RingLaws.{one-⊠, ⊠-zero, zero-⊞}
 use Rattle.algebra.specs.Series.{pow, bit, ev}
 use Rattle.algebra.specs.SeriesLaws.{pow-add}

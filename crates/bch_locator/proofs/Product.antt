@@ -7,8 +7,9 @@ use native.Mathlib.Numerals.{add-one}
 use native.Mathlib.Omega.{arith}
 use lib.Pow.{pow-pos, pow-mono, field, shr-shr, shl-shr}
 use lib.Bits.{bitXor}
-use Rattle.laws.specs.Xor.{_⊕_, ⊕-comm, two-pos}
-use Rattle.laws.specs.Poly.{clmul, clmul-degree}
+use Rattle.laws.specs.Xor.{⊕-comm, two-pos}
+use Rattle.laws.specs.Definitions.{_⊕_, clmul}
+use Rattle.laws.specs.Poly.{clmul-degree}
 use Rattle.algebra.specs.Values.{ev-clmul}
 use Rattle.algebra.specs.Series.{ev}
 use Rattle.gf16.specs.Field16.{R16, α}

@@ -9,7 +9,7 @@ use lib.Dec.{T, eqb, eqb→eq}
 use lib.Bits.{xor-shifted}
 use lib.Pow.{pow-mono}
 use lib.ListN.{getD, length, List·getD-eq-default}
-use Rattle.laws.specs.Xor.{_⊕_}
+use Rattle.laws.specs.Definitions.{_⊕_}
 use Rattle.laws.specs.Tests.{below, below-at}
 use Rattle.algebra.specs.Ring.{Ring}
 use Rattle.algebra.specs.Series.{pow, ev}

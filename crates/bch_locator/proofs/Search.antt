@@ -10,7 +10,7 @@ use native.Mathlib.Omega.{arith}
 use lib.Bits.{bitXor}
 use lib.ListN.{getD, length, set, length-set, replicate}
 use lib.Seq.{getD-set-other}
-use Rattle.laws.specs.Xor.{_⊕_}
+use Rattle.laws.specs.Definitions.{_⊕_}
 use Rattle.algebra.specs.Ring.{Ring}
 use Rattle.algebra.specs.RingLaws.{⊠-zero, ⊠-lc, ⊞-cancel, one-⊠}
 use Rattle.algebra.specs.Series.{pow, ev, zeros}

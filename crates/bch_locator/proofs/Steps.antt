@@ -10,7 +10,7 @@ use native.Mathlib.Omega.{arith}
 use lib.Bits.{bitXor}
 use lib.ListN.{getD, length, set, List·getD-eq-default}
 use lib.Seq.{getD-set-same, getD-set-other}
-use Rattle.laws.specs.Xor.{_⊕_}
+use Rattle.laws.specs.Definitions.{_⊕_}
 use Rattle.algebra.specs.RingLaws.{⊠-zero}
 use Rattle.algebra.specs.Series.{conv}
 use Rattle.algebra.specs.SeriesLaws.{sum, sum-none, sum-last, unit}

@@ -5,7 +5,8 @@ use Prim.Native.Nat.{ℕ, _%_, _<_}
 use native.Mathlib.Nat.{mod-lt, mod-eq-of-lt}
 use lib.Dec.{lit<}
 use lib.ListN.{getD}
-use Rattle.laws.specs.Xor.{_⊕_, ⊕-mod}
+use Rattle.laws.specs.Xor.{⊕-mod}
+use Rattle.laws.specs.Definitions.{_⊕_}
 use Rattle.algebra.specs.Gf.{mul, El}
 use Rattle.algebra.specs.GfLaws.{mul-lt, el-path}
 use Rattle.algebra.specs.GfField.{gf-ring, gf-field}

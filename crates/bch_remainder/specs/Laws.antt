@@ -8,8 +8,9 @@ use native.Mathlib.Omega.{arith}
 use lib.Arith.{digits-lt}
 use lib.ListN.{length, getD, length-append}
 use lib.Pow.{pow-add, pow-pos, high, pow-mono, shl-lt, mod-pow-add}
-use Rattle.laws.specs.Xor.{_⊕_, ⊕-lt, ⊕-self, zero-⊕, two-pos}
-use Rattle.laws.specs.Poly.{rem, rem-lt, rem-add, rem-small, rem-digits, rem-shift, ⊕-join, ⊕-shift, divides-rem, rem-divides}
+use Rattle.laws.specs.Xor.{⊕-lt, ⊕-self, zero-⊕, two-pos}
+use Rattle.laws.specs.Definitions.{_⊕_, rem}
+use Rattle.laws.specs.Poly.{rem-lt, rem-add, rem-small, rem-digits, rem-shift, ⊕-join, ⊕-shift, divides-rem, rem-divides}
 use Rattle.bch_table.specs.Generator.{generator}
 use Rattle.bch_table.specs.GeneratorLaws.{generator-top}
 use Rattle.bch_table.specs.Step.{stepOf}

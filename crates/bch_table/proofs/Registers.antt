@@ -12,8 +12,9 @@ use lib.Arith.{lt-one}
 use lib.ListN.{length, getD, length-append, length-map, List·getD-append}
 use lib.Seq.{getD-append-add}
 use lib.Pow.{pow-mono, pow-lt, shl-lt}
-use Rattle.laws.specs.Xor.{_⊕_, two-pos}
-use Rattle.laws.specs.Poly.{rem, into, shifted, rem-zero, rem-add, rem-digits, ⊕-join, ⊕-shift}
+use Rattle.laws.specs.Xor.{two-pos}
+use Rattle.laws.specs.Definitions.{_⊕_, rem, into, shifted}
+use Rattle.laws.specs.Poly.{rem-zero, rem-add, rem-digits, ⊕-join, ⊕-shift}
 use Rattle.bch_table.specs.Generator.{generator}
 use Rattle.bch_table.specs.GeneratorLaws.{generator-is}
 use Rattle.bch_table.specs.Table.{timesPower, wordOf, tableFrom, byteTable}

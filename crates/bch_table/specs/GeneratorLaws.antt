@@ -1,8 +1,8 @@
 -- The generator multiplied out, and its degree.
 use mathlib.Core.Path.{_≡_, refl, ap}
 use Prim.Native.Nat.{ℕ, _/_, _^_, _<_}
-use Rattle.laws.specs.Xor.{_⊕_}
-use Rattle.laws.specs.Poly.{clmul, degree-lt}
+use Rattle.laws.specs.Definitions.{_⊕_, clmul}
+use Rattle.laws.specs.Poly.{degree-lt}
 use Rattle.bch_table.specs.Generator.{masks, product, generator}
 
 pub generator-is : generator ≡ 0x13b92f15b3078b68d77aa6c59656e8a4cfba9211137981c4b

@@ -5,7 +5,7 @@ use Prim.Native.Nat.{ℕ, zero, suc, _+_, _*_, _/_, _%_, _^_, _<_}
 use native.Mathlib.Nat.{not-suc-le-zero, le-of-suc-le-suc, add-zero, zero-add, add-suc, suc-add}
 use native.Mathlib.Omega.{arith}
 use lib.ListN.{length, getD}
-use Rattle.laws.specs.Poly.{rem}
+use Rattle.laws.specs.Definitions.{rem}
 use Rattle.bch_table.specs.Generator.{generator}
 
 -- t(x) times x^e mod g, for a byte t. The table's exponent is 192

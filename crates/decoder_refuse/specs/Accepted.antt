@@ -6,7 +6,7 @@ use Prim.Native.Nat.{ℕ, zero, suc, _+_, _*_, _/_, _%_, _≤_, _<_}
 use native.Mathlib.Omega.{arith}
 use borrow.Author.Tests.{eqb-true, eqb-false, ltb-false, not-false}
 use lib.Dec.{eqb, ltb}
-use Rattle.laws.specs.Lists.{or-left, or-right}
+use Rattle.laws.specs.Choice.{or-left, or-right}
 use Rattle.ldpc_shape.specs.Shape.{pOf, eOf}
 use Rattle.ldpc_shape.specs.Shape as shape
 use Rattle.ldpc_shape.specs.Accepted as code

@@ -6,20 +6,20 @@ use Prim.Native.Nat.{ℕ}
 use native.Mathlib.Decide.{ℕ-discrete}
 use native.Mathlib.Omega.{arith}
 use lib.ListN.{length}
-use Rattle.laws.specs.Xor.{_⊕_}
-use Rattle.laws.specs.Poly.{rem, rem-zero}
+use Rattle.laws.specs.Definitions.{_⊕_, rem}
+use Rattle.laws.specs.Poly.{rem-zero}
 use Rattle.algebra.specs.Gf.{mul, mulN, xt}
 use Rattle.algebra.specs.Series.{pow}
 use Rattle.algebra.specs.GfField.{gf-ring, gf-field}
 use Rattle.bch_table.specs.Generator.{generator}
-use Rattle.gf16.specs.Field16.{gf16}
-use Rattle.gf16.specs.Alpha.{R16, α}
+use Rattle.gf16.specs.Field16.{gf16, R16, α}
 use Rattle.bch_remainder.specs.Word.{number, number-from, remainderOf, Codeword}
 use Rattle.bch_remainder.specs.Laws.{remainder-codeword}
 use Rattle.bch.specs.Distance.{distance, lowBits}
 use Rattle.bch.specs.Decode.{answerOf, leftOf}
-use Rattle.bch.specs.Exact.{up-to-12}
-use Rattle.bch.specs.Answers.{wordRefusal, decodedOf, wordOut, short-word, fair-word, changed}
+use Rattle.bch.specs.ExactLaws.{up-to-12}
+use Rattle.bch.specs.Answers.{wordRefusal, decodedOf, wordOut}
+use Rattle.bch.specs.AnswersLaws.{short-word, fair-word, changed}
 use Rattle.bch.specs.declared.Decoded.the-variants.{Corrected, Refused}
 use Rattle.examples.specs.Inputs.{zeros, first-set}
 

@@ -3,8 +3,8 @@ use mathlib.Core.List.{List, [], _∷_}
 use Prim.Native.Nat.{ℕ, _+_}
 use lib.IntN.{ℤ, pos, negsuc}
 use lib.ListN.{getD, replicate}
-use Rattle.lane_math.specs.Check.{Word, check}
-use Rattle.lane_math.specs.Iteration.{Code, run}
+use Rattle.iteration.specs.Check.{Word, check}
+use Rattle.iteration.specs.Iteration.{Code, run}
 
 -- one row with the address 0
 abbrev pub row0 : List ℕ

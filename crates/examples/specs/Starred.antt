@@ -4,17 +4,17 @@ use mathlib.Core.List.{List, [], _∷_}
 use Prim.Native.Nat.{ℕ}
 use lib.IntN.{pos, negsuc}
 use lib.ListN.{length, replicate}
-use Rattle.laws.specs.Put.{put}
+use Rattle.laws.specs.Definitions.{put}
 use Rattle.algebra.specs.Series.{pow}
-use Rattle.gf16.specs.Alpha.{R16, α}
+use Rattle.gf16.specs.Field16.{R16, α}
 use Rattle.ldpc_shape.specs.Shape.{kOf, pOf, qOf, eOf, rowsOf, total, anyOver, countMod, countsMod, badLength, codeRefusal}
 use Rattle.ldpc_edges.specs.Code.{met, ofBits, ofRows, meets, only, stairs, check, flip, flips, sums, parity}
 use Rattle.ldpc_edges.specs.Modulo.{mods, check-mods, parity-mods}
 use Rattle.ldpc.specs.declared.Made.the-variants as made
 use Rattle.ldpc.specs.Answers.{orElse, shortOf, newRefusal, newAnswer}
-use Rattle.lane_math.specs.Value.{magnitude}
-use Rattle.lane_math.specs.Check.{min1, min2, first, others, message, wrote, tOf, newR, newL}
-use Rattle.lane_math.specs.Iteration.{gather, settle, nothing}
+use Rattle.iteration.specs.Value.{magnitude}
+use Rattle.iteration.specs.Check.{min1, min2, first, others, message, wrote, tOf, newR, newL}
+use Rattle.iteration.specs.Iteration.{gather, settle, nothing}
 use Rattle.bch.specs.Distance.{lowBits}
 use Rattle.bch.specs.Answers.{decodedOf, wordOut}
 use Rattle.bch.specs.declared.Decoded.the-variants.{Corrected, Refused}

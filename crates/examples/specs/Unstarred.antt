@@ -3,9 +3,9 @@
 use mathlib.Core.Path.{_≡_, refl}
 use mathlib.Core.List.{[], _∷_}
 use lib.IntN.{pos, negsuc}
-use Rattle.laws.specs.Put.{put}
-use Rattle.lane_math.specs.Check.{check, min1, min2, first, others, message, wrote, tOf, newR, newL}
-use Rattle.lane_math.specs.Iteration.{gather, settle, nothing, runR, gatherEdge, gatherCheck, gatherRun, run, unsatisfied, negatives}
+use Rattle.laws.specs.Definitions.{put}
+use Rattle.iteration.specs.Check.{check, min1, min2, first, others, message, wrote, tOf, newR, newL}
+use Rattle.iteration.specs.Iteration.{gather, settle, nothing, runR, gatherEdge, gatherCheck, gatherRun, run, unsatisfied, negatives}
 use Rattle.examples.specs.Inputs.{fresh, checked, three, shared, two, twice}
 
 pub record Unstarred : Type 0 where

@@ -10,7 +10,7 @@ use lib.ListN.{getD, set, length, take, drop, length-set}
 use lib.Seq.{getD-set-other}
 use Rattle.laws.specs.Stores.{grown-at}
 use Rattle.ldpc_shape.specs.Shape.{qOf, total, countMod}
-use Rattle.ldpc_shape.specs.Counts.{Counted}
+use Rattle.ldpc_shape.specs.Counts.{CountsBelow}
 use Rattle.ldpc_shape.specs.Accepted.{Accepted, few}
 use Rattle.fixed_conflicts.specs.Table.{spansLength, spanAt}
 use Rattle.fixed_conflicts.specs.Edges.{rowOf}
@@ -65,7 +65,7 @@ kept {table} {counts} {g} v h l a b = let z : h * 120 ≤ g * 120 = mul-le-mul-r
 
 pub begun-again : {q : ℕ} {lens addrs : List ℕ} {g at : ℕ} {table table′ : List ℕ} (to : ℕ) (counts : List ℕ) → Begun q lens addrs g at table → q ≤ 120
     → g < length lens → to ≡ at + getD lens g 0
-    → Counted counts q (take (to - at) (drop at addrs)) → NextRow table counts g q table′ → Begun q lens addrs (g + 1) to table′
+    → CountsBelow counts q (take (to - at) (drop at addrs)) → NextRow table counts g q table′ → Begun q lens addrs (g + 1) to table′
 begun-again {q} {lens} {addrs} {g} {at} {table} {table′} to counts w few h e count v =
     record {
       long = v .long ∙ w .long;
@@ -93,7 +93,7 @@ module _ {n : ℕ} {lens addrs : List ℕ} (A : Accepted n lens addrs) {q g at :
   pub begun-few : (l : ℕ) → l < q → spanAt table l g ≤ 126
   begun-few l h = omega (arith, w .rows g l (omega arith) h, span-within q l lens addrs g, few-of l h)
 
-  pub begun-small : (to : ℕ) (counts : List ℕ) → g < length lens → to ≡ at + getD lens g 0 → Counted counts q (take (to - at) (drop at addrs)) → (l : ℕ) → l < q
+  pub begun-small : (to : ℕ) (counts : List ℕ) → g < length lens → to ≡ at + getD lens g 0 → CountsBelow counts q (take (to - at) (drop at addrs)) → (l : ℕ) → l < q
       → spanAt table l g + getD counts l 0 ≤ 255
   begun-small to counts h e count l i =
       let z : to - at ≡ getD lens g 0 = omega arith in

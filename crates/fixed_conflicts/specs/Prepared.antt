@@ -6,7 +6,7 @@ use Prim.Native.Nat.{ℕ, _*_, _/_, _<_}
 use native.Mathlib.Omega.{arith}
 use lib.ListN.{length}
 use Rattle.ldpc_shape.specs.declared.Sizes.{Sizes}
-use Rattle.ldpc_shape.specs.Shape.{kOf, qOf, refusalOf, sizesOf}
+use Rattle.ldpc_shape.specs.Shape.{kOf, qOf, codeRefusal, sizesOf}
 use Rattle.ldpc_shape.specs.Accepted.{accepted, Bounded, bounded}
 use Rattle.ldpc_edges.specs.Code.{edgeLists}
 use Rattle.iteration.specs.Lists.{edgesIn, codeIn}
@@ -27,7 +27,7 @@ pub record Prepared (of : Sizes) (lists table : List ℕ) : Type 0 where
       → Shares (of .n) (of .q) (codeIn (of .p) lists) l 374 l table flags
 
 -- the lists and the table of an accepted code
-pub prepared : (n : ℕ) (lens addrs lists table : List ℕ) (of : Sizes) → refusalOf n lens addrs ≡ 0 → of ≡ sizesOf n lens addrs → lists ≡ edgeLists n lens addrs → Spanned n lens addrs table
+pub prepared : (n : ℕ) (lens addrs lists table : List ℕ) (of : Sizes) → codeRefusal n lens addrs ≡ 0 → of ≡ sizesOf n lens addrs → lists ≡ edgeLists n lens addrs → Spanned n lens addrs table
     → Prepared of lists table
 unfolding kOf
 prepared n lens addrs lists table of accept sizes is w =

@@ -7,7 +7,7 @@ use native.Mathlib.Omega.{arith}
 use lib.Dec.{T, eqb, ltb}
 use lib.ListN.{getD, set, length, replicate, length-set}
 use lib.Seq.{getD-set-same, getD-set-other}
-use Rattle.laws.specs.Lists.{or-left, or-right}
+use Rattle.laws.specs.Choice.{or-left, or-right}
 use Rattle.laws.specs.Stores.{set-each, grown}
 use Rattle.iteration.specs.Iteration.{Code, degree}
 use Rattle.iteration.specs.Once.{sharedIn, Once}

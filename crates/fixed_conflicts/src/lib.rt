@@ -3,7 +3,7 @@ ghost use mathlib.Core.Path.{_≡_};
 ghost use mathlib.Core.Bool.{_||_};
 ghost use Prim.Native.Nat.{ℕ, _<_, _≤_, _+_, _*_};
 ghost use lib.ListN.{getD, length};
-ghost use Rattle.ldpc_shape.specs.Shape.{refusalOf, sizesOf};
+ghost use Rattle.ldpc_shape.specs.Shape.{codeRefusal, sizesOf};
 ghost use Rattle.fixed_conflicts.specs.Table.{spansLength, Flagged};
 ghost use Rattle.fixed_conflicts.specs.Conflicts.{Spanned};
 ghost use Rattle.fixed_conflicts.specs.Marks.{NextRow};
@@ -37,7 +37,7 @@ fn advance(table: &mut [u8], counts: &[u32; 120], g: usize, q: usize)
 
 // Where the rows of an accepted code begin in the checks of each layer.
 pub fn spans(of: Sizes, lens: &[u32], addrs: &[u16], table: &mut [u8])
-    requires { ⌜ (refusalOf (of .n) (now lens) (now addrs) ≡ 0) × (of ≡ sizesOf (of .n) (now lens) (now addrs)) ⌝ }
+    requires { ⌜ (codeRefusal (of .n) (now lens) (now addrs) ≡ 0) × (of ≡ sizesOf (of .n) (now lens) (now addrs)) ⌝ }
     requires { ⌜ (length (now table) ≡ spansLength) × ((l : ℕ) → l < 120 → getD (now table) l 0 ≡ 0) ⌝ }
     ensures { λ _. ⌜ Spanned (of .n) (now (lens .entry)) (now (addrs .entry)) (now (table .exit)) ⌝ }
 {

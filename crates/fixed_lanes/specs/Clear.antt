@@ -11,7 +11,8 @@ use lib.Dec.{ltb}
 use lib.ListN.{getD}
 use lib.IntN.{ℤ, pos}
 use Rattle.laws.specs.Choice.{by-cond, by-bool}
-use Rattle.laws.specs.Put.{put, put-same, put-other, put-self}
+use Rattle.laws.specs.Put.{put-same, put-other, put-self}
+use Rattle.laws.specs.Definitions.{put}
 use Rattle.lane16.specs.Column.{column}
 use Rattle.simd.specs.Words.{wordOf, word}
 use Rattle.iteration.specs.Check.{within}

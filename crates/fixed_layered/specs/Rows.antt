@@ -12,7 +12,7 @@ use lib.ListN.{getD, set, length}
 use lib.Seq.{getD-set-same, getD-set-other}
 use lib.IntN.{ℤ, natAbs}
 use Rattle.laws.specs.Choice.{eqb-sym}
-use Rattle.laws.specs.Put.{put}
+use Rattle.laws.specs.Definitions.{put}
 use Rattle.iteration.specs.Value.{satZ}
 use Rattle.iteration.specs.Check.{wrote}
 use Rattle.iteration.specs.Iteration.{Code, degree, Sum, gather}

@@ -6,7 +6,7 @@ use native.Mathlib.Omega.{arith}
 use borrow.Author.Tests.{ltb-true, ltb-false}
 use lib.Dec.{eqb, ltb}
 use lib.IntN.{ℤ, pos, _-ℤ_}
-use Rattle.laws.specs.Put.{put}
+use Rattle.laws.specs.Definitions.{put}
 use Rattle.iteration.specs.Value.{satZ}
 use Rattle.iteration.specs.Check.{wrote, tOf, within}
 use Rattle.iteration.specs.Iteration.{Code, degree, Run, runOf}

@@ -8,7 +8,7 @@ use native.Mathlib.Decide.{ℕ-discrete}
 use lib.ListN.{set, length, length-set}
 use lib.Seq.{getD-set-other}
 use lib.IntN.{ℤ, pos, natAbs, _+ℤ_, _-ℤ_}
-use Rattle.laws.specs.Put.{put}
+use Rattle.laws.specs.Definitions.{put}
 use Rattle.laws.specs.Stores.{grown-at}
 use Rattle.iteration.specs.Value.{satZ}
 use Rattle.lane16.specs.Lanes.{intAt}

@@ -8,7 +8,7 @@ ghost use mathlib.Core.Bool.{cond, true, false};
 ghost use Prim.Native.Nat.{ℕ, _<_, _≤_, _+_, _*_, _-_, min};
 ghost use lib.ListN.{getD, length};
 ghost use lib.IntN.{natAbs, _+ℤ_, _-ℤ_};
-ghost use Rattle.laws.specs.Signed.{minZ, maxZ};
+ghost use Rattle.laws.specs.Definitions.{minZ, maxZ};
 ghost use Rattle.iteration.specs.Value.{satZ};
 ghost use Rattle.iteration.specs.Iteration.{runCount};
 ghost use Rattle.lane16.specs.Column.{column};

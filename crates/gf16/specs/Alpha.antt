@@ -5,7 +5,7 @@ use mathlib.Core.Bool.{Bool}
 use Prim.Native.Nat.{ℕ, suc, _-_, _*_, _/_, _%_, _≤_, _<_}
 use native.Mathlib.Omega.{arith}
 use lib.Dec.{T, eqb, eqb-refl, lit<}
-use Rattle.laws.specs.Xor.{_⊕_}
+use Rattle.laws.specs.Definitions.{_⊕_}
 use Rattle.algebra.specs.Gf.{mul, mulN, xt, El}
 use Rattle.algebra.specs.Series.{pow}
 use Rattle.algebra.specs.Power.{digit, fast, fast-pow, misses, order-part}

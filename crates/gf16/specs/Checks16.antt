@@ -4,7 +4,7 @@ use mathlib.Core.Logic.{_⊎_}
 use mathlib.Core.List.{List, [], _∷_}
 use Prim.Native.Nat.{ℕ}
 use lib.Dec.{T, lit<}
-use Rattle.laws.specs.Xor.{_⊕_}
+use Rattle.laws.specs.Definitions.{_⊕_}
 use Rattle.laws.specs.Tests.{below}
 use Rattle.algebra.specs.Ring.{Ring}
 use Rattle.algebra.specs.RingLaws.{sqs}

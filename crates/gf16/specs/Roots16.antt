@@ -11,9 +11,9 @@ use lib.Dec.{T, ltb, ltb→lt, eqb, eqb→eq, eqb-refl, T-not, lit<}
 use lib.Ieee.Fits.{and-l, and-r}
 use lib.ListN.{getD, length}
 use lib.Pow.{pow-mono}
-use Rattle.laws.specs.Xor.{_⊕_}
+use Rattle.laws.specs.Definitions.{_⊕_, clmul, rem}
 use Rattle.laws.specs.Tests.{below, below-at}
-use Rattle.laws.specs.Poly.{clmul, rem, quo, division, rem-lt}
+use Rattle.laws.specs.Poly.{quo, division, rem-lt}
 use Rattle.bch_table.specs.Generator.{masks, product, generator}
 use Rattle.bch_table.specs.Digits.{product-lt}
 use Rattle.bch_table.specs.GeneratorLaws.{generator-lt, generator-top}

@@ -4,7 +4,7 @@ use mathlib.Core.Path.{_≡_, refl}
 use mathlib.Core.List.{List, [], _∷_}
 use lib.ListN.{getD}
 use lib.IntN.{ℤ, pos, negsuc}
-use Rattle.laws.specs.Put.{put}
+use Rattle.laws.specs.Definitions.{put}
 use Rattle.iteration.specs.Value.{magnitude}
 use Rattle.iteration.specs.Check.{Word, check, min1, min2, first, others, message, wrote, tOf, newR, newL}
 use Rattle.iteration.specs.Iteration.{Code, gather, settle, nothing, runR, gatherEdge, gatherCheck, gatherRun, run, unsatisfied, negatives}

@@ -3,8 +3,7 @@ use Prim.Native.Nat.{ℕ, zero, suc, _+_, min}
 use mathlib.Core.Bool.{Bool, false, cond}
 use lib.Dec.{ltb, eqb}
 use lib.IntN.{ℤ, pos, _+ℤ_, _-ℤ_}
-use Rattle.laws.specs.Signed.{negative, times}
-use Rattle.laws.specs.Put.{put}
+use Rattle.laws.specs.Definitions.{negative, times, put}
 use Rattle.iteration.specs.Value.{satZ, magnitude, reduced, signed}
 
 -- Of the first n edges' t: min1 and min2 start at 127 and become the two smallest;

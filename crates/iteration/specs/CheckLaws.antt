@@ -9,9 +9,9 @@ use borrow.Author.Count.{below-more}
 use borrow.Author.Tests.{ltb-true, lt-ltb, eqb-true}
 use lib.Dec.{ltb, eqb}
 use lib.IntN.{ℤ, pos}
-use Rattle.laws.specs.Signed.{negative, times}
+use Rattle.laws.specs.Definitions.{negative, times, put}
 use Rattle.laws.specs.Choice.{by-bool}
-use Rattle.laws.specs.Put.{put, put-same, put-other}
+use Rattle.laws.specs.Put.{put-same, put-other}
 use Rattle.iteration.specs.Value.{magnitude, signed, reduced}
 use Rattle.iteration.specs.Check.{min1, min2, first, others, message, wrote, within}
 

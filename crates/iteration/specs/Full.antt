@@ -3,7 +3,7 @@
 use mathlib.Core.Bool.{Bool, cond}
 use Prim.Native.Nat.{ℕ, zero, suc, _+_}
 use lib.IntN.{ℤ, _+ℤ_}
-use Rattle.laws.specs.Put.{put}
+use Rattle.laws.specs.Definitions.{put}
 use Rattle.iteration.specs.Value.{satZ}
 use Rattle.iteration.specs.Check.{Word, message, wrote, tOf, newR}
 use Rattle.iteration.specs.Iteration.{Code, degree, gatherRun, settle, runOf, runR}

@@ -8,7 +8,7 @@ use borrow.Author.Tests.{eqb-true, ne-eqb}
 use lib.Dec.{eqb}
 use lib.IntN.{ℤ, pos, _+ℤ_, _-ℤ_}
 use Rattle.laws.specs.Choice.{eqb-sym}
-use Rattle.laws.specs.Put.{put}
+use Rattle.laws.specs.Definitions.{put}
 use Rattle.iteration.specs.Value.{satZ}
 use Rattle.iteration.specs.Check.{Word, check, message, wrote, tOf, newL, newR}
 use Rattle.iteration.specs.Iteration.{Code, degree, Run, Sum, nothing, gather, gatherEdge, gatherCheck, gatherRun, settle, run, runOf, runR, inTurn}

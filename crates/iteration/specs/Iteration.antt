@@ -3,7 +3,7 @@ use Prim.Native.Nat.{ℕ, zero, suc, _+_, _*_, _-_, _/_, _%_, min}
 use mathlib.Core.Bool.{Bool, true, false, cond}
 use lib.Dec.{eqb}
 use lib.IntN.{ℤ, pos, _+ℤ_, _-ℤ_}
-use Rattle.laws.specs.Signed.{negative}
+use Rattle.laws.specs.Definitions.{negative}
 use Rattle.iteration.specs.Value.{satZ}
 use Rattle.iteration.specs.Check.{Word, check, newR}
 

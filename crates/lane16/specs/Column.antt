@@ -4,7 +4,7 @@ use mathlib.Core.List.{List}
 use Prim.Native.Nat.{ℕ, _+_, _*_, _<_}
 use lib.ListN.{getD}
 use lib.IntN.{ℤ, pos}
-use Rattle.laws.specs.Put.{put}
+use Rattle.laws.specs.Definitions.{put}
 use Rattle.lane16.specs.Lanes.{intAt}
 
 unfoldable pub column : ℕ → List ℤ → ℕ → ℕ → ℤ

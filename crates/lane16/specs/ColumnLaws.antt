@@ -11,7 +11,7 @@ use lib.Arith.{digits-div, digits-mod}
 use lib.ListN.{getD, set, length}
 use lib.Seq.{getD-set-other}
 use lib.IntN.{ℤ, pos}
-use Rattle.laws.specs.Put.{put}
+use Rattle.laws.specs.Definitions.{put}
 use Rattle.laws.specs.Stores.{grown-at}
 use Rattle.lane16.specs.Lanes.{intAt}
 use Rattle.lane16.specs.Column.{column, Stored, Part}

@@ -3,7 +3,7 @@ use Prim.Native.Nat.{ℕ}
 use mathlib.Core.Bool.{cond}
 use lib.Dec.{eqb}
 use lib.IntN.{ℤ, natAbs}
-use Rattle.laws.specs.Signed.{negative}
+use Rattle.laws.specs.Definitions.{negative}
 use Rattle.iteration.specs.Value.{signed}
 
 -- Its t, the smallest magnitude, and the two magnitudes reduced, each under the sign of all the check's

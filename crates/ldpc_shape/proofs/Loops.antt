@@ -10,7 +10,8 @@ use borrow.Author.Tests.{eqb-true, eq-eqb, ne-eqb, ltb-false, not-false, lt-ltb,
 use lib.Dec.{eqb, ltb, leb}
 use lib.ListN.{length, take, drop, getD, set, replicate, length-take}
 use lib.Seq.{drop-cons, drop-length, getD-set-other, take-suc, take-length}
-use Rattle.laws.specs.Lists.{or-left, or-right, zeros-at}
+use Rattle.laws.specs.Lists.{zeros-at}
+use Rattle.laws.specs.Choice.{or-left, or-right}
 use Rattle.laws.specs.Stores.{set-at}
 use Rattle.ldpc_shape.specs.Shape.{qOf, total, anyOver, countMod, countsMod, badLength, codeRefusal}
 use Rattle.ldpc_shape.specs.Accepted.{total-drop, total-le}

@@ -10,7 +10,7 @@ use borrow.Author.Tests.{eqb-true, ltb-false, leb-false}
 use lib.Dec.{eqb, ltb, leb}
 use lib.ListN.{length, drop, getD}
 use lib.Seq.{drop-cons}
-use Rattle.laws.specs.Lists.{or-left, or-right}
+use Rattle.laws.specs.Choice.{or-left, or-right}
 use Rattle.ldpc_shape.specs.declared.Sizes.{Sizes}
 use Rattle.ldpc_shape.specs.Shape.{kOf, pOf, qOf, eOf, sizesOf, total, anyOver, countMod, countsMod, badLength, codeRefusal}
 

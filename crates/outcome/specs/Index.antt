@@ -9,17 +9,18 @@ use borrow.Author.Tests.{ltb-false}
 use lib.Dec.{ltb, eqb}
 use lib.IntN.{ℤ, pos}
 use lib.ListN.{length, getD, take, drop, List·getD-eq-default}
-use Rattle.ldpc_shape.specs.Shape.{pOf, refusalOf}
+use Rattle.ldpc_shape.specs.Shape.{pOf, codeRefusal}
 use Rattle.ldpc_shape.specs.Accepted.{accepted}
 use Rattle.ldpc_edges.specs.Code.{edgeLists}
-use Rattle.lane_math.specs.Iteration.{Code, hard, negatives, unsatisfied}
-use Rattle.lane_memory.specs.Room.{var}
-use Rattle.laws.specs.Signed.{negative}
+use Rattle.iteration.specs.Iteration.{Code, hard, negatives, unsatisfied}
+use Rattle.iteration.specs.Lists.{var, Lists, codeIn}
+use Rattle.laws.specs.Definitions.{negative}
 use Rattle.laws.specs.Choice.{by-cond}
-use Rattle.simd.specs.Words.{within}
-use Rattle.fixed_code.specs.Lists.{Lists, codeIn, rows-part, start-in, degree-in}
-use Rattle.fixed_code.specs.Code.{codeOf, code-at, lists-at}
-use Rattle.fixed_code.specs.Count.{unmetAt}
+use Rattle.iteration.specs.Check.{within}
+use Rattle.iteration.specs.ListsLaws.{rows-part, start-in, degree-in}
+use Rattle.iteration.specs.CodeLaws.{code-at, lists-at}
+use Rattle.iteration.specs.Code.{codeOf}
+use Rattle.iteration.specs.Count.{unmetAt}
 use Rattle.outcome.specs.Outcome.{begin}
 
 -- the value of each variable
@@ -28,7 +29,7 @@ values soft v = getD soft v (pos 0)
 
 -- what is lent with a word of an accepted code: the code's lists, and n soft values
 pub record Lent (n : ℕ) (lens addrs index : List ℕ) (soft : List ℤ) : Type 0 where
-  pub code : refusalOf n lens addrs ≡ 0
+  pub code : codeRefusal n lens addrs ≡ 0
   pub lists : index ≡ edgeLists n lens addrs
   pub word : length soft ≡ n
 

@@ -9,8 +9,8 @@ use native.Mathlib.Decide.{ℕ-discrete, decLe}
 use native.Mathlib.Numerals.{add-one}
 use lib.ListN.{length, take, drop, set, length-append, length-take, length-drop}
 use lib.Seq.{take-suc-set, take-all, drop-drop}
-use Rattle.lane_math.specs.Check.{Word}
-use Rattle.lane_math.specs.Iteration.{hard}
+use Rattle.iteration.specs.Check.{Word}
+use Rattle.iteration.specs.Iteration.{hard}
 use Rattle.bch_remainder.specs.Word.{remainderOf}
 use Rattle.bch.specs.Decode.{register, leftBy, leftOf, flipped}
 use Rattle.bch.specs.Flips.{flipped-length}

@@ -6,9 +6,8 @@ use Prim.Native.Nat.{ℕ, zero, suc, _+_}
 use lib.Dec.{eqb}
 use lib.IntN.{ℤ, pos}
 use lib.ListN.{getD, take, drop}
-use Rattle.lane_math.specs.Check.{Word}
-use Rattle.lane_math.specs.Iteration.{Code, hard, unsatisfiedCount}
-use Rattle.simd.specs.Words.{within}
+use Rattle.iteration.specs.Check.{Word, within}
+use Rattle.iteration.specs.Iteration.{Code, hard, unsatisfiedCount}
 use Rattle.schedule.specs.Alone.{after, ends}
 use Rattle.bch.specs.Answers.{decodedOf, wordOut}
 use Rattle.bch.specs.declared.Decoded.{Decoded}

@@ -9,8 +9,10 @@ use lib.ListN.{length, take, drop, length-take, length-drop}
 use lib.Seq.{take-at, drop-at}
 use Rattle.bch.specs.Distance.{distance}
 use Rattle.bch.specs.Decode.{answerOf, leftOf}
-use Rattle.bch.specs.Exact.{Near, Exact, exact}
-use Rattle.bch.specs.Answers.{wordRefusal, fair-word, decodedOf, wordOut, changed}
+use Rattle.bch.specs.Exact.{Near, Exact}
+use Rattle.bch.specs.ExactLaws.{exact}
+use Rattle.bch.specs.Answers.{wordRefusal, decodedOf, wordOut}
+use Rattle.bch.specs.AnswersLaws.{fair-word, changed}
 use Rattle.bch.specs.declared.Decoded.{Decoded}
 use Rattle.bch.specs.declared.Decoded.the-variants.{Corrected, Uncorrectable, Refused}
 use Rattle.outcome.specs.Outcome.{corrected, lost, bchResult, bchOf}

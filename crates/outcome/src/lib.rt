@@ -5,11 +5,10 @@ ghost use Prim.Native.Nat.{_+_, _<_, _≤_};
 ghost use lib.Dec.{eqb};
 ghost use lib.ListN.{length};
 ghost use Rattle.ldpc_shape.specs.Shape.{pOf};
-ghost use Rattle.lane_math.specs.Iteration.{negatives};
-ghost use Rattle.lane_memory.specs.Room.{var};
-ghost use Rattle.fixed_code.specs.Lists.{Lists, codeIn};
-ghost use Rattle.fixed_code.specs.Code.{codeOf};
-ghost use Rattle.fixed_code.specs.Count.{unmetAt, Counted};
+ghost use Rattle.iteration.specs.Iteration.{negatives};
+ghost use Rattle.iteration.specs.Lists.{var, Lists, codeIn};
+ghost use Rattle.iteration.specs.Code.{codeOf};
+ghost use Rattle.iteration.specs.Count.{unmetAt, Counted};
 ghost use Rattle.outcome.specs.Outcome.{begin, bitsOf, metOf, corrected, bchResult, bchOf, stateOf, isFinished, keptOf, lostOf};
 ghost use Rattle.outcome.specs.Index.{Edges, values, Lent};
 
@@ -27,7 +26,7 @@ fn negative(rows: &[u32], s: usize, d: usize, soft: &[i8]) -> usize
     let mut count: usize = 0;
     let mut k: usize = 0;
     while k < d {
-        let v = lane_memory::variable(rows, s + k);
+        let v = fixed_code::variable(rows, s + k);
         count += lane_math::bit(soft[v]) as usize;
         k += 1;
     }

@@ -9,7 +9,8 @@ use native.Mathlib.Omega.{arith}
 use lib.IntN.{ℤ}
 use lib.ListN.{length, drop, getD, set, replicate, length-set, length-replicate}
 use lib.Seq.{sets, length-sets}
-use Rattle.laws.specs.Decimal.{Stops, signed}
+use Rattle.laws.specs.Decimal.{Stops}
+use Rattle.laws.specs.Definitions.{signed}
 use Rattle.report_form.specs.Description.{Pair, Word, Ascending, All, each}
 use Rattle.report_form.specs.Form.{Reads, must-find, lead, one-byte}
 use Rattle.report_form.specs.Forms.{smalls, pairForm, pairFrom, pairText, pairs-fine, wordForm, LineWithin, lines-fine}

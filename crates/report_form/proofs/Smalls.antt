@@ -11,7 +11,7 @@ use lib.ListN.{getD}
 use mir.Syntax.{w8, w32}
 use mir.Val.{SFits, toZ, ofZ}
 use mir.ValLaws.{toZ-pos, toZ-ofZ}
-use Rattle.laws.specs.Decimal.{decimal, signed}
+use Rattle.laws.specs.Definitions.{decimal, signed}
 use Rattle.report_form.specs.Description.{Small}
 use Rattle.report_form.specs.Form.{Found, Missing}
 use Rattle.report_form.specs.Forms.{numbers, not-decimal, smalls}

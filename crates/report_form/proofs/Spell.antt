@@ -7,7 +7,8 @@ use native.Mathlib.Omega.{arith}
 use lib.Dec.{T, leb, leb→le}
 use lib.Ieee.Fits.{and-l, and-r}
 use lib.ListN.{drop, getD}
-use Rattle.laws.specs.Decimal.{decimal, digit, decimal-small, decimal-snoc, decimal-digits, decimal-prefix, decimal-leads, span-prefix}
+use Rattle.laws.specs.Decimal.{digit, decimal-small, decimal-snoc, decimal-digits, decimal-prefix, decimal-leads, span-prefix}
+use Rattle.laws.specs.Definitions.{decimal}
 use Rattle.report_form.specs.Form.{Found, Missing}
 use Rattle.report_form.specs.Forms.{numbers, not-decimal}
 use Rattle.report_form.proofs.Bytes.{head-at, byte-here}

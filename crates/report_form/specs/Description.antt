@@ -5,7 +5,7 @@ use mathlib.Core.List.{List, [], _∷_, _++_, map}
 use Prim.Native.Nat.{ℕ, suc, _≤_, _<_}
 use lib.IntN.{ℤ, pos, negsuc}
 use lib.ListN.{length}
-use Rattle.laws.specs.Decimal.{decimal, signed}
+use Rattle.laws.specs.Definitions.{decimal, signed}
 
 -- "`S` or step": sequential, or layered with a step
 pub data Schedule : Type 0 where

@@ -3,7 +3,7 @@ use mathlib.Core.Path.{_≡_, refl}
 use mathlib.Core.List.{[], _∷_}
 use native.Mathlib.Omega.{arith}
 use lib.IntN.{pos, negsuc}
-use Rattle.laws.specs.Decimal.{decimal, digits, signed}
+use Rattle.laws.specs.Definitions.{decimal, digits, signed}
 use Rattle.report_form.specs.Description.{Description, sequential, Within, render}
 
 abbrev pub listing : Description

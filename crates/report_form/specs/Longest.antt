@@ -5,7 +5,8 @@ use Prim.Native.Nat.{ℕ, suc, _*_, _≤_, _<_}
 use native.Mathlib.Omega.{arith}
 use lib.IntN.{ℤ, pos, negsuc}
 use lib.ListN.{length, length-append}
-use Rattle.laws.specs.Decimal.{decimal, signed, decimal-length}
+use Rattle.laws.specs.Decimal.{decimal-length}
+use Rattle.laws.specs.Definitions.{decimal, signed}
 use Rattle.report_form.specs.Description.{Schedule, sequential, layered, Settings, Pair, Word, Description, All, Small, Ascending, RowWithin, ScheduleWithin, SettingsWithin, WordWithin, Within, each, line, rowLine, scheduleText, settingsLine, wordLine, render}
 use Rattle.report_form.specs.Forms.{rowForm, wordForm, pairText, address}
 use Rattle.report_form.specs.Unique.{row-line, word-line}

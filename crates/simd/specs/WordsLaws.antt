@@ -8,7 +8,8 @@ use borrow.Author.Tests.{eqb-true, eqb-false, eq-eqb, ne-eqb}
 use lib.Dec.{eqb}
 use lib.ListN.{length}
 use lib.IntN.{ℤ, _+ℤ_, _-ℤ_}
-use Rattle.laws.specs.Put.{put, put-other}
+use Rattle.laws.specs.Put.{put-other}
+use Rattle.laws.specs.Definitions.{put}
 use Rattle.iteration.specs.Value.{satZ}
 use Rattle.iteration.specs.Check.{Word, check, message, wrote, tOf, newL, newR, within}
 use Rattle.iteration.specs.Iteration.{unsatisfied, negatives, hard}

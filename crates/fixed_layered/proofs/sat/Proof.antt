@@ -5,7 +5,8 @@ use lib.IntN.{ℤ, pos, negsuc}
 use mir.Syntax.{w32}
 use mir.Val.{toZ, ofZ}
 use mir.ValLaws.{toZ-ofZ}
-use Rattle.laws.specs.Signed.{minZ, maxZ, plain}
+use Rattle.laws.specs.Signed.{plain}
+use Rattle.laws.specs.Definitions.{minZ, maxZ}
 use Rattle.fixed_layered.specs.Bounds.{widen32}
 use Rattle.iteration.specs.Value.{satZ}
 use Rattle.lane_math.specs.Fits.{sat-fits}

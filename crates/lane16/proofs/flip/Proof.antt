@@ -6,7 +6,8 @@ use Prim.Native.Nat.{ℕ, _-_, _≤_, _<_}
 use lib.ListN.{length, length-set}
 use lib.IntN.{ℤ, pos}
 use borrow.Author.Needs.{sfits-of}
-use Rattle.laws.specs.Signed.{negative, times, plain}
+use Rattle.laws.specs.Signed.{plain}
+use Rattle.laws.specs.Definitions.{negative, times}
 use Rattle.lane16.specs.Lanes.{intAt}
 use Rattle.laws.specs.Stores.{grown}
 use Rattle.lane16.proofs.flip.Statement.{statement}

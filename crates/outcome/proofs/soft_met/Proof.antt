@@ -1,11 +1,11 @@
 -- `outcome::soft_met` meets its contract. Assumes nothing.
-use Rattle.lane_math.specs.Check.{Word}
-use Rattle.lane_math.specs.Iteration.{Code}
+use Rattle.iteration.specs.Check.{Word}
+use Rattle.iteration.specs.Iteration.{Code}
 use mathlib.Core.Path.{_≡_, sym}
 use mathlib.Core.Bool.{true, false}
 use Prim.Native.Nat.{_-_, _≤_}
 use Rattle.ldpc_shape.specs.Shape.{pOf}
-use Rattle.fixed_code.specs.Code.{codeOf}
+use Rattle.iteration.specs.Code.{codeOf}
 use Rattle.outcome.specs.Outcome.{begin, unmetOf}
 use Rattle.outcome.specs.Index.{odd-is, listed}
 use Rattle.outcome.specs.Scan.{met-start, met-again, met-end, met-not}

@@ -1,14 +1,15 @@
 -- `outcome::soft_unmet` meets its contract. Assumes nothing.
-use Rattle.lane_math.specs.Check.{Word}
-use Rattle.lane_math.specs.Iteration.{Code}
+use Rattle.iteration.specs.Check.{Word}
+use Rattle.iteration.specs.Iteration.{Code}
 use mathlib.Core.Path.{refl}
 use mathlib.Core.Logic.{⊎-elim}
 use Rattle.ldpc_shape.specs.Accepted.{accepted, p-le}
 use mathlib.Core.Bool.{true, false}
 use Prim.Native.Nat.{_-_, _≤_}
 use Rattle.ldpc_shape.specs.Shape.{pOf}
-use Rattle.fixed_code.specs.Code.{codeOf}
-use Rattle.fixed_code.specs.Count.{Counted, counted-start}
+use Rattle.iteration.specs.Code.{codeOf}
+use Rattle.iteration.specs.CountLaws.{counted-start}
+use Rattle.iteration.specs.Count.{Counted}
 use Rattle.outcome.specs.Outcome.{begin}
 use Rattle.outcome.specs.Index.{odd-is, listed}
 use Rattle.outcome.specs.Scan.{counted-more, counted-same, counted-end, counted-le, named-le}
