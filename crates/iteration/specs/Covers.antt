@@ -1,15 +1,11 @@
 -- Each of the P = 374q checks is in exactly one run of a layered iteration, and in order.
 use mathlib.Core.Path.{_≡_, sym, ap, _∙_}
-use Prim.Native.Nat.{ℕ, _+_, _*_, _-_, _/_, _%_, _≤_, _<_, min}
+use Prim.Native.Nat.{ℕ, _+_, _*_, _-_, _/_, _%_, _≤_, _<_}
 use native.Mathlib.Omega.{arith}
 use native.Mathlib.Nat.{div-add-mod', mod-lt, mul-le-mul-right}
 use native.Mathlib.Decide.{decLt}
 use lib.Arith.{digits-div, digits-mod}
-use Rattle.iteration.specs.Iteration.{inRun, runCount}
-
--- run j of a layer has s checks, or what is left of 374
-abbrev pub runSize : ℕ → ℕ → ℕ
-runSize s j = min s (374 - j * s)
+use Rattle.iteration.specs.Iteration.{inRun, runSize, runCount}
 
 -- the iteration comes to check i of run j of layer l
 pub record Comes (q s l j i : ℕ) : Type 0 where

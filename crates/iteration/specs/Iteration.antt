@@ -73,13 +73,17 @@ run offset code c m w =
       r = runR offset code c (w .L) (w .r) m;
     }
 
--- Run j with step s of layer l: the checks l + iq, i from js on, s of them or what is left of 374. The first j runs of a layer:
+-- Run j with step s of layer l: the checks l + iq, i from js on, s of them or what is left of 374.
 abbrev pub inRun : ℕ → ℕ → ℕ → ℕ → ℕ → ℕ
 inRun q s l j i = l + (j * s + i) * q
 
+abbrev pub runSize : ℕ → ℕ → ℕ
+runSize s j = min s (374 - j * s)
+
+-- The first j runs of a layer:
 unfoldable pub runs : ℤ → Code → ℕ → ℕ → ℕ → ℕ → Word → Word
 runs offset code q s l zero w = w
-runs offset code q s l (suc j) w = run offset code (inRun q s l j) (min s (374 - j * s)) (runs offset code q s l j w)
+runs offset code q s l (suc j) w = run offset code (inRun q s l j) (runSize s j) (runs offset code q s l j w)
 
 -- as many runs as 374 checks make, the last shorter; 374 or more means the whole layer
 abbrev pub runCount : ℕ → ℕ
