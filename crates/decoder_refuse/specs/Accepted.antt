@@ -15,7 +15,7 @@ use Rattle.decoder_refuse.specs.declared.Asked.{Asked}
 use Rattle.decoder_refuse.specs.declared.Lent.{Lent}
 
 pub record Accepted (n : ℕ) (lens addrs : List ℕ) (asked : Asked) (lent : Lent) : Type 0 where
-  pub code : shape.refusalOf n lens addrs ≡ 0
+  pub code : shape.codeRefusal n lens addrs ≡ 0
   pub some-lanes : 0 < asked .lanes
   pub few-lanes : asked .lanes ≤ 64
   pub whole : lent .soft % n ≡ 0

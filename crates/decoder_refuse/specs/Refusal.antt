@@ -62,7 +62,7 @@ firstOf zero false false false false false false = 0
 
 unfoldable pub refusalOf : ℕ → List ℕ → List ℕ → Asked → Lent → ℕ
 refusalOf n lens addrs asked lent =
-    firstOf (shape.refusalOf n lens addrs) (badLanes (asked .lanes)) (badWords n (lent .soft)) (badLimit (asked .limit))
+    firstOf (shape.codeRefusal n lens addrs) (badLanes (asked .lanes)) (badWords n (lent .soft)) (badLimit (asked .limit))
     (badStep (asked .layered) (asked .step)) (badPart n (asked .first) (asked .length))
     (tooShort n (pOf n lens) (eOf n lens addrs) (asked .lanes) lent)
 
