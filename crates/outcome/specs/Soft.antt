@@ -9,16 +9,12 @@ use borrow.Author.Tests.{ltb-false}
 use lib.Dec.{ltb, eqb}
 use lib.IntN.{ℤ, pos}
 use lib.ListN.{length, getD, take, drop, List·getD-eq-default}
-use Rattle.ldpc_shape.specs.Shape.{pOf, refusalOf}
-use Rattle.ldpc_shape.specs.Accepted.{accepted}
-use Rattle.ldpc_edges.specs.Code.{edgeLists}
 use Rattle.lane_math.specs.Iteration.{Code, hard, negatives, unsatisfied}
 use Rattle.lane_memory.specs.Room.{var}
 use Rattle.laws.specs.Signed.{negative}
 use Rattle.laws.specs.Choice.{by-cond}
 use Rattle.simd.specs.Words.{within}
 use Rattle.fixed_code.specs.Lists.{Lists, codeIn, rows-part, start-in, degree-in}
-use Rattle.fixed_code.specs.Code.{codeOf, code-at, lists-at}
 use Rattle.fixed_code.specs.Count.{unmetAt}
 use Rattle.outcome.specs.Outcome.{begin}
 
@@ -26,11 +22,10 @@ use Rattle.outcome.specs.Outcome.{begin}
 abbrev pub values : List ℤ → ℕ → ℤ
 values soft v = getD soft v (pos 0)
 
--- what is lent with a word of an accepted code: the code's lists, and n soft values
-pub record Lent (n : ℕ) (lens addrs index : List ℕ) (soft : List ℤ) : Type 0 where
-  pub code : refusalOf n lens addrs ≡ 0
-  pub lists : index ≡ edgeLists n lens addrs
-  pub word : length soft ≡ n
+-- what is lent with a word's soft values: a code's lists, for as many variables as there are values
+pub record Lent (p : ℕ) (lists : List ℕ) (soft : List ℤ) : Type 0 where
+  pub listed : Lists (length soft) p lists
+  pub few-checks : p ≤ 44880
 
 -- d edges from s, whose variables are below n
 pub record Edges (rows : List ℕ) (s d n : ℕ) : Type 0 where
@@ -60,28 +55,21 @@ unfolding negatives
 negatives-again v s k L count b e f = ap₂ (λ (x y : ℕ). x + y) e f ∙ ap (λ (z : ℕ). negatives v s z L) (sym (add-one k))
 
 -- ---- check c of the lists, d edges from s, in the part of the slice that is lent
-module _ (p n c s d : ℕ) (index : List ℕ) (h : c < p) (e : s ≡ getD index c 0) (f : s + d ≡ getD index (c + 1) 0) where
+module _ (p n c s d : ℕ) (lists : List ℕ) (h : c < p) (e : s ≡ getD lists c 0) (f : s + d ≡ getD lists (c + 1) 0) where
   abbrev lent : List ℕ
-  lent = take (length index - (p + 1)) (drop (p + 1) index)
+  lent = take (length lists - (p + 1)) (drop (p + 1) lists)
 
-  pub check-edges : Lists n p index → Edges lent s d n
+  pub check-edges : Lists n p lists → Edges lent s d n
   check-edges l =
-      subst (λ (r : List ℕ). Edges r s d n) (sym (rows-part p index)) (record { inside = omega (arith, l .within (c + 1) (omega arith)); below = l .variables })
+      subst (λ (r : List ℕ). Edges r s d n) (sym (rows-part p lists)) (record { inside = omega (arith, l .within (c + 1) (omega arith)); below = l .variables })
 
-  pub unmet-of : (r : ℕ) (L : ℕ → ℤ) → r ≡ negatives (var lent) s d L → r % 2 ≡ unmetAt (codeIn p index) L c
+  pub unmet-of : (r : ℕ) (L : ℕ → ℤ) → r ≡ negatives (var lent) s d L → r % 2 ≡ unmetAt (codeIn p lists) L c
   unfolding unsatisfied
   unmet-of r L g =
       ap (λ (z : ℕ). z % 2) g
-      ∙ (λ i. negatives (var (rows-part p index i)) ((e ∙ sym (start-in p index c (omega arith))) i) (sym (degree-in p index c s d h e f) i) L % 2)
+      ∙ (λ i. negatives (var (rows-part p lists i)) ((e ∙ sym (start-in p lists c (omega arith))) i) (sym (degree-in p lists c s d h e f) i) L % 2)
 
--- ---- a slice that holds an accepted code's lists
-module _ {n : ℕ} {lens addrs index : List ℕ} {soft : List ℤ} (G : Lent n lens addrs index soft) where
-  -- the lists, for as many variables as the word has values; p is worked out
-  pub listed : (p : ℕ) → p ≡ pOf n lens → Lists (length soft) p index
-  listed p e = subst (λ (z : ℕ). Lists z p index) (sym (G .word)) (lists-at n p lens addrs index e (G .lists) (accepted n lens addrs (G .code)))
-
-  -- what the scan finds at check c is what the code and the word say
-  pub odd-is : (p c : ℕ) (r b : Bool) → p ≡ pOf n lens → r ≡ eqb (unmetAt (codeIn p index) (values soft) c) 1 → r ≡ b
-      → eqb (unmetAt (codeOf n lens addrs) (begin n soft .L) c) 1 ≡ b
-  odd-is p c r b e f g =
-      ap₂ (λ (k : Code) (L : ℕ → ℤ). eqb (unmetAt k L c) 1) (sym (code-at n p lens addrs index e (G .lists))) (begin-values n soft (G .word)) ∙ sym f ∙ g
+-- what the scan finds at check c is what the code and the word say
+pub odd-is : (p c : ℕ) (lists : List ℕ) (soft : List ℤ) (r b : Bool) → r ≡ eqb (unmetAt (codeIn p lists) (values soft) c) 1 → r ≡ b
+    → eqb (unmetAt (codeIn p lists) (begin (length soft) soft .L) c) 1 ≡ b
+odd-is p c lists soft r b f g = ap (λ (L : ℕ → ℤ). eqb (unmetAt (codeIn p lists) L c) 1) (begin-values (length soft) soft refl) ∙ sym f ∙ g
