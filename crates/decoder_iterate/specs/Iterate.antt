@@ -2,34 +2,34 @@
 use mathlib.Core.Path.{_≡_, sym, ap, _∙_}
 use mathlib.Core.Bool.{Bool, true, false}
 use mathlib.Core.List.{List}
-use Prim.Native.Nat.{ℕ, _+_, _*_, _/_, _≤_, _<_}
+use Prim.Native.Nat.{ℕ, _/_, _≤_, _<_}
 use native.Mathlib.Omega.{arith}
 use lib.IntN.{ℤ}
 use lib.ListN.{length}
 use Rattle.lane_math.specs.Check.{Word}
 use Rattle.lane_math.specs.Iteration.{Code, sequential, layered}
 use Rattle.simd.specs.Words.{word}
-use Rattle.ldpc_shape.specs.Shape.{qOf, eOf}
-use Rattle.ldpc_shape.specs.Accepted.{accepted}
-use Rattle.fixed_code.specs.Lists.{edgesIn}
-use Rattle.fixed_code.specs.Code.{code-at, edges-at}
+use Rattle.ldpc_shape.specs.declared.Sizes.{Sizes}
+use Rattle.fixed_code.specs.Lists.{edgesIn, codeIn}
+use Rattle.fixed_conflicts.specs.Prepared.{Prepared}
 use Rattle.fixed_layered.specs.Layered.{Layered}
-use Rattle.decoder_words.specs.Given.{Coded}
-use Rattle.decoder_words.specs.declared.Plan.{Plan}
-use Rattle.decoder_lanes.specs.Lane.{Working, laneWord, laneCode}
 
 unfoldable pub iterationOf : Bool → ℕ → ℤ → Code → ℕ → Word → Word
 iterationOf false step offset code p x = sequential offset code p x
 iterationOf true step offset code p x = layered offset code (p / 374) step x
 
 -- every lane's word has had an iteration
-abbrev pub Iterates : Bool → ℕ → ℤ → Plan → List ℕ → List ℤ → List ℤ → Type 0
-Iterates layers step offset plan index work work′ =
-    (l : ℕ) → l < plan .lanes → laneWord plan index work′ l ≡ iterationOf layers step offset (laneCode plan index) (plan .p) (laneWord plan index work l)
+abbrev pub Iterates : Bool → ℕ → ℤ → ℕ → ℕ → ℕ → List ℕ → List ℤ → List ℤ → Type 0
+Iterates layers step offset n p lanes lists work work′ =
+    (l : ℕ) → l < lanes → word n (edgesIn p lists) lanes work′ l ≡ iterationOf layers step offset (codeIn p lists) p (word n (edgesIn p lists) lanes work l)
 
 -- a layered schedule has a step
 abbrev pub Stepped : Bool → ℕ → Type 0
 Stepped layers step = layers ≡ true → 0 < step
+
+-- and what its layers go by, with room for their sums
+abbrev pub Layering : Bool → Sizes → List ℕ → List ℕ → List ℤ → Type 0
+Layering layers of lists table sums = layers ≡ true → Prepared of lists table × (23936 ≤ length sums)
 
 module _ (layers : Bool) (step : ℕ) (offset offset′ : ℤ) (code : Code) (p : ℕ) (x y : Word) (same : offset′ ≡ offset) where
   pub by-sequence : layers ≡ false → y ≡ sequential offset′ code p x → y ≡ iterationOf layers step offset code p x
@@ -40,20 +40,9 @@ module _ (layers : Bool) (step : ℕ) (offset offset′ : ℤ) (code : Code) (p 
   unfolding iterationOf
   by-layers is e = e ∙ ap (λ o. layered o code (p / 374) step x) same ∙ sym (ap (λ b. iterationOf b step offset code p x) is)
 
--- ---- the layered column law over the lanes' words
-module _ (plan : Plan) (lens addrs index : List ℕ) (C : Coded plan lens addrs index) where
-  edges-same : edgesIn (plan .p) index ≡ eOf (plan .n) lens addrs
-  edges-same = edges-at (plan .n) (plan .p) lens addrs index (C .checks) (C .lists) (accepted (plan .n) lens addrs (C .code))
-
-  layers-same : plan .p / 374 ≡ qOf (plan .n) lens
-  unfolding qOf
-  layers-same = ap (λ p. p / 374) (C .checks)
-
-  pub room-for : (work : List ℤ) → Working plan index work → (plan .n + 3 * eOf (plan .n) lens addrs) * plan .lanes ≤ length work
-  room-for work g = omega (arith, g .memory .long, ap (λ e. (plan .n + 3 * e) * plan .lanes) edges-same)
-
-  pub layered-words : (o : ℤ) (s : ℕ) (a a′ : List ℤ) → Layered (plan .n) lens addrs (plan .lanes) o s a a′ → (l : ℕ) → l < plan .lanes
-      → laneWord plan index a′ l ≡ layered o (laneCode plan index) (plan .p / 374) s (laneWord plan index a l)
-  layered-words o s a a′ v l h =
-      ap (λ e. word (plan .n) e (plan .lanes) a′ l) edges-same ∙ v .words l h
-      ∙ sym (λ i. layered o (code-at (plan .n) (plan .p) lens addrs index (C .checks) (C .lists) i) (layers-same i) s (word (plan .n) (edges-same i) (plan .lanes) a l))
+-- the layered column law, with q as the definition has it
+pub layered-words : {of : Sizes} {lanes s : ℕ} {o : ℤ} {lists table : List ℕ} {a a′ : List ℤ} → Prepared of lists table → Layered (of .n) (of .p) (of .q) lanes o s lists a a′ → (l : ℕ) → l < lanes
+    → word (of .n) (edgesIn (of .p) lists) lanes a′ l ≡ layered o (codeIn (of .p) lists) (of .p / 374) s (word (of .n) (edgesIn (of .p) lists) lanes a l)
+layered-words {of} {lanes} {s} {o} {lists} {table} {a} {a′} w v l h =
+    let e : of .q ≡ of .p / 374 = omega (arith, w .bounds .p-is) in
+    v .words l h ∙ ap (λ (q : ℕ). layered o (codeIn (of .p) lists) q s (word (of .n) (edgesIn (of .p) lists) lanes a l)) e

@@ -1,28 +1,28 @@
 // One iteration of every lane's word, by the schedule.
-ghost use Rattle.decoder_words.specs.Given.{Coded};
-ghost use Rattle.decoder_lanes.specs.Lane.{Working};
-ghost use Rattle.decoder_iterate.specs.Iterate.{Iterates, Stepped};
-use decoder_words::Plan;
+ghost use mathlib.Core.Path.{_≡_};
+ghost use Rattle.fixed_code.specs.Lists.{Memory};
+ghost use Rattle.decoder_iterate.specs.Iterate.{Iterates, Stepped, Layering};
+use ldpc_shape::Sizes;
 
-// The sequential schedule has no step.
+// The sequential schedule has no step, and reads nothing of `spans` and `sums`.
 pub fn iterate(
-    plan: Plan,
+    of: Sizes,
+    lanes: usize,
     layered: bool,
     step: u32,
     offset: i8,
-    lens: &[u32],
-    addrs: &[u16],
-    index: &[u32],
+    spans: &[u8],
+    lists: &[u32],
     work: &mut [i8],
+    sums: &mut [i32],
 )
-    requires { ⌜ Working plan (now index) (now work) × Coded plan (now lens) (now addrs) (now index) × Stepped layered step ⌝ }
-    ensures { λ _. ⌜ Iterates layered step offset plan (now (index .entry)) (now (work .entry)) (now (work .exit)) ⌝ }
+    requires { ⌜ Memory (of .n) (of .p) lanes (now lists) (now work) × Stepped layered step × Layering layered of (now lists) (now spans) (now sums) ⌝ }
+    ensures { λ _. ⌜ Iterates layered step offset (of .n) (of .p) lanes (now (lists .entry)) (now (work .entry)) (now (work .exit)) ⌝ }
 {
     if layered {
         let s = step as usize;
-        fixed_layered::layered_iteration(plan.n, lens, addrs, index, work, plan.lanes, offset, s);
+        fixed_layered::layered_iteration(of, spans, lists, work, sums, lanes, offset, s);
     } else {
-        let n = plan.n as usize;
-        fixed::iteration(index, work, n, plan.p, plan.lanes, offset);
+        fixed::iteration(lists, work, of.n, of.p, lanes, offset);
     }
 }

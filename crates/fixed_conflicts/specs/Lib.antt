@@ -5,3 +5,4 @@ pub mod Count
 pub mod Spans
 pub mod Conflicts
 pub mod Marks
+pub mod Prepared

@@ -3,10 +3,11 @@ ghost use mathlib.Core.Path.{_≡_};
 ghost use mathlib.Core.Bool.{_||_};
 ghost use Prim.Native.Nat.{ℕ, _<_, _≤_, _+_, _*_};
 ghost use lib.ListN.{getD, length};
-ghost use Rattle.ldpc_shape.specs.Shape.{refusalOf};
+ghost use Rattle.ldpc_shape.specs.Shape.{refusalOf, sizesOf};
 ghost use Rattle.fixed_conflicts.specs.Table.{Flagged};
 ghost use Rattle.fixed_conflicts.specs.Conflicts.{Spanned};
 ghost use Rattle.fixed_conflicts.specs.Marks.{Advanced};
+use ldpc_shape::Sizes;
 
 // Where row g's edges begin in the list of each check of layer l. The parity bits are the row behind the last.
 pub fn span(table: &[u8], g: usize, l: usize) -> usize
@@ -32,13 +33,13 @@ fn advance(table: &mut [u8], counts: &[u32; 120], g: usize, q: usize)
 }
 
 // Where the rows of an accepted code begin in the checks of each layer.
-pub fn spans(n: u32, lens: &[u32], addrs: &[u16], table: &mut [u8])
-    requires { ⌜ refusalOf n (now lens) (now addrs) ≡ 0 ⌝ }
+pub fn spans(of: Sizes, lens: &[u32], addrs: &[u16], table: &mut [u8])
+    requires { ⌜ (refusalOf (of .n) (now lens) (now addrs) ≡ 0) × (of ≡ sizesOf (of .n) (now lens) (now addrs)) ⌝ }
     requires { ⌜ (length (now table) ≡ 14520) × ((l : ℕ) → l < 120 → getD (now table) l 0 ≡ 0) ⌝ }
-    ensures { λ _. ⌜ Spanned n (now (lens .entry)) (now (addrs .entry)) (now (table .exit)) ⌝ }
+    ensures { λ _. ⌜ Spanned (of .n) (now (lens .entry)) (now (addrs .entry)) (now (table .exit)) ⌝ }
 {
-    let q = (n - 374 * (lens.len() as u32)) / 374;
-    let few = ldpc_shape::wide(q);
+    let few = of.q;
+    let q = few as u32;
     let mut at: usize = 0;
     let mut g: usize = 0;
     while g < lens.len() {

@@ -1,8 +1,9 @@
 -- A run on the memory: what its calls may count on.
 use mathlib.Core.Path.{_≡_, refl, ap}
 use mathlib.Core.List.{List}
-use Prim.Native.Nat.{ℕ, _+_, _≤_, _<_}
+use Prim.Native.Nat.{ℕ, _+_, _*_, _≤_, _<_}
 use native.Mathlib.Omega.{arith}
+use native.Mathlib.Nat.{mul-le-mul-left}
 use native.Mathlib.Numerals.{add-one}
 use lib.ListN.{getD, length}
 use lib.IntN.{ℤ}
@@ -24,6 +25,10 @@ pub record InRun (n p lanes first q m : ℕ) (index : List ℕ) (a : List ℤ) :
 
 pub in-run-to : {n p lanes first q m : ℕ} {index : List ℕ} {a b : List ℤ} → length b ≡ length a → InRun n p lanes first q m index a → InRun n p lanes first q m index b
 in-run-to e r = record { memory = memory-to e (r .memory); inside = r .inside; step = r .step; few-edges = r .few-edges; few-checks = r .few-checks; few-bits = r .few-bits }
+
+-- a run has few checks
+pub few-turns : {n p lanes first q m : ℕ} {index : List ℕ} {a : List ℤ} (x : ℕ) → InRun n p lanes first q m index a → x < m → x < 44880
+few-turns {n} {p} {lanes} {first} {q} x r h = let z : x * 1 ≤ x * q = mul-le-mul-left x (r .step) in omega (arith, r .inside x h, r .few-checks)
 
 -- one edge of a check
 pub edge-room : {rows : List ℕ} {s d n lanes : ℕ} {a : List ℤ} (k : ℕ) → k < d → Room rows s d n lanes a → Room rows (s + k) 1 n lanes a

@@ -186,9 +186,9 @@ row-part {n} {p} {lanes} {first} {q} {m} {base} {from} {upto} {x} {s} {d} {end} 
     D : degree (codeIn p index) (stepped first q x) ≡ d
     D = degree-in p index (stepped first q x) s d (r .inside x h) e f
 
-pub record AllLayers (n p lanes q s rows : ℕ) (index : List ℕ) (a : List ℤ) (table : List ℕ) : Type 0 where
-  pub layer : (l : ℕ) → l < q → InLayer n p lanes q s l index a
-  pub shares : (l : ℕ) → l < q → (flags : List Bool) (any : Bool) → Flagged table rows q l rows flags any → Shares n q (codeIn p index) l 374 l table flags
-  pub few-layers : q ≤ 120
-  pub few-rows : rows ≤ 119
+-- ---- what the layers count on of the table: the flags that are set by it say which rows share
+pub record Sharing (n p q rows : ℕ) (index table : List ℕ) : Type 0 where
   pub long : length table ≡ 14520
+  pub few-rows : rows ≤ 119
+  pub few-layers : q ≤ 120
+  pub shares : (l : ℕ) → l < q → (flags : List Bool) (any : Bool) → Flagged table rows q l rows flags any → Shares n q (codeIn p index) l 374 l table flags
