@@ -14,7 +14,7 @@ use Rattle.decoder_plan.specs.declared.Plan.{Plan}
 use Rattle.decoder_plan.specs.declared.Settings.{Settings}
 use Rattle.decoder_words.specs.Fields.{fields, firstRecords}
 use Rattle.decoder_words.specs.Book.{View, book, view}
-use Rattle.decoder_rounds.specs.Rounds.{iterateOf}
+use Rattle.decoder_words.specs.Run.{iterateOf}
 use Rattle.decoder.specs.Refused.{runRefusal}
 use Rattle.decoder.specs.Runs.{Runs}
 use Rattle.decoder.specs.declared.Ran.{Ran}

@@ -1,11 +1,11 @@
--- `decoder_iterate::iterate` meets its contract, by the column laws of the two schedules.
+-- `decoder_rounds::iterate` meets its contract, by the column laws of the two schedules.
 -- Assumes nothing.
 use native.Mathlib.Omega.{arith}
 use borrow.Author.Needs.{needs}
 use Rattle.laws.specs.Signed.{plain}
-use Rattle.decoder_iterate.specs.Iterate.{by-sequence, by-layers, layered-words}
-use Rattle.decoder_iterate.proofs.iterate.Statement.{statement}
-use Rattle.decoder_iterate.proofs.iterate.Tie as tie
+use Rattle.decoder_rounds.specs.Iterate.{by-sequence, by-layers, layered-words}
+use Rattle.decoder_rounds.proofs.iterate.Statement.{statement}
+use Rattle.decoder_rounds.proofs.iterate.Tie as tie
 
 layered-iteration-requires : tie.Need-layered-iteration-requires
 layered-iteration-requires c κs =
