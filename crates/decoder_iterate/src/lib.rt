@@ -1,4 +1,5 @@
 // One iteration of every lane's word, by the schedule.
+ghost use mathlib.Core.Path.{_≡_};
 ghost use Rattle.lane16.specs.Memory.{Memory};
 ghost use Rattle.decoder_iterate.specs.Iterate.{Iterates, Stepped, Layering};
 use ldpc_shape::Sizes;
