@@ -4,13 +4,13 @@ use mathlib.Core.Bool.{Bool, true, false, cond}
 use Prim.Native.Nat.{ℕ, zero, suc, _≤_, _<_, min}
 use native.Mathlib.Omega.{arith}
 use native.Mathlib.Decide.{ℕ-discrete, decLe}
-use borrow.Author.Tests.{ltb-true, ltb-false}
+use borrow.Author.Tests.{ltb-false}
 use lib.Dec.{ltb}
 use lib.IntN.{ℤ}
 use Rattle.laws.specs.Choice.{by-cond}
 use Rattle.iteration.specs.Value.{magnitude}
 use Rattle.iteration.specs.Check.{min1, min2, first}
-use Rattle.iteration.specs.Least.{Least, least}
+use Rattle.iteration.specs.Least.{least}
 
 -- an edge that is not min1's has min2's magnitude
 pub record Second (t : ℕ → ℤ) (n e : ℕ) : Type 0 where

@@ -1,6 +1,5 @@
 -- `fixed_layered::run` meets its contract. Assumes nothing.
 use borrow.Author.Needs.{needs}
-use native.Mathlib.Omega.{arith}
 use Prim.Native.Nat.{_/_}
 use borrow.Author.Tests.{not-true}
 use Rattle.laws.specs.Signed.{plain}
