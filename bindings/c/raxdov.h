@@ -172,7 +172,7 @@ uint32_t raxdov_run_sizes(uint32_t n, const uint32_t *lens, size_t lens_len, con
 /* A run: words of soft values are decoded side by side in lanes, and each finished word's BCH part is corrected.
    soft     n values a word, one word after the other, 0 to 4,096 words; a negative value speaks for a 1
    lanes    1 to 64
-   limit    iterations that a word may get, at most 65,535
+   limit    iteration limit: no more iterations of a word than this, at most 65,535
    layered  0: the sequential schedule (step plays no part); any other number: the layered one with step
    step     checks that read the same values, 1 or more; 374 or more: a whole layer
    offset   subtracted from the magnitude of every message
@@ -182,7 +182,8 @@ uint32_t raxdov_run_sizes(uint32_t n, const uint32_t *lens, size_t lens_len, con
    records  gets enum raxdov_record for each word, one word after the other: 5 * words elements
    tally    gets enum raxdov_tally, counted afresh
    ending   gets enum raxdov_ending
-   work, index   as raxdov_run_sizes says; what they hold does not matter, and they are left zero
+   work, index   as raxdov_run_sizes says; what they hold does not matter, and they are left zero. work has the lanes'
+            memory and index the lists of the code's checks while the run goes on
    Refused by 2 to 11, 13. */
 uint32_t raxdov_run(uint32_t n, const uint32_t *lens, size_t lens_len, const uint16_t *addrs, size_t addrs_len,
                     const int8_t *soft, size_t soft_len, uint32_t lanes, uint32_t limit, uint32_t layered,
