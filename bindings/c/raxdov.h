@@ -4,7 +4,7 @@
    Slices. A slice is lent as a pointer and, in the next argument, the number of its elements (NAME and NAME_len).
    The pointer is aligned for its type and not null, also where the number is 0. What is lent to be written overlaps
    nothing else that is lent. What a longer slice means:
-     out, lists, records, work, index   are written, and may be longer than what is asked for: what lies behind is left
+     out, lists, records, work          are written, and may be longer than what is asked for: what lies behind is left
                                         as it was. Shorter: 13
      info, bits                         are k and n bytes long. Longer or shorter: 12
      lens, addrs                        have an element for each row and for each address: a longer one is another code.
@@ -78,7 +78,7 @@ enum raxdov_sizes {
 /* What raxdov_run_sizes writes. */
 enum raxdov_run_needs {
     RAXDOV_NEEDS_WORK = 0,  /* the elements of work: (n + 3 * E) * lanes */
-    RAXDOV_NEEDS_INDEX = 1, /* the elements of index: E + P + 1 */
+    RAXDOV_NEEDS_INDEX = 1, /* the elements of lists: E + P + 1 */
     RAXDOV_NEEDS_COUNT = 2
 };
 
@@ -165,7 +165,7 @@ uint32_t raxdov_bch_decode(uint8_t *word, size_t word_len, uint32_t *result);
 uint32_t raxdov_record_words(void);
 uint32_t raxdov_tally_words(void);
 
-/* What raxdov_run is to be lent as work and index (enum raxdov_run_needs). Refused by 2 to 7. */
+/* What raxdov_run is to be lent as work and lists (enum raxdov_run_needs). Refused by 2 to 7. */
 uint32_t raxdov_run_sizes(uint32_t n, const uint32_t *lens, size_t lens_len, const uint16_t *addrs, size_t addrs_len,
                           uint32_t lanes, size_t sizes[2]);
 
@@ -182,14 +182,14 @@ uint32_t raxdov_run_sizes(uint32_t n, const uint32_t *lens, size_t lens_len, con
    records  gets enum raxdov_record for each word, one word after the other: 5 * words elements
    tally    gets enum raxdov_tally, counted afresh
    ending   gets enum raxdov_ending
-   work, index   as raxdov_run_sizes says; what they hold does not matter, and they are left zero. work has the lanes'
-            memory and index the lists of the code's checks while the run goes on
+   work, lists   as raxdov_run_sizes says; what they hold does not matter, and they are left zero. work has the lanes'
+            memory and lists the lists of the code's checks while the run goes on
    Refused by 2 to 11, 13. */
 uint32_t raxdov_run(uint32_t n, const uint32_t *lens, size_t lens_len, const uint16_t *addrs, size_t addrs_len,
                     const int8_t *soft, size_t soft_len, uint32_t lanes, uint32_t limit, uint32_t layered,
                     uint32_t step, int8_t offset, uint32_t rounds, uint32_t first, uint32_t length, uint8_t *out,
                     size_t out_len, uint32_t *records, size_t records_len, uint32_t tally[5], uint32_t *ending,
-                    int8_t *work, size_t work_len, uint32_t *index, size_t index_len);
+                    int8_t *work, size_t work_len, uint32_t *lists, size_t lists_len);
 
 #ifdef __cplusplus
 }
