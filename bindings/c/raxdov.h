@@ -24,7 +24,7 @@
    Bits. A byte is a bit; of a byte that is read only the lowest bit counts.
 
    Memory. No function allocates or keeps anything, so calls on different slices may run in different threads.
-   raxdov_run wants about 270 KB of stack (have 384 KiB), every other function less than 16 KB. */
+   raxdov_run wants about 140 KB of stack (have 256 KiB), every other function less than 16 KB. */
 #ifndef RAXDOV_H
 #define RAXDOV_H
 

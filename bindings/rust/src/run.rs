@@ -242,7 +242,7 @@ impl Runner {
     }
 
     /// Runs the words of `soft` (n values a word, one word after the other; a negative value speaks for a 1). `out` gets
-    /// n bits a word; what is longer is left as it was. A run needs about 270 KB of stack.
+    /// n bits a word; what is longer is left as it was. A run needs about 140 KB of stack.
     ///
     /// ```
     /// use raxdov::Refusal;

@@ -11,10 +11,9 @@ use lib.ListN.{length, drop, getD, set, replicate, length-set, length-replicate}
 use lib.Seq.{sets, length-sets}
 use Rattle.laws.specs.Decimal.{Stops}
 use Rattle.laws.specs.Definitions.{signed}
-use Rattle.report_form.specs.Description.{Pair, Word, Ascending, All, each}
+use Rattle.report_form.specs.Description.{Pair, Word, Ascending, All, each, stored, softWord, softWords}
 use Rattle.report_form.specs.Form.{Reads, must-find, lead, one-byte}
 use Rattle.report_form.specs.Forms.{smalls, pairForm, pairFrom, pairText, pairs-fine, wordForm, LineWithin, lines-fine}
-use Rattle.report_form.specs.Reading.{stored, softWord, softWords}
 use Rattle.report_form.specs.Accepted.{soft-word-length}
 use Rattle.report_form.specs.Places.{PairsAt, PairsHere, WordAt, WordHere, WordsAt, WordsHere, ReadAndStored}
 use Rattle.report_form.proofs.Bytes.{head-at, byte-here}

@@ -8,11 +8,11 @@ use native.Mathlib.Omega.{arith}
 use lib.IntN.{ℤ}
 use lib.ListN.{length, drop, replicate, length-replicate, length-map}
 use lib.Seq.{sets, sets-eq}
-use Rattle.report_form.specs.Description.{Settings, Word, Description, Within, each, render, flat}
+use Rattle.report_form.specs.Description.{Settings, Word, Description, Within, each, render, flat, softWords}
 use Rattle.report_form.specs.Form.{Found, Missing, Reads, byte, lead, lead-reads, seq-reads, Ongoing, Listed, listed-reads}
 use Rattle.report_form.specs.Forms.{numbers, rows, RowsWithin, rows-within, RowsSo, settingsForm, SettingsSo, settingsThen, settings-apart, wordForm, wordsForm, Body, bodyForm, headForm}
 use Rattle.report_form.specs.Unique.{bodyOf, descriptionOf, body-within, description-within, render-is, render-injective}
-use Rattle.report_form.specs.Reading.{padded, readingOf, softWords, overlaid, OneDescription}
+use Rattle.report_form.specs.Reading.{padded, readingOf, overlaid, OneDescription}
 use Rattle.report_form.specs.Accepted.{flat-few, soft-words-length}
 use Rattle.report_form.specs.Places.{WordsAt, WordsHere}
 use Rattle.report_form.specs.declared.Reading.{Reading}

@@ -2,9 +2,9 @@
 -- the limits. Definitions only; Unique and Longest have the laws.
 use mathlib.Core.Bool.{Bool, true, false}
 use mathlib.Core.List.{List, [], _∷_, _++_, map}
-use Prim.Native.Nat.{ℕ, suc, _≤_, _<_}
+use Prim.Native.Nat.{ℕ, suc, _+_, _≤_, _<_}
 use lib.IntN.{ℤ, pos, negsuc}
-use lib.ListN.{length}
+use lib.ListN.{length, set, replicate}
 use Rattle.laws.specs.Definitions.{decimal, signed}
 
 -- "`S` or step": sequential, or layered with a step
@@ -149,3 +149,17 @@ wordLine w = line (87 ∷ []) (signed (w .default) ∷ pairFields (w .pairs))
 -- "`N` n"; "One N, any R, one P, any W, in that order"
 unfoldable pub render : Description → List ℕ
 render d = line (78 ∷ []) (decimal (d .n) ∷ []) ++ each rowLine (d .rows) ++ settingsLine (d .settings) ++ each wordLine (d .words)
+
+-- pairs stored in a list from a place on
+abbrev pub stored : ℕ → List Pair → List ℤ → List ℤ
+stored base [] xs = xs
+stored base (p ∷ ps) xs = stored base ps (set xs (base + p .position) (p .value))
+
+-- a word's soft values: the default everywhere but at the positions of its pairs
+abbrev pub softWord : ℕ → Word → List ℤ
+softWord n w = stored 0 (w .pairs) (replicate n (w .default))
+
+-- the soft values of all words, one after another
+abbrev pub softWords : ℕ → List Word → List ℤ
+softWords n [] = []
+softWords n (w ∷ ws) = softWord n w ++ softWords n ws

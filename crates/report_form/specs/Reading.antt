@@ -1,13 +1,13 @@
--- What reading a text answers: the description that the text is the rendering of, or refusal 1, and the words' soft values. Definitions only;
+-- What the reader of a text answers: the description that the text is the rendering of, or refusal 1, and the words' soft values. Definitions only;
 -- Accepted has the laws.
 use mathlib.Core.Path.{_≡_}
 use mathlib.Core.Bool.{false}
 use mathlib.Core.Logic.{_⊎_}
-use mathlib.Core.List.{List, [], _∷_, _++_, map}
-use Prim.Native.Nat.{ℕ, _+_, _-_}
+use mathlib.Core.List.{List, _++_, map}
+use Prim.Native.Nat.{ℕ, _-_}
 use lib.IntN.{ℤ, pos}
-use lib.ListN.{length, drop, set, replicate}
-use Rattle.report_form.specs.Description.{Pair, Word, Description, Within, render, flat, isLayered, stepOf}
+use lib.ListN.{length, drop, replicate}
+use Rattle.report_form.specs.Description.{Description, Within, render, flat, isLayered, stepOf, softWords}
 use Rattle.report_form.specs.declared.Reading.{Reading}
 
 -- a list with zeros behind it, k long
@@ -55,20 +55,6 @@ refusedReading =
       «part_length» = 0;
       words = 0;
     }
-
--- pairs stored in a list from a place on
-abbrev pub stored : ℕ → List Pair → List ℤ → List ℤ
-stored base [] xs = xs
-stored base (p ∷ ps) xs = stored base ps (set xs (base + p .position) (p .value))
-
--- a word's soft values: the default everywhere but at the positions of its pairs
-abbrev pub softWord : ℕ → Word → List ℤ
-softWord n w = stored 0 (w .pairs) (replicate n (w .default))
-
--- the soft values of all words, one after another
-abbrev pub softWords : ℕ → List Word → List ℤ
-softWords n [] = []
-softWords n (w ∷ ws) = softWord n w ++ softWords n ws
 
 -- the beginning of a list written over
 abbrev pub overlaid : List ℤ → List ℤ → List ℤ
