@@ -196,8 +196,8 @@ t "terminated while it reads" 5 143 '' '' 'trap "" PIPE; signalled TERM 2>/dev/n
 
 # ---- memory and stack ----
 t "4 MB of address space" 5 0 "$answer" '' '$run "ulimit -v 4096; exec \"\$REPORT\" <$text >out 2>err"'
-t "512 KB of stack" 5 0 "$full_answer" '' '$run "ulimit -s 512; exec \"\$REPORT\" <full.txt >out 2>err"'
-t "256 KB of stack, too little" 5 139 '' '' '$run "ulimit -c 0; ulimit -s 256; exec \"\$REPORT\" <full.txt >out 2>err"'
+t "384 KB of stack" 5 0 "$full_answer" '' '$run "ulimit -s 384; exec \"\$REPORT\" <full.txt >out 2>err"'
+t "192 KB of stack, too little" 5 139 '' '' '$run "ulimit -c 0; ulimit -s 192; exec \"\$REPORT\" <full.txt >out 2>err"'
 t "no more than 5 descriptors" 5 0 "$answer" '' '$run "exec <$text >out 2>err; ulimit -n 5; exec \"\$REPORT\""'
 
 # ---- much at once ----

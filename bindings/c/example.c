@@ -65,20 +65,20 @@ static void run(uint32_t limit, uint32_t rounds)
     uint32_t record[RAXDOV_RECORD_COUNT], tally[RAXDOV_TALLY_COUNT], ending;
     size_t needs[RAXDOV_NEEDS_COUNT];
     int8_t *work;
-    uint32_t *index;
+    uint32_t *lists;
 
     accepted("sizes", raxdov_run_sizes(N, lens, ROWS, addrs, ADDRESSES, LANES, needs));
     work = malloc(needs[RAXDOV_NEEDS_WORK] * sizeof *work);
-    index = malloc(needs[RAXDOV_NEEDS_INDEX] * sizeof *index);
-    if (work == NULL || index == NULL) {
+    lists = malloc(needs[RAXDOV_NEEDS_INDEX] * sizeof *lists);
+    if (work == NULL || lists == NULL) {
         fprintf(stderr, "no memory\n");
         exit(1);
     }
     accepted("run", raxdov_run(N, lens, ROWS, addrs, ADDRESSES, soft, N, LANES, limit, /* sequential */ 0, 0,
                                /* offset */ 1, rounds, /* BCH part */ 0, K, out, N, record, RAXDOV_RECORD_COUNT, tally,
-                               &ending, work, needs[RAXDOV_NEEDS_WORK], index, needs[RAXDOV_NEEDS_INDEX]));
+                               &ending, work, needs[RAXDOV_NEEDS_WORK], lists, needs[RAXDOV_NEEDS_INDEX]));
     free(work);
-    free(index);
+    free(lists);
     printf("limit %u: %s after %u rounds: ", (unsigned)limit, ending == RAXDOV_FINISHED ? "finished" : "stopped",
            (unsigned)tally[RAXDOV_TALLY_ROUNDS]);
     print_record(record);

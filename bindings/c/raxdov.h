@@ -3,10 +3,19 @@
 
    Slices. A slice is lent as a pointer and, in the next argument, the number of its elements (NAME and NAME_len).
    The pointer is aligned for its type and not null, also where the number is 0. What is lent to be written overlaps
-   nothing else that is lent. A slice may be longer than what is asked for: what lies behind is left as it was.
+   nothing else that is lent. What a longer slice means:
+     out, lists, records, work          are written, and may be longer than what is asked for: what lies behind is left
+                                        as it was. Shorter: 13
+     info, bits                         are k and n bytes long. Longer or shorter: 12
+     lens, addrs                        have an element for each row and for each address: a longer one is another code.
+                                        The row lengths add up to addrs_len, or else: 5
+     llr                                has as many floats as there are to be turned into soft values
+     message, word                      are as long as the BCH message or word. Of a length that BCH does not take: 11
+     soft                               is a whole number of words of n values: a longer one is more words. Else: 8
 
    Answers. Every function but raxdov_record_words and raxdov_tally_words returns 0, or the number of a refusal
-   (enum raxdov_refusal); a call that is refused has changed nothing. Several refusals: the lowest number.
+   (enum raxdov_refusal); a call that is refused has changed nothing. A function lists its refusals in the order in
+   which it looks for them ("2 to 6, 13"): of several it returns the first of that list.
 
    Codes. An LDPC code is n, the number of addresses of each row (lens) and the rows' addresses one after the other
    (addrs). k = 374 * lens_len information bits, P = n - k checks, q = P / 374, E = 374 * addrs_len + 2 * P - 1 edges.
@@ -15,7 +24,7 @@
    Bits. A byte is a bit; of a byte that is read only the lowest bit counts.
 
    Memory. No function allocates or keeps anything, so calls on different slices may run in different threads.
-   raxdov_run wants about 270 KB of stack (have 384 KiB), every other function less than 16 KB. */
+   raxdov_run wants about 140 KB of stack (have 256 KiB), every other function less than 16 KB. */
 #ifndef RAXDOV_H
 #define RAXDOV_H
 
@@ -69,7 +78,7 @@ enum raxdov_sizes {
 /* What raxdov_run_sizes writes. */
 enum raxdov_run_needs {
     RAXDOV_NEEDS_WORK = 0,  /* the elements of work: (n + 3 * E) * lanes */
-    RAXDOV_NEEDS_INDEX = 1, /* the elements of index: E + P + 1 */
+    RAXDOV_NEEDS_INDEX = 1, /* the elements of lists: E + P + 1 */
     RAXDOV_NEEDS_COUNT = 2
 };
 
@@ -117,35 +126,35 @@ uint32_t raxdov_ldpc_sizes(uint32_t n, const uint32_t *lens, size_t lens_len, co
 
 /* The lists of all checks: lists gets row_start (P + 1 numbers), then rows (E bit numbers); the bits of check c are
    rows[row_start[c]] to rows[row_start[c + 1] - 1]. code gets k, P, q, E.
-   lists: P + 1 + E elements. Refused by 2 to 6 and 13. */
+   lists: P + 1 + E elements. Refused by 2 to 6, 13. */
 uint32_t raxdov_ldpc_new(uint32_t n, const uint32_t *lens, size_t lens_len, const uint16_t *addrs, size_t addrs_len,
                          uint32_t *lists, size_t lists_len, uint32_t code[4]);
 
 /* The bits of check c: its information bits ascending, k + c - 1 (not for c = 0), k + c; count gets how many.
    out: as many elements, which is 2 and one for each address equal to c modulo q (one less for c = 0); 128 always do.
-   Refused by 2 to 6, 12 (c) and 13. */
+   Refused by 2 to 6, 12 (c), 13. */
 uint32_t raxdov_ldpc_check(uint32_t n, const uint32_t *lens, size_t lens_len, const uint16_t *addrs, size_t addrs_len,
                            uint32_t c, uint32_t *out, size_t out_len, uint32_t *count);
 
-/* The parity of k information bits. info: k bytes; out: P elements. Refused by 2 to 6, 12 and 13. */
+/* The parity of k information bits. info: k bytes; out: P elements. Refused by 2 to 6, 12 (info), 13. */
 uint32_t raxdov_ldpc_parity(uint32_t n, const uint32_t *lens, size_t lens_len, const uint16_t *addrs, size_t addrs_len,
                             const uint8_t *info, size_t info_len, uint8_t *out, size_t out_len);
 
-/* The codeword: the k information bytes as they are, then their parity. out: n elements.
-   Refused by 2 to 6, 12 and 13. */
+/* The codeword: the k information bytes as they are, then their parity. info: k bytes; out: n elements.
+   Refused by 2 to 6, 12 (info), 13. */
 uint32_t raxdov_ldpc_encode(uint32_t n, const uint32_t *lens, size_t lens_len, const uint16_t *addrs, size_t addrs_len,
                             const uint8_t *info, size_t info_len, uint8_t *out, size_t out_len);
 
-/* count gets the number of unsatisfied checks of a hard word. bits: n bytes. Refused by 2 to 6 and 12. */
+/* count gets the number of unsatisfied checks of a hard word. bits: n bytes. Refused by 2 to 6, 12 (bits). */
 uint32_t raxdov_ldpc_syndrome_weight(uint32_t n, const uint32_t *lens, size_t lens_len, const uint16_t *addrs,
                                      size_t addrs_len, const uint8_t *bits, size_t bits_len, uint32_t *count);
 
 /* The 192 parity bits of a message of 0 to 65,343 bits, highest power first. out: 192 elements.
-   Refused by 11 and 13. */
+   Refused by 11, 13. */
 uint32_t raxdov_bch_parity(const uint8_t *message, size_t message_len, uint8_t *out, size_t out_len);
 
 /* The codeword: the message's bytes as they are, then its parity. out: message_len + 192 elements.
-   Refused by 11 and 13. */
+   Refused by 11, 13. */
 uint32_t raxdov_bch_encode(const uint8_t *message, size_t message_len, uint8_t *out, size_t out_len);
 
 /* Corrects a word of 193 to 65,535 bits in place, exactly if a codeword lies within 12 bits of it. result gets how
@@ -156,30 +165,31 @@ uint32_t raxdov_bch_decode(uint8_t *word, size_t word_len, uint32_t *result);
 uint32_t raxdov_record_words(void);
 uint32_t raxdov_tally_words(void);
 
-/* What raxdov_run is to be lent as work and index (enum raxdov_run_needs). Refused by 2 to 7. */
+/* What raxdov_run is to be lent as work and lists (enum raxdov_run_needs). Refused by 2 to 7. */
 uint32_t raxdov_run_sizes(uint32_t n, const uint32_t *lens, size_t lens_len, const uint16_t *addrs, size_t addrs_len,
                           uint32_t lanes, size_t sizes[2]);
 
 /* A run: words of soft values are decoded side by side in lanes, and each finished word's BCH part is corrected.
-   soft     n values a word, one word after the other; a negative value speaks for a 1. At most 4,096 words.
+   soft     n values a word, one word after the other, 0 to 4,096 words; a negative value speaks for a 1
    lanes    1 to 64
-   limit    iterations that a word may get, at most 65,535
+   limit    iteration limit: no more iterations of a word than this, at most 65,535
    layered  0: the sequential schedule (step plays no part); any other number: the layered one with step
    step     checks that read the same values, 1 or more; 374 or more: a whole layer
    offset   subtracted from the magnitude of every message
    rounds   round limit: no more rounds than this, 0 too; UINT32_MAX never stops a run early
    first, length   the BCH part of every word: bits first to first + length - 1
    out      gets n bits a word: n * words elements
-   records  gets enum raxdov_record for each word: 5 * words elements
+   records  gets enum raxdov_record for each word, one word after the other: 5 * words elements
    tally    gets enum raxdov_tally, counted afresh
    ending   gets enum raxdov_ending
-   work, index   as raxdov_run_sizes says; what they hold does not matter, and they are left zero
-   Refused by 2 to 11 and 13. */
+   work, lists   as raxdov_run_sizes says; what they hold does not matter, and they are left zero. work has the lanes'
+            memory and lists the lists of the code's checks while the run goes on
+   Refused by 2 to 11, 13. */
 uint32_t raxdov_run(uint32_t n, const uint32_t *lens, size_t lens_len, const uint16_t *addrs, size_t addrs_len,
                     const int8_t *soft, size_t soft_len, uint32_t lanes, uint32_t limit, uint32_t layered,
                     uint32_t step, int8_t offset, uint32_t rounds, uint32_t first, uint32_t length, uint8_t *out,
                     size_t out_len, uint32_t *records, size_t records_len, uint32_t tally[5], uint32_t *ending,
-                    int8_t *work, size_t work_len, uint32_t *index, size_t index_len);
+                    int8_t *work, size_t work_len, uint32_t *lists, size_t lists_len);
 
 #ifdef __cplusplus
 }

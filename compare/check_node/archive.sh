@@ -16,7 +16,7 @@ for proof in "$here"/bench_lanes/*.antt.txt; do
     mkdir -p "$copy/crates/bench_lanes/proofs/$name"
     cp "$proof" "$copy/crates/bench_lanes/proofs/$name/Proof.antt"
 done
-echo "bench_lanes: laws lane_math lane16 lane_memory simd ldpc_shape ldpc_edges simd_layered fixed_code fixed fixed_lanes fixed_delta fixed_conflicts fixed_layered fixed_syndrome" >> "$copy/crates.txt"
+echo "bench_lanes: laws ldpc_shape ldpc_edges iteration fixed_code lane_math lane16 simd simd_layered fixed fixed_lanes fixed_conflicts fixed_layered fixed_syndrome" >> "$copy/crates.txt"
 (cd "$copy" && rt staticlib bench_lanes)
 mkdir -p "$top/target/staticlib"
 cp "$copy/target/staticlib/libbench_lanes.a" "$top/target/staticlib/"

@@ -193,7 +193,7 @@ pub(crate) fn corrected(result: u32) -> Option<u32> {
     (result != u32::MAX).then_some(result)
 }
 
-/// How long `work` and `index` of a run are.
+/// How long `work` and `lists` of a run are.
 pub(crate) fn run_sizes(code: Lent, lanes: u32) -> Result<[usize; 2], Refusal> {
     let Lent { n, lens, addrs } = code;
     let mut sizes = [0; 2];
@@ -230,7 +230,7 @@ pub(crate) struct Asked {
 pub(crate) struct Room<'a> {
     pub(crate) records: &'a mut [u32],
     pub(crate) work: &'a mut [i8],
-    pub(crate) index: &'a mut [u32],
+    pub(crate) lists: &'a mut [u32],
 }
 
 /// The tally and the ending.
@@ -245,12 +245,12 @@ pub(crate) fn run(
     let Room {
         records,
         work,
-        index,
+        lists,
     } = room;
-    let [work_need, index_need] = run_sizes(code, asked.lanes)?;
+    let [work_need, lists_need] = run_sizes(code, asked.lanes)?;
     let words = (soft.len() / n as usize).min(4096);
     assert!(records.len() >= RECORD * words);
-    assert!(work.len() >= work_need && index.len() >= index_need);
+    assert!(work.len() >= work_need && lists.len() >= lists_need);
     // SAFETY: nothing is lent.
     let layout = unsafe { (raxdov_record_words(), raxdov_tally_words()) };
     assert_eq!(layout, (RECORD as u32, TALLY as u32));
@@ -282,8 +282,8 @@ pub(crate) fn run(
             &mut ending,
             work.as_mut_ptr(),
             work.len(),
-            index.as_mut_ptr(),
-            index.len(),
+            lists.as_mut_ptr(),
+            lists.len(),
         )
     })?;
     Ok((tally, ending))

@@ -119,7 +119,7 @@ unsafe extern "C" {
         ending: *mut u32,
         work: *mut i8,
         work_len: usize,
-        index: *mut u32,
-        index_len: usize,
+        lists: *mut u32,
+        lists_len: usize,
     ) -> u32;
 }

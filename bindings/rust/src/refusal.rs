@@ -4,7 +4,7 @@ use std::error::Error;
 use std::fmt;
 
 /// Why a call was refused: the number and the sentence of the archive's answer. A call that is refused has changed
-/// nothing; of several reasons the lowest number is given.
+/// nothing; of several reasons it is the one that the C header lists first for that call.
 ///
 /// ```
 /// use raxdov::{Refusal, ldpc::Code};

@@ -226,7 +226,7 @@ pub struct Ran {
 #[derive(Debug, Clone, Default)]
 pub struct Runner {
     work: Vec<i8>,
-    index: Vec<u32>,
+    lists: Vec<u32>,
     records: Vec<u32>,
 }
 
@@ -242,7 +242,7 @@ impl Runner {
     }
 
     /// Runs the words of `soft` (n values a word, one word after the other; a negative value speaks for a 1). `out` gets
-    /// n bits a word; what is longer is left as it was. A run needs about 270 KB of stack.
+    /// n bits a word; what is longer is left as it was. A run needs about 140 KB of stack.
     ///
     /// ```
     /// use raxdov::Refusal;
@@ -270,16 +270,16 @@ impl Runner {
         out: &mut [u8],
     ) -> Result<Ran, Refusal> {
         let lent = code.lent();
-        let [work, index] = archive::run_sizes(lent, settings.lanes)?;
+        let [work, lists] = archive::run_sizes(lent, settings.lanes)?;
         // over 4,096 words are refused before the records are looked at
         let words = (soft.len() / code.n()).min(4096);
         grow(&mut self.work, work);
-        grow(&mut self.index, index);
+        grow(&mut self.lists, lists);
         grow(&mut self.records, RECORD * words);
         let room = Room {
             records: &mut self.records[..RECORD * words],
             work: &mut self.work[..work],
-            index: &mut self.index[..index],
+            lists: &mut self.lists[..lists],
         };
         let (tally, ending) = archive::run(lent, soft, asked(settings), out, room)?;
         let [rounds, loaded, iterations, kept, lost] = tally;

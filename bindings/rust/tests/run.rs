@@ -147,11 +147,11 @@ fn memory_is_used_again() {
     }
 }
 
-/// As the header says: 384 KiB of stack are enough for a run with the most words and lanes.
+/// As the header says: 256 KiB of stack are enough for a run with the most words and lanes.
 #[test]
 fn a_run_on_a_small_stack() {
     let thread = std::thread::Builder::new()
-        .stack_size(384 * 1024)
+        .stack_size(256 * 1024)
         .spawn(|| {
             let code = Code::new(374, &[]);
             let mut soft = vec![1; 374 * 4096];

@@ -1,4 +1,4 @@
-//! Holds the archive to the original for a time, and says how much was seen. See docs/COMPARE.md.
+//! Holds the archive to the original for a time, and says how much was seen. See docs/EVIDENCE.md.
 
 use harness::input::Plan;
 use harness::lent::EXACT;

@@ -6,15 +6,17 @@ use mathlib.Core.Logic.{_≢_, _⊎_}
 use Prim.Native.Nat.{ℕ, suc, _+_, _*_, _≤_, _<_}
 use native.Mathlib.Decide.{decLe}
 use native.Mathlib.Omega.{arith}
-use Rattle.algebra.specs.Ring.{Ring, Field, zero-⊠, ⊠-swap, ⊞-cancel, dist-⊠}
-use Rattle.algebra.specs.Series.{sum, sum-ext, sum-add, sum-square, pow, pow-add}
+use Rattle.algebra.specs.Ring.{Ring, Field}
+use Rattle.algebra.specs.RingLaws.{zero-⊠, ⊠-swap, ⊞-cancel, dist-⊠}
+use Rattle.algebra.specs.Series.{pow, zeros}
+use Rattle.algebra.specs.SeriesLaws.{sum, sum-ext, sum-add, sum-square, pow-add}
 use Rattle.algebra.specs.Power.{square-pow}
 use Rattle.algebra.specs.Roots.{Distinct, domain, pow-nz, inv-inj, roots, square-inj, idempotent}
-use Rattle.algebra.specs.Massey.{Shortest}
+use Rattle.algebra.specs.Register.{Shortest}
 use Rattle.algebra.specs.Locator.{syndrome}
 use Rattle.algebra.specs.Split.{split}
 use Rattle.algebra.specs.Errors.{weight, weight-mono, weight-strict, Listing, listing, Syndromes, chien, shift, no-longer, length-right, found-wrong, found-right, min-distance}
-use Rattle.algebra.specs.Places.{spread, spread-at, spread-off, zeros, mark, mark-zero, zero-mark, zeros-mark, zeros-weight}
+use Rattle.algebra.specs.Places.{spread, spread-at, spread-off, mark, mark-zero, zero-mark, zeros-mark, zeros-weight}
 
 module _ {F : Type 0} (K : Field F) where
   open Ring (K .ring) using (𝟘, 𝟙, _⊞_, _⊠_, ⊞-zero, ⊞-self, ⊠-assoc, ⊠-comm, ⊠-one)

@@ -6,10 +6,13 @@ use Prim.Native.Nat.{ℕ, zero, suc, _+_, _≤_, _<_}
 use native.Mathlib.Nat.{not-suc-le-zero, le-refl}
 use native.Mathlib.Decide.{ℕ-discrete, decLe, decLt}
 use native.Mathlib.Omega.{arith}
-use Rattle.algebra.specs.Ring.{Ring, Field, zero-⊠}
-use Rattle.algebra.specs.Series.{sum, sum-ext, pow, pow-add, eval}
+use Rattle.algebra.specs.Ring.{Ring, Field}
+use Rattle.algebra.specs.RingLaws.{zero-⊠}
+use Rattle.algebra.specs.Series.{pow, eval}
+use Rattle.algebra.specs.SeriesLaws.{sum, sum-ext, pow-add}
 use Rattle.algebra.specs.Roots.{Distinct, domain, pow-nz, inv-inj, vandermonde}
-use Rattle.algebra.specs.Massey.{Gen, Shortest, gen-ext}
+use Rattle.algebra.specs.Massey.{gen-ext}
+use Rattle.algebra.specs.Register.{Gen, Shortest}
 use Rattle.algebra.specs.Locator.{syndrome, locator, locator-gen, all-roots, only-roots, length-is}
 
 module _ {F : Type 0} (K : Field F) where

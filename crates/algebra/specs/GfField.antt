@@ -1,54 +1,22 @@
--- The numbers below 2 ^ suc n with xor and `mul` are a ring; with two computed checks, a field.
-use mathlib.Core.Path.{_≡_, refl, sym, ap, ap₂, _∙_, subst}
-use mathlib.Core.Logic.{_⊎_, inl, inr}
-use mathlib.Core.HLevel.{Σ-prop-path, Σ-prop-discrete}
-use mathlib.Core.Bool.{Bool}
-use mathlib.Core.List.{List, [], _∷_}
-use Prim.Native.Nat.{ℕ, zero, suc, _*_, _/_, _%_, _^_, _<_}
-use native.Mathlib.Nat.{le-of-suc-le-suc, mod-lt, le-of-lt}
+-- The elements of Gf with xor and `mul` are a ring; a field where every element squared suc n times is itself, and only 0 and 1 are their own
+-- squares (GfChecks: by two computed checks).
+use mathlib.Core.Path.{_≡_, ap, _∙_}
+use mathlib.Core.Logic.{_⊎_}
+use mathlib.Core.HLevel.{Σ-prop-discrete}
+use Prim.Native.Nat.{ℕ, suc, _^_, _<_}
 use native.Mathlib.Bridge.{le-prop}
 use native.Mathlib.Decide.{ℕ-discrete}
 use native.Mathlib.Omega.{arith}
-use lib.Dec.{T, eqb, eqb→eq}
 use lib.Pow.{pow-pos, pow-lt}
-use Rattle.laws.specs.Tests.{below, below-at}
-use Rattle.laws.specs.Xor.{_⊕_, ⊕-assoc, ⊕-comm, ⊕-self, ⊕-zero, ⊕-lt, ⊕-half, ⊕-odd, ⊕-double, ⊕-swap, bit-mul, two-cases, two-pos, span}
-use Rattle.algebra.specs.Gf.{mul, mul-lt, mul-add-r, one-mul′, mul-comm′, mul-assoc′, mul-two, mul-zero-l}
-use Rattle.algebra.specs.Ring.{Ring, Field, sqs, sqs-add, sqs-mul, sqs-zero, sqs-one, ones-power, fermat-inverse, square-add}
-
--- ---- linear maps by their values at the powers of two
-unfoldable pub lin : List ℕ → ℕ → ℕ
-lin [] x = 0
-lin (v ∷ vs) x = (x % 2 * v) ⊕ lin vs (x / 2)
-
-lin-add : (vs : List ℕ) (a b : ℕ) → lin vs (a ⊕ b) ≡ lin vs a ⊕ lin vs b
-unfolding lin
-lin-add [] a b = sym (⊕-zero 0)
-lin-add (v ∷ vs) a b =
-    rw (⊕-odd, ⊕-half, bit-mul (a % 2) (b % 2) v (mod-lt a two-pos) (mod-lt b two-pos), lin-add vs (a / 2) (b / 2)) (⊕-swap _ _ _ _)
-
-lin-zero : (vs : List ℕ) → lin vs 0 ≡ 0
-lin-zero vs = ap (lin vs) (sym (⊕-zero 0)) ∙ lin-add vs 0 0 ∙ ⊕-self (lin vs 0)
-
--- the check of idempotents: `vs` undoes x + x², but for the lowest digit
-unfoldable pub undoes : ℕ → ℕ → List ℕ → Bool
-undoes n poly vs = below (suc n) (λ i. eqb (lin vs (2 ^ i ⊕ mul n poly (2 ^ i) (2 ^ i))) (2 ^ i / 2 * 2))
-
--- the check of Fermat: suc n squarings of 2
-unfoldable pub squarings : ℕ → ℕ → ℕ → ℕ → ℕ
-squarings n poly zero a = a
-squarings n poly (suc k) a = squarings n poly k (mul n poly a a)
-
-abbrev pub Under : ℕ → Type 0
-Under q = (x : ℕ) × (x < q)
-
-abbrev pub El : ℕ → Type 0
-El n = Under (2 ^ suc n)
-
-pub el-path : {q : ℕ} {a b : Under q} → a .0 ≡ b .0 → a ≡ b
-el-path e = Σ-prop-path (λ x. le-prop) e
+use Rattle.laws.specs.Xor.{⊕-assoc, ⊕-comm, ⊕-self, ⊕-zero, ⊕-lt}
+use Rattle.laws.specs.Definitions.{_⊕_}
+use Rattle.algebra.specs.Ring.{Ring, Field}
+use Rattle.algebra.specs.RingLaws.{sqs, ones-power, fermat-inverse}
+use Rattle.algebra.specs.Gf.{El, mul}
+use Rattle.algebra.specs.GfLaws.{el-path, one-not-zero, mul-lt, mul-add-r, one-mul′, mul-comm′, mul-assoc′}
 
 module _ (n poly : ℕ) (hp : poly < 2 ^ suc n) where
+  -- 0, 1, xor and `mul`; then that the laws hold
   unfoldable pub gf-ring : Ring (El n)
   gf-ring =
       record {
@@ -66,76 +34,14 @@ module _ (n poly : ℕ) (hp : poly < 2 ^ suc n) where
         ⊠-dist = λ a b c. el-path (mul-add-r n poly hp (a .0) (b .0) (c .0));
       }
 
-  -- induction on elements
-  el-span : (P : El n → Type 0) → P (gf-ring .𝟘) → ((a b : El n) → P a → P b → P (gf-ring ._⊞_ a b))
-      → ((i : ℕ) (h : i < suc n) → P (2 ^ i, pow-lt h)) → (a : El n) → P a
+  -- the inverse is a power, 2 ^ suc n - 2; that it is the inverse is a law of `Field`
+  unfoldable pub gf-field : ((a : El n) → sqs gf-ring (suc n) a ≡ a) → ((a : El n) → gf-ring ._⊠_ a a ≡ a → (a ≡ gf-ring .𝟘) ⊎ (a ≡ gf-ring .𝟙)) → Field (El n)
   unfolding gf-ring
-  el-span P z add base a =
-      span (λ x. (h : x < 2 ^ suc n) → P (x, h)) (λ h. subst P (el-path refl) z) (suc n)
-      (λ x y hx hy p q h. subst P (el-path refl) (add (x, hx) (y, hy) (p hx) (q hy)))
-      (λ i hi h. subst P (el-path refl) (base i hi)) (a .0) (a .1) (a .1)
-
-  -- the checks give the field
-  module _ (pos : 0 < n) (vs : List ℕ) (undone : T (undoes n poly vs)) (fermat : squarings n poly (suc n) 2 ≡ 2) where
-    square-⊕ : (a b : ℕ) → a < 2 ^ suc n → b < 2 ^ suc n → mul n poly (a ⊕ b) (a ⊕ b) ≡ mul n poly a a ⊕ mul n poly b b
-    unfolding gf-ring
-    square-⊕ a b ha hb = ap (λ (x : El n). x .0) (square-add gf-ring (a, ha) (b, hb))
-
-    undo : (a : ℕ) → a < 2 ^ suc n → lin vs (a ⊕ mul n poly a a) ≡ a / 2 * 2
-    unfolding undoes
-    undo =
-        span (λ a. lin vs (a ⊕ mul n poly a a) ≡ a / 2 * 2) (undo-zero) (suc n)
-        (λ a b ha hb p q.
-        ap (λ (x : ℕ). lin vs ((a ⊕ b) ⊕ x)) (square-⊕ a b ha hb) ∙ ap (lin vs) (⊕-swap a b _ _) ∙ lin-add vs _ _ ∙ ap₂ _⊕_ p q
-        ∙ sym (⊕-double (a / 2) (b / 2)) ∙ ap (λ (x : ℕ). x * 2) (sym (⊕-half a b)))
-        (λ i hi. eqb→eq _ _ (below-at (suc n) _ undone i hi))
-      where
-        undo-zero : lin vs (0 ⊕ mul n poly 0 0) ≡ 0
-        undo-zero = ap (λ (x : ℕ). lin vs (0 ⊕ x)) (mul-zero-l n poly hp 0) ∙ ap (lin vs) (⊕-zero 0) ∙ lin-zero vs
-
-    pub idempotents : (a : El n) → gf-ring ._⊠_ a a ≡ a → (a ≡ gf-ring .𝟘) ⊎ (a ≡ gf-ring .𝟙)
-    unfolding gf-ring
-    idempotents a e =
-        two-cases (λ x. a .0 ≡ x → (a ≡ gf-ring .𝟘) ⊎ (a ≡ gf-ring .𝟙)) (λ p. inl (el-path p)) (λ p. inr (el-path p)) (a .0) small refl
-      where
-        halves : a .0 / 2 * 2 ≡ 0
-        halves = sym (undo (a .0) (a .1)) ∙ ap (λ (x : El n). lin vs (a .0 ⊕ x .0)) e ∙ ap (lin vs) (⊕-self (a .0)) ∙ lin-zero vs
-
-        small : a .0 < 2
-        small = omega (arith, halves)
-
-    squarings-sqs : (k : ℕ) (a : El n) → (sqs gf-ring k a) .0 ≡ squarings n poly k (a .0)
-    unfolding gf-ring sqs squarings
-    squarings-sqs zero a = refl
-    squarings-sqs (suc k) a = squarings-sqs k (gf-ring ._⊠_ a a)
-
-    α : El n
-    α = (2, pow-lt {i = 1} (omega arith))
-
-    pub fix : (a : El n) → sqs gf-ring (suc n) a ≡ a
-    unfolding gf-ring α
-    fix = el-span (λ a. sqs gf-ring (suc n) a ≡ a) (sqs-zero gf-ring (suc n)) (λ a b p q. sqs-add gf-ring (suc n) a b ∙ ap₂ (gf-ring ._⊞_) p q) powers
-      where
-        powers : (i : ℕ) (h : i < suc n) → sqs gf-ring (suc n) (2 ^ i, pow-lt h) ≡ (2 ^ i, pow-lt h)
-        powers zero h =
-            let e : (1, pow-lt h) ≡ gf-ring .𝟙 = el-path refl in
-            ap (sqs gf-ring (suc n)) e ∙ sqs-one gf-ring (suc n) ∙ sym e
-        powers (suc i) h =
-            let e : (2 ^ suc i, pow-lt h) ≡ gf-ring ._⊠_ α (2 ^ i, pow-lt (le-of-lt h)) = el-path (sym (mul-two n poly hp i (le-of-suc-le-suc h))) in
-            let fα : sqs gf-ring (suc n) α ≡ α = el-path (squarings-sqs (suc n) α ∙ fermat) in
-            ap (sqs gf-ring (suc n)) e ∙ sqs-mul gf-ring (suc n) α (2 ^ i, pow-lt (le-of-lt h))
-            ∙ ap₂ (gf-ring ._⊠_) fα (powers i (le-of-lt h)) ∙ sym e
-
-    pub one-not-zero : _≡_ {A = ℕ} 1 0 → ⊥
-    one-not-zero e = omega arith
-
-    unfoldable pub gf-field : Field (El n)
-    unfolding gf-ring
-    gf-field =
-        record {
-          ring = gf-ring;
-          inv = λ a. ones-power gf-ring n (gf-ring ._⊠_ a a);
-          inv-law = fermat-inverse gf-ring n fix idempotents;
-          one-nz = λ e. one-not-zero (ap (λ (x : El n). x .0) e);
-          dec = Σ-prop-discrete (λ x. le-prop) ℕ-discrete;
-        }
+  gf-field fix idempotents =
+      record {
+        ring = gf-ring;
+        inv = λ a. ones-power gf-ring n (gf-ring ._⊠_ a a);
+        inv-law = fermat-inverse gf-ring n fix idempotents;
+        one-nz = λ e. one-not-zero (ap (λ (x : El n). x .0) e);
+        dec = Σ-prop-discrete (λ x. le-prop) ℕ-discrete;
+      }

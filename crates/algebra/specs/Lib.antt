@@ -1,11 +1,17 @@
 -- Coding theory over any field of characteristic 2, in reading order. Nothing here says 16.
--- sequences, powers, roots
+-- definitions: rings and fields, sequences, registers, and the fields of 2 ^ m elements
 pub mod Ring
 pub mod Series
+pub mod Register
+pub mod Gf
+pub mod GfField
+-- laws of sequences, powers, roots
+pub mod RingLaws
+pub mod SeriesLaws
 pub mod Power
 pub mod Roots
 pub mod Values
--- registers, and what the shortest one says of the errors
+-- laws of registers, and what the shortest one says of the errors
 pub mod Massey
 pub mod Unique
 pub mod Locator
@@ -13,6 +19,6 @@ pub mod Split
 pub mod Errors
 pub mod Places
 pub mod Corrects
--- the fields of 2 ^ m elements
-pub mod Gf
-pub mod GfField
+-- laws of the fields of 2 ^ m elements
+pub mod GfLaws
+pub mod GfChecks

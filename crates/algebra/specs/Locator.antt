@@ -5,10 +5,12 @@ use Prim.Native.Nat.{ℕ, zero, suc, _+_, _≤_, _<_}
 use native.Mathlib.Nat.{not-suc-le-zero, le-of-suc-le-suc, le-suc}
 use native.Mathlib.Decide.{ℕ-discrete, decLe, decLt}
 use native.Mathlib.Omega.{arith}
-use Rattle.algebra.specs.Ring.{Ring, Field, ⊠-lc, zero-⊞, one-⊠, ⊠-zero, ⊞-swap}
-use Rattle.algebra.specs.Series.{sum, sum-ext, sum-zero, sum-none, sum-mul, sum-front, pow, pow-add, eval, eval-more, conv, unit, up, conv-vanish, conv-add-r, conv-mul-r, conv-pow}
+use Rattle.algebra.specs.Ring.{Ring, Field}
+use Rattle.algebra.specs.RingLaws.{⊠-lc, zero-⊞, one-⊠, ⊠-zero, ⊞-swap}
+use Rattle.algebra.specs.Series.{pow, eval, conv}
+use Rattle.algebra.specs.SeriesLaws.{sum, sum-ext, sum-zero, sum-none, sum-mul, sum-front, pow-add, eval-more, unit, up, conv-vanish, conv-add-r, conv-mul-r, conv-pow}
 use Rattle.algebra.specs.Roots.{Distinct, domain, pow-nz, inv-inj, roots, vandermonde}
-use Rattle.algebra.specs.Massey.{Gen}
+use Rattle.algebra.specs.Register.{Gen}
 
 module _ {F : Type 0} (R : Ring F) where
   open Ring R using (𝟘, 𝟙, _⊞_, _⊠_, ⊞-zero, ⊞-self, ⊠-assoc, ⊠-one, ⊠-dist)

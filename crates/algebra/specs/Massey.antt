@@ -1,12 +1,15 @@
--- Shift registers that generate a sequence; Massey's bound; Berlekamp-Massey finds a shortest one.
+-- Massey's bound on the registers of a sequence; Berlekamp-Massey finds a shortest one.
 use mathlib.Core.Path.{_≡_, refl, sym, ap, ap₂, _∙_, transport}
 use mathlib.Core.Logic.{_≢_}
 use Prim.Native.Nat.{ℕ, zero, suc, _+_, _-_, _≤_, _<_}
 use native.Mathlib.Nat.{not-suc-le-zero, le-of-suc-le-suc, le-suc, le-refl}
 use native.Mathlib.Decide.{ℕ-discrete, decLe}
 use native.Mathlib.Omega.{arith}
-use Rattle.algebra.specs.Ring.{Ring, Field, one-⊠, ⊠-zero, zero-⊠}
-use Rattle.algebra.specs.Series.{conv, unit, up, conv-ext, conv-vanish, conv-head, conv-add-l, conv-mul-l, conv-up-l, conv-lc, sum, conv-sum, sum-more}
+use Rattle.algebra.specs.Ring.{Ring, Field}
+use Rattle.algebra.specs.RingLaws.{one-⊠, ⊠-zero, zero-⊠}
+use Rattle.algebra.specs.Register.{Gen, Shortest}
+use Rattle.algebra.specs.Series.{conv}
+use Rattle.algebra.specs.SeriesLaws.{unit, up, conv-ext, conv-vanish, conv-head, conv-add-l, conv-mul-l, conv-up-l, conv-lc, sum, conv-sum, sum-more}
 
 -- times x ^ m
 unfoldable pub ups : {F : Type 0} → Ring F → ℕ → (ℕ → F) → ℕ → F
@@ -14,24 +17,12 @@ ups R zero g = g
 ups R (suc m) g = up R (ups R m g)
 
 module _ {F : Type 0} (R : Ring F) where
-  -- the register c of length l generates the first k of s: c_0 = 1, c_j = 0 past l,
-  -- and the sum over j of c_j s_(n-j) is 0 for each n with l <= n < k, so that the first l of s give the others
-  pub record Gen (s : ℕ → F) (k : ℕ) (c : ℕ → F) (l : ℕ) : Type 0 where
-    pub head : c 0 ≡ R .𝟙
-    pub supp : (i : ℕ) → l < i → c i ≡ R .𝟘
-    pub zeros : (n : ℕ) → l ≤ n → n < k → conv R c s n ≡ R .𝟘
-
-  -- it does, and no shorter one does: a shortest register that generates the first k of s
-  pub record Shortest (s : ℕ → F) (k : ℕ) (c : ℕ → F) (l : ℕ) : Type 0 where
-    pub gen : Gen s k c l
-    pub short : (c′ : ℕ → F) (l′ : ℕ) → Gen s k c′ l′ → l ≤ l′
-
   -- sequences that agree below k have the same registers
-  pub gen-ext : (s s′ : ℕ → F) (k : ℕ) (c : ℕ → F) (l : ℕ) → ((j : ℕ) → j < k → s j ≡ s′ j) → Gen s k c l → Gen s′ k c l
+  pub gen-ext : (s s′ : ℕ → F) (k : ℕ) (c : ℕ → F) (l : ℕ) → ((j : ℕ) → j < k → s j ≡ s′ j) → Gen R s k c l → Gen R s′ k c l
   gen-ext s s′ k c l e g =
       record { head = g .head; supp = g .supp; zeros = λ n h h′. sym (conv-ext R n c s s′ (λ j a. e j (omega arith))) ∙ g .zeros n h h′ }
 
-  pub shortest-ext : (s s′ : ℕ → F) (k : ℕ) (c : ℕ → F) (l : ℕ) → ((j : ℕ) → j < k → s j ≡ s′ j) → Shortest s k c l → Shortest s′ k c l
+  pub shortest-ext : (s s′ : ℕ → F) (k : ℕ) (c : ℕ → F) (l : ℕ) → ((j : ℕ) → j < k → s j ≡ s′ j) → Shortest R s k c l → Shortest R s′ k c l
   shortest-ext s s′ k c l e S =
       record {
         gen = gen-ext s s′ k c l e (S .gen);

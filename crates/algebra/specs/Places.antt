@@ -6,6 +6,7 @@ use native.Mathlib.Nat.{not-suc-le-zero, le-refl}
 use native.Mathlib.Decide.{ℕ-discrete}
 use native.Mathlib.Omega.{arith}
 use Rattle.algebra.specs.Ring.{Ring, Field}
+use Rattle.algebra.specs.Series.{zeros}
 use Rattle.algebra.specs.Errors.{weight, weight-none, weight-same, weight-more, weight-mono}
 
 -- z_i at place i of the first e, and zero elsewhere
@@ -33,20 +34,16 @@ module _ {F : Type 0} (o : F) (place : ℕ → ℕ) (z : ℕ → F) where
 module _ {F : Type 0} (K : Field F) where
   open Ring (K .ring) using (𝟘, 𝟙)
 
-  -- ---- how many of the first n of v are zero
-  unfoldable pub zeros : ℕ → (ℕ → F) → ℕ
-  zeros zero v = 0
-  zeros (suc n) v = ite (K .dec (v n) 𝟘) (suc (zeros n v)) (zeros n v)
-
-  pub zeros-none : (v : ℕ → F) → zeros 0 v ≡ 0
+  -- ---- the zeros of v
+  pub zeros-none : (v : ℕ → F) → zeros K 0 v ≡ 0
   unfolding zeros
   zeros-none v = refl
 
-  pub zeros-more : (n : ℕ) (v : ℕ → F) → v n ≡ 𝟘 → zeros (suc n) v ≡ suc (zeros n v)
+  pub zeros-more : (n : ℕ) (v : ℕ → F) → v n ≡ 𝟘 → zeros K (suc n) v ≡ suc (zeros K n v)
   unfolding zeros
   zeros-more n v z = if-pos (K .dec (v n) 𝟘) z _ _
 
-  pub zeros-same : (n : ℕ) (v : ℕ → F) → v n ≢ 𝟘 → zeros (suc n) v ≡ zeros n v
+  pub zeros-same : (n : ℕ) (v : ℕ → F) → v n ≢ 𝟘 → zeros K (suc n) v ≡ zeros K n v
   unfolding zeros
   zeros-same n v nz = if-neg (K .dec (v n) 𝟘) nz _ _
 
@@ -66,11 +63,11 @@ module _ {F : Type 0} (K : Field F) where
       pick (yes z) = z
       pick (no nz) = absurd (ne (if-neg (K .dec (v p) 𝟘) nz 𝟙 𝟘))
 
-  pub zeros-mark : (n : ℕ) (v : ℕ → F) → zeros n v ≡ weight K n (mark v)
+  pub zeros-mark : (n : ℕ) (v : ℕ → F) → zeros K n v ≡ weight K n (mark v)
   zeros-mark zero v = zeros-none v ∙ sym (weight-none K (mark v))
   zeros-mark (suc n) v = pick (zeros-mark n v) (K .dec (v n) 𝟘)
     where
-      pick : zeros n v ≡ weight K n (mark v) → Dec (v n ≡ 𝟘) → zeros (suc n) v ≡ weight K (suc n) (mark v)
+      pick : zeros K n v ≡ weight K n (mark v) → Dec (v n ≡ 𝟘) → zeros K (suc n) v ≡ weight K (suc n) (mark v)
       pick r (yes z) = zeros-more n v z ∙ ap suc r ∙ sym (weight-more K n (mark v) (mark-zero v n z))
       pick r (no nz) = zeros-same n v nz ∙ r ∙ sym (weight-same K n (mark v) (none (K .dec (mark v n) 𝟘)))
         where
@@ -79,7 +76,7 @@ module _ {F : Type 0} (K : Field F) where
           none (no ne) = absurd (nz (zero-mark v n ne))
 
   -- the zeros are where ε is not zero: as many
-  pub zeros-weight : (n : ℕ) (v ε : ℕ → F) → ((p : ℕ) → p < n → ε p ≢ 𝟘 → v p ≡ 𝟘) → ((p : ℕ) → p < n → v p ≡ 𝟘 → ε p ≢ 𝟘) → zeros n v ≡ weight K n ε
+  pub zeros-weight : (n : ℕ) (v ε : ℕ → F) → ((p : ℕ) → p < n → ε p ≢ 𝟘 → v p ≡ 𝟘) → ((p : ℕ) → p < n → v p ≡ 𝟘 → ε p ≢ 𝟘) → zeros K n v ≡ weight K n ε
   zeros-weight n v ε wrong right =
       let a = weight-mono K n ε (mark v) (λ p h ne. mark-zero v p (wrong p h ne)) in
       let b = weight-mono K n (mark v) ε (λ p h ne. right p h (zero-mark v p ne)) in

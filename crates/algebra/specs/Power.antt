@@ -9,8 +9,10 @@ use lib.Arith.{lt-one}
 use lib.Dec.{T, T-not}
 use lib.Ieee.Fits.{and-l, and-r}
 use Rattle.laws.specs.Xor.{two-cases, two-pos}
-use Rattle.algebra.specs.Ring.{Ring, one-⊠}
-use Rattle.algebra.specs.Series.{pow, pow-add}
+use Rattle.algebra.specs.Ring.{Ring}
+use Rattle.algebra.specs.RingLaws.{one-⊠}
+use Rattle.algebra.specs.Series.{pow}
+use Rattle.algebra.specs.SeriesLaws.{pow-add}
 
 module _ {F : Type 0} (R : Ring F) where
   open Ring R using (𝟙, _⊠_, ⊠-assoc, ⊠-comm, ⊠-one)

@@ -6,8 +6,10 @@ use Prim.Native.Nat.{ℕ, zero, suc, _+_, _-_, _<_}
 use native.Mathlib.Nat.{not-suc-le-zero, le-of-suc-le-suc, le-refl}
 use native.Mathlib.Decide.{ℕ-discrete}
 use native.Mathlib.Omega.{arith}
-use Rattle.algebra.specs.Ring.{Ring, Field, ⊠-lc, zero-⊞, dist-⊠, ⊠-zero, zero-⊠, ⊞-self-l, ⊞-swap, ⊞-cancel, square-add}
-use Rattle.algebra.specs.Series.{sum, sum-ext, sum-add, sum-mul, sum-zero, pow, pow-add, eval, eval-zero}
+use Rattle.algebra.specs.Ring.{Ring, Field}
+use Rattle.algebra.specs.RingLaws.{⊠-lc, zero-⊞, dist-⊠, ⊠-zero, zero-⊠, ⊞-self-l, ⊞-swap, ⊞-cancel, square-add}
+use Rattle.algebra.specs.Series.{pow, eval}
+use Rattle.algebra.specs.SeriesLaws.{sum, sum-ext, sum-add, sum-mul, sum-zero, pow-add, eval-zero}
 
 -- the first n of a sequence differ
 abbrev pub Distinct {ℓ} : {F : Type ℓ} → ℕ → (ℕ → F) → Type ℓ
@@ -86,11 +88,15 @@ module _ {F : Type 0} (K : Field F) where
       arrange : (p q r : F) → (p ⊞ q) ⊞ (r ⊞ p) ≡ r ⊞ q
       arrange p q r = ap₂ _⊞_ (⊞-comm p q) (⊞-comm r p) ∙ ⊞-assoc q p (p ⊞ r) ∙ ap (λ y. q ⊞ y) (⊞-self-l R p r) ∙ ⊞-comm q r
 
+  -- a polynomial whose other coefficients are zero is its first one
+  constant : (n : ℕ) (c : ℕ → F) (a : F) → ((i : ℕ) → i < n → c (suc i) ≡ 𝟘) → c 0 ≡ eval R (suc n) c a
+  unfolding eval
+  constant n c a t = sym (⊞-zero (c 0)) ∙ ap (λ y. c 0 ⊞ y) (sym (⊠-zero R a)) ∙ ap (λ y. c 0 ⊞ a ⊠ y) (sym (eval-zero R n (λ j. c (suc j)) a t))
+
   quot-zero : (a : F) (n : ℕ) (c : ℕ → F) → ((i : ℕ) → i < n → quot a n c i ≡ 𝟘) → (i : ℕ) → i < n → c i ≡ 𝟘
-  unfolding quot eval
+  unfolding quot
   quot-zero a zero c h i k = absurd (not-suc-le-zero k)
-  quot-zero a (suc n) c h zero k =
-      sym (⊞-zero (c 0)) ∙ ap (λ y. c 0 ⊞ y) (sym (⊠-zero R a)) ∙ ap (λ y. c 0 ⊞ a ⊠ y) (sym (eval-zero R n (λ j. c (suc j)) a (quot-zero a n (λ j. c (suc j)) (λ j l. h (suc j) (omega arith))))) ∙ h 0 k
+  quot-zero a (suc n) c h zero k = constant n c a (quot-zero a n (λ j. c (suc j)) (λ j l. h (suc j) (omega arith))) ∙ h 0 k
   quot-zero a (suc n) c h (suc i) k = quot-zero a n (λ j. c (suc j)) (λ j l. h (suc j) (omega arith)) i (le-of-suc-le-suc k)
 
   -- one root less
@@ -101,8 +107,7 @@ module _ {F : Type 0} (K : Field F) where
       (apart (x p) (x n) (d p n h (omega arith)))
 
   lift : (n : ℕ) (c : ℕ → F) (a : F) → eval R (suc n) c a ≡ 𝟘 → ((i : ℕ) → i < n → c (suc i) ≡ 𝟘) → (i : ℕ) → i < suc n → c i ≡ 𝟘
-  unfolding eval
-  lift n c a r t zero h = sym (⊞-zero (c 0)) ∙ ap (λ y. c 0 ⊞ y) (sym (⊠-zero R a)) ∙ ap (λ y. c 0 ⊞ a ⊠ y) (sym (eval-zero R n (λ j. c (suc j)) a t)) ∙ r
+  lift n c a r t zero h = constant n c a t ∙ r
   lift n c a r t (suc i) h = t i (le-of-suc-le-suc h)
 
   pub roots : (n : ℕ) (c x : ℕ → F) → Distinct n x → ((p : ℕ) → p < n → eval R n c (x p) ≡ 𝟘) → (i : ℕ) → i < n → c i ≡ 𝟘

@@ -5,10 +5,12 @@ use Prim.Native.Nat.{ℕ, zero, suc, _≤_, _<_}
 use native.Mathlib.Nat.{not-suc-le-zero, le-refl}
 use native.Mathlib.Decide.{ℕ-discrete, decLt}
 use native.Mathlib.Omega.{arith}
-use Rattle.algebra.specs.Ring.{Ring, Field, ⊞-cancel, ⊞-swap, ⊞-self-l, ⊠-lc, ⊠-zero, one-⊠}
-use Rattle.algebra.specs.Series.{sum-last, sum-ext, sum-add, sum-mul, sum-zero, pow, eval, eval-more, conv, conv-add-r, conv-head}
+use Rattle.algebra.specs.Ring.{Ring, Field}
+use Rattle.algebra.specs.RingLaws.{⊞-cancel, ⊞-swap, ⊞-self-l, ⊠-lc, ⊠-zero, one-⊠}
+use Rattle.algebra.specs.Series.{pow, eval, conv}
+use Rattle.algebra.specs.SeriesLaws.{sum-last, sum-ext, sum-add, sum-mul, sum-zero, eval-more, conv-add-r, conv-head}
 use Rattle.algebra.specs.Roots.{Distinct, apart, weigh}
-use Rattle.algebra.specs.Massey.{Gen}
+use Rattle.algebra.specs.Register.{Gen}
 use Rattle.algebra.specs.Locator.{syndrome, at-roots}
 
 module _ {F : Type 0} (K : Field F) where

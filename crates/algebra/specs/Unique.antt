@@ -5,9 +5,12 @@ use Prim.Native.Nat.{ℕ, zero, suc, _+_, _-_, _≤_, _<_}
 use native.Mathlib.Nat.{not-suc-le-zero, le-refl, zero-add}
 use native.Mathlib.Decide.{ℕ-discrete, decLe, le-ind}
 use native.Mathlib.Omega.{arith}
-use Rattle.algebra.specs.Ring.{Ring, Field, ⊠-zero, ⊞-cancel}
-use Rattle.algebra.specs.Series.{conv, conv-add-l, conv-mul-l}
-use Rattle.algebra.specs.Massey.{Gen, Shortest, massey, gen-less, gen-more, ups, ups-at, ups-below, conv-ups}
+use Rattle.algebra.specs.Ring.{Ring, Field}
+use Rattle.algebra.specs.RingLaws.{⊠-zero, ⊞-cancel}
+use Rattle.algebra.specs.Series.{conv}
+use Rattle.algebra.specs.SeriesLaws.{conv-add-l, conv-mul-l}
+use Rattle.algebra.specs.Massey.{massey, gen-less, gen-more, ups, ups-at, ups-below, conv-ups}
+use Rattle.algebra.specs.Register.{Gen, Shortest}
 
 module _ {F : Type 0} (K : Field F) where
   open Ring (K .ring) using (𝟘, 𝟙, _⊞_, _⊠_, ⊞-zero, ⊞-self, ⊠-comm)

@@ -4,11 +4,12 @@ use Prim.Native.Nat.{ℕ, zero, suc, _+_, _*_, _/_, _%_, _^_, _≤_, _<_}
 use native.Mathlib.Nat.{not-suc-le-zero, le-of-suc-le-suc, mod-lt, zero-mul, one-mul, le-refl, mul-div-cancel, mul-mod-left, div-one}
 use native.Mathlib.Omega.{arith}
 use lib.Arith.{lt-one}
-use lib.Pow.{shr-shr}
-use Rattle.laws.specs.Xor.{_⊕_, ⊕-half, ⊕-odd, two-cases, two-pos}
-use Rattle.laws.specs.Poly.{clmul, rem, quo, deeper, half-down, division, rem-lt}
-use Rattle.algebra.specs.Ring.{Ring, Field, zero-⊞, one-⊠, ⊠-zero, zero-⊠, ⊞-swap, ⊠-swap, dist-⊠, square-add}
-use Rattle.algebra.specs.Series.{eval}
+use Rattle.laws.specs.Xor.{⊕-half, ⊕-odd, two-cases, two-pos}
+use Rattle.laws.specs.Definitions.{_⊕_, clmul, rem}
+use Rattle.laws.specs.Poly.{quo, deeper, half-down, division, rem-lt}
+use Rattle.algebra.specs.Ring.{Ring, Field}
+use Rattle.algebra.specs.RingLaws.{zero-⊞, one-⊠, ⊠-zero, zero-⊠, ⊞-swap, ⊠-swap, dist-⊠, square-add}
+use Rattle.algebra.specs.Series.{eval, bit, ev}
 use Rattle.algebra.specs.Roots.{Distinct, roots}
 
 module _ {F : Type 0} (R : Ring F) where
@@ -16,85 +17,73 @@ module _ {F : Type 0} (R : Ring F) where
 
   infixl 60 _⊞_
   infixl 70 _⊠_
-  unfoldable pub bit : ℕ → F
-  bit zero = 𝟘
-  bit (suc n) = 𝟙
-
-  -- the value at z of the polynomial whose k lowest digits are w's
-  unfoldable pub ev : ℕ → ℕ → F → F
-  ev zero w z = 𝟘
-  ev (suc k) w z = bit (w % 2) ⊞ z ⊠ ev k (w / 2) z
-
-  bit-add : (a b : ℕ) → a < 2 → b < 2 → bit (a ⊕ b) ≡ bit a ⊞ bit b
+  bit-add : (a b : ℕ) → a < 2 → b < 2 → bit R (a ⊕ b) ≡ bit R a ⊞ bit R b
   unfolding bit _⊕_
   bit-add a b ha hb =
-      two-cases (λ a. bit (a ⊕ b) ≡ bit a ⊞ bit b) (sym (zero-⊞ R (bit b)))
-      (two-cases (λ b. bit (1 ⊕ b) ≡ 𝟙 ⊞ bit b) (sym (⊞-zero 𝟙)) (sym (⊞-self 𝟙)) b hb) a ha
+      two-cases (λ a. bit R (a ⊕ b) ≡ bit R a ⊞ bit R b) (sym (zero-⊞ R (bit R b)))
+      (two-cases (λ b. bit R (1 ⊕ b) ≡ 𝟙 ⊞ bit R b) (sym (⊞-zero 𝟙)) (sym (⊞-self 𝟙)) b hb) a ha
 
-  pub ev-add : (k a b : ℕ) (z : F) → ev k (a ⊕ b) z ≡ ev k a z ⊞ ev k b z
+  pub ev-add : (k a b : ℕ) (z : F) → ev R k (a ⊕ b) z ≡ ev R k a z ⊞ ev R k b z
   unfolding ev
   ev-add zero a b z = sym (⊞-zero 𝟘)
   ev-add (suc k) a b z =
-      ap₂ (λ (u v : ℕ). bit u ⊞ z ⊠ ev k v z) (⊕-odd a b) (⊕-half a b)
+      ap₂ (λ (u v : ℕ). bit R u ⊞ z ⊠ ev R k v z) (⊕-odd a b) (⊕-half a b)
       ∙ ap₂ (λ y w. y ⊞ z ⊠ w) (bit-add (a % 2) (b % 2) (mod-lt a two-pos) (mod-lt b two-pos)) (ev-add k (a / 2) (b / 2) z)
-      ∙ ap (λ y. bit (a % 2) ⊞ bit (b % 2) ⊞ y) (⊠-dist z _ _) ∙ ⊞-swap R _ _ _ _
+      ∙ ap (λ y. bit R (a % 2) ⊞ bit R (b % 2) ⊞ y) (⊠-dist z _ _) ∙ ⊞-swap R _ _ _ _
 
-  pub ev-zero : (k : ℕ) (z : F) → ev k 0 z ≡ 𝟘
+  pub ev-zero : (k : ℕ) (z : F) → ev R k 0 z ≡ 𝟘
   unfolding ev bit
   ev-zero zero z = refl
   ev-zero (suc k) z = ap (λ y. 𝟘 ⊞ z ⊠ y) (ev-zero k z) ∙ ap (λ y. 𝟘 ⊞ y) (⊠-zero R z) ∙ ⊞-zero 𝟘
 
-  pub ev-double : (k w : ℕ) (z : F) → ev (suc k) (w * 2) z ≡ z ⊠ ev k w z
+  pub ev-double : (k w : ℕ) (z : F) → ev R (suc k) (w * 2) z ≡ z ⊠ ev R k w z
   unfolding ev bit
-  ev-double k w z = ap₂ (λ (u v : ℕ). bit u ⊞ z ⊠ ev k v z) (mul-mod-left w 2) (mul-div-cancel w two-pos) ∙ zero-⊞ R _
+  ev-double k w z = ap₂ (λ (u v : ℕ). bit R u ⊞ z ⊠ ev R k v z) (mul-mod-left w 2) (mul-div-cancel w two-pos) ∙ zero-⊞ R _
 
-  pub ev-more : (k j w : ℕ) (z : F) → w < 2 ^ k → k ≤ j → ev j w z ≡ ev k w z
+  pub ev-more : (k j w : ℕ) (z : F) → w < 2 ^ k → k ≤ j → ev R j w z ≡ ev R k w z
   unfolding ev
-  ev-more zero j w z h g = ap (λ (v : ℕ). ev j v z) (lt-one h) ∙ ev-zero j z
+  ev-more zero j w z h g = ap (λ (v : ℕ). ev R j v z) (lt-one h) ∙ ev-zero j z
   ev-more (suc k) zero w z h g = absurd (not-suc-le-zero g)
-  ev-more (suc k) (suc j) w z h g = ap (λ y. bit (w % 2) ⊞ z ⊠ y) (ev-more k j (w / 2) z (half-down w k h) (le-of-suc-le-suc g))
+  ev-more (suc k) (suc j) w z h g = ap (λ y. bit R (w % 2) ⊞ z ⊠ y) (ev-more k j (w / 2) z (half-down w k h) (le-of-suc-le-suc g))
 
-  ev-digit : (t k g : ℕ) (z : F) → t < 2 → ev k (t * g) z ≡ bit t ⊠ ev k g z
+  ev-digit : (t k g : ℕ) (z : F) → t < 2 → ev R k (t * g) z ≡ bit R t ⊠ ev R k g z
   unfolding bit
   ev-digit t k g z =
-      two-cases (λ t. ev k (t * g) z ≡ bit t ⊠ ev k g z) (ap (λ (v : ℕ). ev k v z) (zero-mul g) ∙ ev-zero k z ∙ sym (zero-⊠ R _))
-      (ap (λ (v : ℕ). ev k v z) (one-mul g) ∙ sym (one-⊠ R _)) t
+      two-cases (λ t. ev R k (t * g) z ≡ bit R t ⊠ ev R k g z) (ap (λ (v : ℕ). ev R k v z) (zero-mul g) ∙ ev-zero k z ∙ sym (zero-⊠ R _))
+      (ap (λ (v : ℕ). ev R k v z) (one-mul g) ∙ sym (one-⊠ R _)) t
 
   -- the product goes to the product
-  pub ev-clmul : (k q g d j : ℕ) (z : F) → g < 2 ^ d → k + d ≤ j → ev j (clmul k q g) z ≡ ev k q z ⊠ ev d g z
+  pub ev-clmul : (k q g d j : ℕ) (z : F) → g < 2 ^ d → k + d ≤ j → ev R j (clmul k q g) z ≡ ev R k q z ⊠ ev R d g z
   unfolding clmul ev
   ev-clmul zero q g d j z h e = ev-zero j z ∙ sym (zero-⊠ R _)
   ev-clmul (suc k) q g d zero z h e = absurd (omega arith)
   ev-clmul (suc k) q g d (suc j) z h e =
       ev-add (suc j) (q % 2 * g) (clmul k (q / 2) g * 2) z
-      ∙ ap₂ _⊞_ (ev-digit (q % 2) (suc j) g z (mod-lt q two-pos) ∙ ap (λ y. bit (q % 2) ⊠ y) (ev-more d (suc j) g z h (omega arith)))
+      ∙ ap₂ _⊞_ (ev-digit (q % 2) (suc j) g z (mod-lt q two-pos) ∙ ap (λ y. bit R (q % 2) ⊠ y) (ev-more d (suc j) g z h (omega arith)))
       (ev-double j (clmul k (q / 2) g) z ∙ ap (λ y. z ⊠ y) (ev-clmul k (q / 2) g d j z h (omega arith)) ∙ sym (⊠-assoc z _ _))
-      ∙ sym (dist-⊠ R (bit (q % 2)) (z ⊠ ev k (q / 2) z) (ev d g z))
+      ∙ sym (dist-⊠ R (bit R (q % 2)) (z ⊠ ev R k (q / 2) z) (ev R d g z))
 
-  bit-square : (t : ℕ) → t < 2 → bit t ⊠ bit t ≡ bit t
+  bit-square : (t : ℕ) → t < 2 → bit R t ⊠ bit R t ≡ bit R t
   unfolding bit
-  bit-square = two-cases (λ t. bit t ⊠ bit t ≡ bit t) (⊠-zero R 𝟘) (⊠-one 𝟙)
+  bit-square = two-cases (λ t. bit R t ⊠ bit R t ≡ bit R t) (⊠-zero R 𝟘) (⊠-one 𝟙)
 
   -- squares of values are values at squares
-  pub ev-square : (k w : ℕ) (z : F) → ev k w z ⊠ ev k w z ≡ ev k w (z ⊠ z)
+  pub ev-square : (k w : ℕ) (z : F) → ev R k w z ⊠ ev R k w z ≡ ev R k w (z ⊠ z)
   unfolding ev
   ev-square zero w z = ⊠-zero R 𝟘
   ev-square (suc k) w z =
-      square-add R (bit (w % 2)) (z ⊠ ev k (w / 2) z)
-      ∙ ap₂ _⊞_ (bit-square (w % 2) (mod-lt w two-pos)) (⊠-swap R z (ev k (w / 2) z) z (ev k (w / 2) z) ∙ ap (λ y. z ⊠ z ⊠ y) (ev-square k (w / 2) z))
+      square-add R (bit R (w % 2)) (z ⊠ ev R k (w / 2) z)
+      ∙ ap₂ _⊞_ (bit-square (w % 2) (mod-lt w two-pos)) (⊠-swap R z (ev R k (w / 2) z) z (ev R k (w / 2) z) ∙ ap (λ y. z ⊠ z ⊠ y) (ev-square k (w / 2) z))
 
   -- as a polynomial with coefficients
   unfoldable pub coeff : ℕ → ℕ → F
-  coeff w i = bit (w / 2 ^ i % 2)
+  coeff w i = bit R (w / 2 ^ i % 2)
 
-  pub ev-eval : (k w : ℕ) (z : F) → ev k w z ≡ eval R k (coeff w) z
+  pub ev-eval : (k w : ℕ) (z : F) → ev R k w z ≡ eval R k (coeff w) z
   unfolding ev eval coeff
   ev-eval zero w z = refl
   ev-eval (suc k) w z =
-      ap₂ (λ (v : ℕ) y. bit (v % 2) ⊞ z ⊠ y) (sym (div-one w)) (ev-eval k (w / 2) z ∙ ap (λ c. eval R k c z) (λ i n. bit (step n i % 2)))
-    where
-      step : (n : ℕ) → w / 2 / 2 ^ n ≡ w / 2 ^ suc n
-      step n = shr-shr w 1 n ∙ ap (λ (m : ℕ). w / 2 ^ m) (omega arith)
+      ap₂ (λ (v : ℕ) y. bit R (v % 2) ⊞ z ⊠ y) (sym (div-one w)) (ev-eval k (w / 2) z ∙ ap (λ c. eval R k c z) (λ i n. bit R (deeper w n i % 2)))
 
 module _ {F : Type 0} (K : Field F) where
   open Ring (K .ring) using (𝟘, _⊞_, _⊠_)

@@ -1,24 +1,19 @@
 -- What decoding a word gives, in the words of the scope: "A codeword gives 0. Otherwise take the shortest register generating syndromes
 -- S1 to S24. Length over 12: uncorrectable, word unchanged. Otherwise flip each present position whose root it has; if fewer flips
 -- than its length, uncorrectable, flips left in place."
-use mathlib.Core.Path.{_≡_, sym, ap₂, _∙_, subst}
-use mathlib.Core.Logic.{ite, if-pos, if-neg}
+use mathlib.Core.Path.{_≡_}
+use mathlib.Core.Logic.{ite}
 use mathlib.Core.List.{List, [], _∷_}
-use Prim.Native.Nat.{ℕ, _+_, _≤_}
+use Prim.Native.Nat.{ℕ, _+_}
 use native.Mathlib.Decide.{ℕ-discrete, decLe}
-use native.Mathlib.Omega.{arith}
 use lib.ListN.{length}
-use Rattle.laws.specs.Xor.{_⊕_}
-use Rattle.algebra.specs.Series.{pow}
-use Rattle.algebra.specs.Values.{ev}
-use Rattle.algebra.specs.Massey.{Shortest, shortest-exists}
-use Rattle.algebra.specs.Unique.{same-length, only-register}
-use Rattle.algebra.specs.Places.{zeros}
-use Rattle.algebra.specs.GfField.{El}
-use Rattle.gf16.specs.Field16.{gf16}
-use Rattle.gf16.specs.Alpha.{R16, α}
+use Rattle.laws.specs.Definitions.{_⊕_}
+use Rattle.algebra.specs.Series.{pow, ev, zeros}
+use Rattle.algebra.specs.Massey.{shortest-exists}
+use Rattle.algebra.specs.Register.{Shortest}
+use Rattle.algebra.specs.Gf.{El}
+use Rattle.gf16.specs.Field16.{gf16, R16, α, valueAt}
 use Rattle.bch_remainder.specs.Word.{number, remainderOf}
-use Rattle.bch_locator.specs.Places.{valueAt}
 use Rattle.bch.specs.declared.Decoded.{Decoded}
 use Rattle.bch.specs.declared.Decoded.the-variants.{Corrected, Uncorrectable}
 
@@ -26,7 +21,7 @@ use Rattle.bch.specs.declared.Decoded.the-variants.{Corrected, Uncorrect
 unfoldable pub syndrome : List ℕ → ℕ → El 15
 syndrome w j = ev R16 (length w) (number w) (pow R16 α (j + 1))
 
--- x where the register has the root of the position of power p (bch_locator, Places: valueAt), y elsewhere
+-- x where the register has the root of the position of power p (gf16, Field16: valueAt), y elsewhere
 unfoldable pub whereRoot : (ℕ → El 15) → ℕ → ℕ → ℕ → ℕ → ℕ
 whereRoot c l p x y = ite (gf16 .dec (valueAt c l p) (R16 .𝟘)) x y
 
@@ -39,48 +34,25 @@ flipped c l (b ∷ w) = whereRoot c l (length w) (b ⊕ 1) b ∷ flipped c l w
 unfoldable pub flips : (ℕ → El 15) → ℕ → ℕ → ℕ
 flips c l n = zeros gf16 n (valueAt c l)
 
--- the answer to a word that is no codeword, and the bytes that it leaves, by a shortest register
+-- "Length over 12: uncorrectable, word unchanged. Otherwise flip ..": the answer by a shortest register c of length l, and the bytes that it leaves
 unfoldable pub answerBy : (ℕ → El 15) → ℕ → List ℕ → Decoded
 answerBy c l w = ite (decLe l 12) (ite (ℕ-discrete (flips c l (length w)) l) (Corrected l) Uncorrectable) Uncorrectable
 
 unfoldable pub leftBy : (ℕ → El 15) → ℕ → List ℕ → List ℕ
 leftBy c l w = ite (decLe l 12) (flipped c l w) w
 
--- "the shortest register": one that is shortest, which there always is; `any-answer` and `any-left` show that it does not matter which
+-- "Otherwise take the shortest register": whichever shortest one is taken, r is its answer to w, and w′ are the bytes that it leaves. There
+-- always is one (algebra, Massey: `shortest-exists`).
+pub record Located (w w′ : List ℕ) (r : Decoded) : Type 0 where
+  pub answer : (c : ℕ → El 15) (l : ℕ) → Shortest R16 (syndrome w) 24 c l → r ≡ answerBy c l w
+  pub word : (c : ℕ → El 15) (l : ℕ) → Shortest R16 (syndrome w) 24 c l → w′ ≡ leftBy c l w
+
+-- ---- as functions of a word of an accepted length: by some shortest register. `decodes` (AnswersLaws) says that it does not matter which
 unfoldable pub register : (w : List ℕ) → (c : ℕ → El 15) × (l : ℕ) × Shortest R16 (syndrome w) 24 c l
 register w = shortest-exists gf16 (syndrome w) 24
 
--- the answer to a word of an accepted length, and the bytes that it leaves
 unfoldable pub answerOf : List ℕ → Decoded
 answerOf w = ite (ℕ-discrete (remainderOf w) 0) (Corrected 0) (answerBy (register w .0) (register w .1) w)
 
 unfoldable pub leftOf : List ℕ → List ℕ
 leftOf w = ite (ℕ-discrete (remainderOf w) 0) w (leftBy (register w .0) (register w .1) w)
-
--- what is done with a register of length at most 12, and else not, does not depend on which shortest register it is
-same-by : {X : Type 0} (f : (ℕ → El 15) → ℕ → X) (o : X) (w : List ℕ) (c : ℕ → El 15) (l : ℕ) → Shortest R16 (syndrome w) 24 c l
-    → ite (decLe (register w .1) 12) (f (register w .0) (register w .1)) o ≡ ite (decLe l 12) (f c l) o
-same-by {X} f o w c l S = pick (decLe l 12)
-  where
-    c₀ : ℕ → El 15
-    c₀ = register w .0
-
-    l₀ : ℕ
-    l₀ = register w .1
-
-    same : l₀ ≡ l
-    same = same-length gf16 (syndrome w) 24 c₀ l₀ (register w .2) c l S
-
-    pick : Dec (l ≤ 12) → ite (decLe l₀ 12) (f c₀ l₀) o ≡ ite (decLe l 12) (f c l) o
-    pick (yes h) =
-        let e = only-register gf16 (syndrome w) 24 c₀ l₀ c l (register w .2) S (omega (arith, same)) in
-        if-pos (decLe l₀ 12) (omega (arith, same)) (f c₀ l₀) o ∙ ap₂ f (e .1) (e .0) ∙ sym (if-pos (decLe l 12) h (f c l) o)
-    pick (no h) = if-neg (decLe l₀ 12) (λ g. h (subst (λ (z : ℕ). z ≤ 12) same g)) (f c₀ l₀) o ∙ sym (if-neg (decLe l 12) h (f c l) o)
-
-pub any-answer : (w : List ℕ) (c : ℕ → El 15) (l : ℕ) → Shortest R16 (syndrome w) 24 c l → answerBy (register w .0) (register w .1) w ≡ answerBy c l w
-unfolding answerBy
-any-answer w c l S = same-by (λ c l. ite (ℕ-discrete (flips c l (length w)) l) (Corrected l) Uncorrectable) Uncorrectable w c l S
-
-pub any-left : (w : List ℕ) (c : ℕ → El 15) (l : ℕ) → Shortest R16 (syndrome w) 24 c l → leftBy (register w .0) (register w .1) w ≡ leftBy c l w
-unfolding leftBy
-any-left w c l S = same-by (λ c l. flipped c l w) w w c l S

@@ -8,15 +8,14 @@ use native.Mathlib.Omega.{arith}
 use lib.ListN.{length}
 use Rattle.algebra.specs.Series.{pow}
 use Rattle.algebra.specs.Roots.{Distinct}
-use Rattle.algebra.specs.Massey.{Shortest}
+use Rattle.algebra.specs.Register.{Shortest}
 use Rattle.algebra.specs.Errors.{weight, Syndromes}
 use Rattle.algebra.specs.Corrects.{Found, found, found-count}
-use Rattle.algebra.specs.GfField.{El}
-use Rattle.gf16.specs.Field16.{gf16}
-use Rattle.gf16.specs.Alpha.{R16, α, α-nz, α-apart}
+use Rattle.algebra.specs.Gf.{El}
+use Rattle.gf16.specs.Field16.{gf16, R16, α, valueAt}
+use Rattle.gf16.specs.Alpha.{α-nz, α-apart}
 use Rattle.bch_remainder.specs.Word.{Codeword}
 use Rattle.bch.specs.Distance.{distance, lowBits}
-use Rattle.bch_locator.specs.Places.{valueAt}
 use Rattle.bch.specs.Decode.{syndrome, flipped, flips, answerBy, leftBy}
 use Rattle.bch.specs.Difference.{difference, weight-distance, syndrome-difference}
 use Rattle.bch.specs.Flips.{flipped-bits}

@@ -7,7 +7,8 @@ ghost use lib.ListN.{length, getD};
 ghost use Rattle.bch_table.specs.Step.{valueOf};
 ghost use Rattle.bch_remainder.specs.Word.{remainderOf};
 ghost use Rattle.bch.specs.Places.{flipAll};
-ghost use Rattle.bch.specs.Answers.{messageRefusal, encodedNumber, encodedOf, parityOut, encodeOut, Located, Decodes};
+ghost use Rattle.bch.specs.Decode.{Located};
+ghost use Rattle.bch.specs.Answers.{messageRefusal, encodedNumber, encodedOf, parityOut, encodeOut, Decodes};
 use bch_table::Reg;
 
 // What `parity` and `encode` answer.

@@ -6,14 +6,16 @@ use native.Mathlib.Nat.{not-suc-le-zero, le-of-suc-le-suc, le-of-lt, pow-suc, mo
 use native.Mathlib.Omega.{arith}
 use lib.Dec.{T, eqb, eqb→eq, ltb, ltb→lt, lit<}
 use lib.Bits.{bitAnd, bitXor, and-mask}
-use Rattle.laws.specs.Xor.{_⊕_, ⊕-zero, ⊕-div, ⊕-mod, ⊕-swap, span}
+use Rattle.laws.specs.Xor.{⊕-zero, ⊕-div, ⊕-mod, ⊕-swap, span}
+use Rattle.laws.specs.Definitions.{_⊕_}
 use Rattle.laws.specs.Poly.{⊕-shift}
 use Rattle.laws.specs.Tests.{below, below-at}
-use Rattle.algebra.specs.Ring.{Ring, ⊠-zero}
-use Rattle.algebra.specs.Series.{pow}
-use Rattle.algebra.specs.Values.{bit, ev, ev-add, ev-zero, ev-double, ev-more}
+use Rattle.algebra.specs.Ring.{Ring}
+use Rattle.algebra.specs.RingLaws.{⊠-zero}
+use Rattle.algebra.specs.Series.{pow, bit, ev}
+use Rattle.algebra.specs.Values.{ev-add, ev-zero, ev-double, ev-more}
 use Rattle.algebra.specs.Gf.{mul, mulN, xt}
-use Rattle.gf16.specs.Alpha.{R16, α}
+use Rattle.gf16.specs.Field16.{R16, α}
 use Rattle.bch_locator.specs.Element.{toEl, toEl-xor, toEl-zero, toEl-one, toEl-two, toEl-mul}
 
 -- ---- additive functions

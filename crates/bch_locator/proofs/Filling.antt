@@ -5,8 +5,8 @@ use Prim.Native.Nat.{ℕ, _+_, _*_, _≤_, _<_}
 use native.Mathlib.Nat.{mul-le-mul, le-of-suc-le-suc}
 use native.Mathlib.Omega.{arith}
 use lib.ListN.{getD, set, length-set, replicate}
-use Rattle.algebra.specs.Values.{ev}
-use Rattle.gf16.specs.Alpha.{R16, α}
+use Rattle.algebra.specs.Series.{ev}
+use Rattle.gf16.specs.Field16.{R16, α}
 use Rattle.bch_locator.specs.Element.{toEl, poly}
 use Rattle.bch_locator.specs.Lanes.{Lanes, Products}
 use Rattle.laws.specs.Lists.{zeros-at}

@@ -10,13 +10,15 @@ use lib.Bits.{bitXor}
 use lib.Pow.{shr-shr}
 use lib.ListN.{getD, length, set, length-set, replicate}
 use lib.Seq.{getD-set-same, getD-set-other}
-use Rattle.laws.specs.Xor.{_⊕_, ⊕-lt, two-cases, two-pos}
-use Rattle.algebra.specs.Ring.{one-⊠, ⊠-zero, zero-⊞}
-use Rattle.algebra.specs.Series.{pow, pow-add}
+use Rattle.laws.specs.Xor.{⊕-lt, two-cases, two-pos}
+use Rattle.laws.specs.Definitions.{_⊕_}
+use Rattle.algebra.specs.RingLaws.{one-⊠, ⊠-zero, zero-⊞}
+use Rattle.algebra.specs.Series.{pow, bit, ev}
+use Rattle.algebra.specs.SeriesLaws.{pow-add}
 use Rattle.algebra.specs.Power.{pow-suc′}
-use Rattle.algebra.specs.Values.{bit, ev, ev-square}
-use Rattle.algebra.specs.GfField.{El}
-use Rattle.gf16.specs.Alpha.{R16, α}
+use Rattle.algebra.specs.Values.{ev-square}
+use Rattle.algebra.specs.Gf.{El}
+use Rattle.gf16.specs.Field16.{R16, α}
 use Rattle.bch_table.specs.Step.{joined}
 use Rattle.bch_locator.specs.Element.{toEl, toEl-xor, toEl-zero, toEl-one, poly}
 use Rattle.bch_locator.specs.Lanes.{Lanes, Products, PowersOf}

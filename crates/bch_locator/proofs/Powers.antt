@@ -2,10 +2,10 @@
 use mathlib.Core.Path.{_≡_, sym, ap, ap₂, _∙_}
 use Prim.Native.Nat.{ℕ, suc, _+_, _-_, _≤_, _<_}
 use native.Mathlib.Omega.{arith}
-use Rattle.algebra.specs.Ring.{ones-power, one-⊠}
-use Rattle.algebra.specs.GfField.{El, gf-field}
-use Rattle.gf16.specs.Field16.{gf16}
-use Rattle.gf16.specs.Alpha.{R16}
+use Rattle.algebra.specs.RingLaws.{ones-power, one-⊠}
+use Rattle.algebra.specs.GfField.{gf-field}
+use Rattle.algebra.specs.Gf.{El}
+use Rattle.gf16.specs.Field16.{gf16, R16}
 use Rattle.bch_locator.specs.Element.{toEl, toEl-one}
 
 pub inverse-start : (a x : ℕ) → toEl x ≡ R16 ._⊠_ (toEl a) (toEl a) → R16 ._⊠_ (toEl 1) (ones-power R16 15 (toEl x)) ≡ gf16 .inv (toEl a)

@@ -2,15 +2,17 @@
 -- so taken. Assumes nothing.
 use mathlib.Core.Path.{_≡_, refl, sym, ap, ap₂, _∙_, subst}
 use Prim.Native.Nat.{ℕ, zero, suc, _+_, _-_, _*_, _/_, _%_, _^_, _≤_, _<_}
-use native.Mathlib.Nat.{mod-lt, pow-suc, zero-mul, one-mul, mul-assoc, mod-eq-of-lt, add-mod, lt-of-lt-of-le, div-one, mul-one, le-refl, zero-add, suc-add}
+use native.Mathlib.Nat.{mod-lt, pow-suc, mul-assoc, mul-le-mul, le-of-suc-le-suc, mod-eq-of-lt, add-mod, lt-of-lt-of-le, div-one, mul-one, le-refl}
 use native.Mathlib.Numerals.{add-one}
 use native.Mathlib.Omega.{arith}
 use lib.Pow.{pow-pos, pow-mono, field, shr-shr, shl-shr}
 use lib.Bits.{bitXor}
-use Rattle.laws.specs.Xor.{_⊕_, ⊕-comm, ⊕-lt, two-cases, two-pos}
-use Rattle.laws.specs.Poly.{clmul}
-use Rattle.algebra.specs.Values.{ev, ev-clmul}
-use Rattle.gf16.specs.Alpha.{R16, α}
+use Rattle.laws.specs.Xor.{⊕-comm, two-pos}
+use Rattle.laws.specs.Definitions.{_⊕_, clmul}
+use Rattle.laws.specs.Poly.{clmul-degree}
+use Rattle.algebra.specs.Values.{ev-clmul}
+use Rattle.algebra.specs.Series.{ev}
+use Rattle.gf16.specs.Field16.{R16, α}
 use Rattle.bch_locator.specs.Element.{toEl}
 use Rattle.bch_locator.proofs.AtAlpha.{ev-itself}
 
@@ -28,19 +30,6 @@ digit-next n b i y f =
   where
     twice : (z : ℕ) → z * 2 ≡ z + z
     twice z = omega arith
-
-bit-lt : (d a k : ℕ) → d < 2 → a < 2 ^ k → d * a < 2 ^ k
-bit-lt d a k h g = two-cases (λ d. d * a < 2 ^ k) (subst (λ (z : ℕ). z < 2 ^ k) (sym (zero-mul a)) (pow-pos k)) (subst (λ (z : ℕ). z < 2 ^ k) (sym (one-mul a)) g) d h
-
-clmul-lt : (k q g d : ℕ) → g < 2 ^ d → clmul (suc k) q g < 2 ^ (k + d)
-unfolding clmul
-clmul-lt zero q g d h =
-    subst (λ (z : ℕ). clmul 1 q g < 2 ^ z) (sym (zero-add d)) (⊕-lt d (bit-lt (q % 2) g d (mod-lt q two-pos) h) (pow-pos d))
-clmul-lt (suc k) q g d h =
-    let r = clmul-lt k (q / 2) g d h in
-    subst (λ (z : ℕ). clmul (suc (suc k)) q g < 2 ^ z) (sym (suc-add k d))
-    (⊕-lt (suc (k + d)) (bit-lt (q % 2) g (suc (k + d)) (mod-lt q two-pos) (lt-of-lt-of-le h (pow-mono (omega arith))))
-    (omega (arith, r, pow-suc 2 (k + d))))
 
 -- ---- the loop of `mul`: i digits of b are done
 pub record Taken (a b x y i : ℕ) : Type 0 where
@@ -67,7 +56,7 @@ module _ (a b x y i : ℕ) (ha : a < 65536) (t : Taken a b x y i) (h : i < 16) w
       small zero e = subst (λ (z : ℕ). z < 2147483648) (sym (t .done ∙ ap (λ (z : ℕ). clmul z (b / 2 ^ (16 - i)) a) e)) (pow-pos 31)
       small (suc j) e =
           subst (λ (z : ℕ). z < 2147483648) (sym (t .done ∙ ap (λ (z : ℕ). clmul z (b / 2 ^ (16 - i)) a) e))
-          (lt-of-lt-of-le (clmul-lt j (b / 2 ^ (16 - i)) a 16 ha) (pow-mono {j = 31} (omega arith)))
+          (lt-of-lt-of-le (clmul-degree j (b / 2 ^ (16 - i)) 16 a ha) (pow-mono {j = 31} (omega arith)))
 
   pub taken-again : Taken a b (bitXor (x * 2 % 4294967296) (y / 32768 * a)) (y * 2 % 65536) (i + 1)
   unfolding clmul _⊕_
@@ -101,7 +90,9 @@ taken-end a b x y i r ha hb t h e =
 pub taken-fits : (a b x y i : ℕ) → a < 65536 → Taken a b x y i → 16 ≤ i → x < 2147483648
 taken-fits a b x y i ha t h =
     let n : i ≡ 16 = omega (arith, t .most) in
-    subst (λ (z : ℕ). z < 2147483648) (sym (t .done ∙ ap (λ (k : ℕ). clmul k (b / 2 ^ (16 - i)) a) n)) (clmul-lt 15 (b / 2 ^ (16 - i)) a 16 ha)
+    subst (λ (z : ℕ). z < 2147483648) (sym (t .done ∙ ap (λ (k : ℕ). clmul k (b / 2 ^ (16 - i)) a) n)) (clmul-degree 15 (b / 2 ^ (16 - i)) 16 a ha)
 
 pub product-lt : (y a : ℕ) → a < 65536 → y / 32768 < 2 → y / 32768 * a < 4294967296
-product-lt y a ha h = lt-of-lt-of-le (bit-lt (y / 32768) a 16 h ha) (pow-mono {i = 16} {j = 32} (omega arith))
+product-lt y a ha h =
+    let m : y / 32768 * a ≤ 1 * 65535 = mul-le-mul (le-of-suc-le-suc h) (le-of-suc-le-suc ha) in
+    omega arith

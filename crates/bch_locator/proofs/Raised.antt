@@ -9,12 +9,12 @@ use lib.Dec.{T, eqb, eqb→eq}
 use lib.Bits.{xor-shifted}
 use lib.Pow.{pow-mono}
 use lib.ListN.{getD, length, List·getD-eq-default}
-use Rattle.laws.specs.Xor.{_⊕_}
+use Rattle.laws.specs.Definitions.{_⊕_}
 use Rattle.laws.specs.Tests.{below, below-at}
 use Rattle.algebra.specs.Ring.{Ring}
-use Rattle.algebra.specs.Series.{pow}
-use Rattle.algebra.specs.Values.{ev, ev-add, ev-double, ev-more}
-use Rattle.gf16.specs.Alpha.{R16, α}
+use Rattle.algebra.specs.Series.{pow, ev}
+use Rattle.algebra.specs.Values.{ev-add, ev-double, ev-more}
+use Rattle.gf16.specs.Field16.{R16, α}
 use Rattle.bch_locator.specs.Element.{toEl, toEl-zero, poly}
 use Rattle.bch_locator.specs.Lanes.{Lanes, Products, PowersOf}
 use Rattle.bch_locator.proofs.AtAlpha.{ev-itself}

@@ -10,20 +10,22 @@ use native.Mathlib.Omega.{arith}
 use lib.Bits.{bitXor}
 use lib.ListN.{getD, length, set, length-set, replicate}
 use lib.Seq.{getD-set-other}
-use Rattle.laws.specs.Xor.{_⊕_}
-use Rattle.algebra.specs.Ring.{Ring, ⊠-zero, ⊠-lc, ⊞-cancel, one-⊠}
-use Rattle.algebra.specs.Series.{sum, sum-none, sum-last, sum-front, sum-ext, sum-more, pow, pow-add, conv-sum, conv-pow}
+use Rattle.laws.specs.Definitions.{_⊕_}
+use Rattle.algebra.specs.Ring.{Ring}
+use Rattle.algebra.specs.RingLaws.{⊠-zero, ⊠-lc, ⊞-cancel, one-⊠}
+use Rattle.algebra.specs.Series.{pow, ev, zeros}
+use Rattle.algebra.specs.SeriesLaws.{sum, sum-none, sum-last, sum-front, sum-ext, sum-more, pow-add, conv-sum, conv-pow}
 use Rattle.algebra.specs.Power.{pow-mul}
 use Rattle.algebra.specs.Roots.{domain, pow-nz}
-use Rattle.algebra.specs.Values.{ev, ev-zero}
-use Rattle.algebra.specs.Places.{zeros, zeros-none, zeros-more, zeros-same}
+use Rattle.algebra.specs.Values.{ev-zero}
+use Rattle.algebra.specs.Places.{zeros-none, zeros-more, zeros-same}
 use Rattle.algebra.specs.Corrects.{roots-fit}
-use Rattle.algebra.specs.GfField.{El}
-use Rattle.gf16.specs.Field16.{gf16}
-use Rattle.gf16.specs.Alpha.{R16, α, α-nz, α-apart}
+use Rattle.algebra.specs.Gf.{El}
+use Rattle.gf16.specs.Field16.{gf16, R16, α, valueAt}
+use Rattle.gf16.specs.Alpha.{α-nz, α-apart}
 use Rattle.bch_locator.specs.Element.{toEl, toEl-inj, toEl-xor, toEl-zero, toEl-one, poly}
 use Rattle.bch_locator.specs.Lanes.{Lanes, Products, PowersOf}
-use Rattle.bch_locator.specs.Places.{valueAt, Places-of, Reversed}
+use Rattle.bch_locator.specs.Places.{Places-of, Reversed}
 use Rattle.bch_locator.proofs.Raised.{raised, lanes-raised, lanes-past}
 use Rattle.laws.specs.Lists.{zeros-at}
 use Rattle.laws.specs.Stores.{set-at, grown}

@@ -10,12 +10,13 @@ use native.Mathlib.Omega.{arith}
 use lib.Bits.{bitXor}
 use lib.ListN.{getD, length, set, List·getD-eq-default}
 use lib.Seq.{getD-set-same, getD-set-other}
-use Rattle.laws.specs.Xor.{_⊕_}
-use Rattle.algebra.specs.Ring.{⊠-zero}
-use Rattle.algebra.specs.Series.{sum, sum-none, sum-last, conv, unit}
-use Rattle.algebra.specs.Massey.{Gen, Inv, fixed, fixed-at, fixed-below, ups-supp, inv-start, inv-move, discrepancy, step-zero, step-keep, step-grow, no-shorter}
-use Rattle.gf16.specs.Field16.{gf16}
-use Rattle.gf16.specs.Alpha.{R16}
+use Rattle.laws.specs.Definitions.{_⊕_}
+use Rattle.algebra.specs.RingLaws.{⊠-zero}
+use Rattle.algebra.specs.Series.{conv}
+use Rattle.algebra.specs.SeriesLaws.{sum, sum-none, sum-last, unit}
+use Rattle.algebra.specs.Massey.{Inv, fixed, fixed-at, fixed-below, ups-supp, inv-start, inv-move, discrepancy, step-zero, step-keep, step-grow, no-shorter}
+use Rattle.algebra.specs.Register.{Gen}
+use Rattle.gf16.specs.Field16.{gf16, R16}
 use Rattle.bch_locator.specs.Element.{toEl, toEl-inj, toEl-xor, toEl-zero, toEl-one, poly}
 use Rattle.bch_locator.specs.Register.{term, total, Mended, Register-of}
 

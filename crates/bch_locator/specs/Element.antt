@@ -5,11 +5,12 @@ use Prim.Native.Nat.{ℕ, _%_, _<_}
 use native.Mathlib.Nat.{mod-lt, mod-eq-of-lt}
 use lib.Dec.{lit<}
 use lib.ListN.{getD}
-use Rattle.laws.specs.Xor.{_⊕_, ⊕-mod}
-use Rattle.algebra.specs.Gf.{mul, mul-lt}
-use Rattle.algebra.specs.GfField.{El, gf-ring, gf-field, el-path}
-use Rattle.gf16.specs.Field16.{gf16}
-use Rattle.gf16.specs.Alpha.{R16, α}
+use Rattle.laws.specs.Xor.{⊕-mod}
+use Rattle.laws.specs.Definitions.{_⊕_}
+use Rattle.algebra.specs.Gf.{mul, El}
+use Rattle.algebra.specs.GfLaws.{mul-lt, el-path}
+use Rattle.algebra.specs.GfField.{gf-ring, gf-field}
+use Rattle.gf16.specs.Field16.{gf16, R16, α}
 
 -- a u16: digit i is the coefficient of α^i
 unfoldable pub toEl : ℕ → El 15

@@ -3,8 +3,8 @@ use mathlib.Core.Path.{_≡_}
 use mathlib.Core.List.{List}
 use Prim.Native.Nat.{ℕ, _*_, _^_, _≤_, _<_}
 use lib.ListN.{getD, length}
-use Rattle.algebra.specs.Values.{ev}
-use Rattle.gf16.specs.Alpha.{R16, α}
+use Rattle.algebra.specs.Series.{ev}
+use Rattle.gf16.specs.Field16.{R16, α}
 use Rattle.bch_locator.specs.Element.{poly}
 
 -- what a [u16; 16] is

@@ -3,17 +3,10 @@ use mathlib.Core.Path.{_≡_}
 use mathlib.Core.List.{List}
 use Prim.Native.Nat.{ℕ, suc, _-_, _≤_, _<_}
 use lib.ListN.{getD, length}
-use Rattle.algebra.specs.Series.{pow, eval}
-use Rattle.algebra.specs.Places.{zeros}
-use Rattle.algebra.specs.GfField.{El}
-use Rattle.gf16.specs.Field16.{gf16}
-use Rattle.gf16.specs.Alpha.{R16, α}
+use Rattle.algebra.specs.Series.{zeros}
+use Rattle.gf16.specs.Field16.{gf16, valueAt, R16}
 use Rattle.bch_locator.specs.Element.{poly}
 use Rattle.bch_locator.specs.Lanes.{Lanes}
-
--- the value of the register c of length l at the inverse of α^p: the position of power p has its root where this is zero
-abbrev pub valueAt : (ℕ → El 15) → ℕ → ℕ → El 15
-valueAt c l p = eval R16 (suc l) c (gf16 .inv (pow R16 α p))
 
 -- the powers below n at which the register vanishes, ascending, each once: the first `count` of `at`; zeros behind them
 pub record Places-of (at : List ℕ) (count : ℕ) (c : List ℕ) (l n : ℕ) : Type 0 where

@@ -1,14 +1,14 @@
 -- "Take the shortest register generating syndromes S1 to S24": s j is S_(j + 1), and c of length l generates s where c 0 = 1, c is zero past l,
--- and the sum of c i s (n - i), i = 0 .. l, is zero for every n from l to 23 (algebra: Massey.Gen).
+-- and the sum of c i s (n - i), i = 0 .. l, is zero for every n from l to 23 (algebra: Register.Gen).
 use mathlib.Core.Path.{_≡_}
 use mathlib.Core.List.{List}
 use Prim.Native.Nat.{ℕ, _-_, _≤_, _<_}
 use lib.ListN.{getD, length}
-use Rattle.algebra.specs.Series.{sum}
-use Rattle.algebra.specs.Massey.{Gen, fixed}
-use Rattle.algebra.specs.GfField.{El}
-use Rattle.gf16.specs.Field16.{gf16}
-use Rattle.gf16.specs.Alpha.{R16}
+use Rattle.algebra.specs.SeriesLaws.{sum}
+use Rattle.algebra.specs.Massey.{fixed}
+use Rattle.algebra.specs.Register.{Gen}
+use Rattle.algebra.specs.Gf.{El}
+use Rattle.gf16.specs.Field16.{gf16, R16}
 use Rattle.bch_locator.specs.Element.{toEl, poly}
 
 -- l at most 12: c of length l generates s, and no register that does is shorter. "Length over 12": l is 13, none is

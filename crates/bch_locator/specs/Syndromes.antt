@@ -3,10 +3,9 @@ use mathlib.Core.Path.{_≡_}
 use mathlib.Core.List.{List}
 use Prim.Native.Nat.{ℕ, _+_, _-_, _*_, _^_, _<_}
 use lib.ListN.{length}
-use Rattle.algebra.specs.Series.{pow}
-use Rattle.algebra.specs.Values.{ev}
-use Rattle.gf16.specs.Alpha.{R16, α}
-use Rattle.algebra.specs.GfField.{El}
+use Rattle.algebra.specs.Series.{pow, ev}
+use Rattle.gf16.specs.Field16.{R16, α}
+use Rattle.algebra.specs.Gf.{El}
 use Rattle.bch_locator.specs.Element.{toEl, poly}
 use Rattle.bch_locator.specs.Lanes.{Lanes}
 

@@ -9,7 +9,7 @@ use lib.Bits.{bitXor}
 use lib.Pow.{pow-mono}
 use lib.ListN.{length, take, drop, length-take, length-drop, take-append-drop}
 use lib.Seq.{take-add, take-all, drop-drop, length-take-le}
-use Rattle.laws.specs.Xor.{_⊕_}
+use Rattle.laws.specs.Definitions.{_⊕_}
 use Rattle.bch_table.specs.Step.{joined, stepOf}
 use Rattle.bch_table.specs.Words.{xored}
 use Rattle.bch_remainder.specs.Word.{number, parityOf, remainderOf}

@@ -8,9 +8,11 @@ use native.Mathlib.Omega.{arith}
 use lib.Arith.{digits-lt}
 use lib.ListN.{length, getD, length-append}
 use lib.Pow.{pow-add, pow-pos, high, pow-mono, shl-lt, mod-pow-add}
-use Rattle.laws.specs.Xor.{_⊕_, ⊕-lt, ⊕-self, zero-⊕, two-pos}
-use Rattle.laws.specs.Poly.{rem, rem-lt, rem-add, rem-small, rem-digits, rem-shift, ⊕-join, ⊕-shift, divides-rem, rem-divides}
-use Rattle.bch_table.specs.Generator.{generator, generator-top}
+use Rattle.laws.specs.Xor.{⊕-lt, ⊕-self, zero-⊕, two-pos}
+use Rattle.laws.specs.Definitions.{_⊕_, rem}
+use Rattle.laws.specs.Poly.{rem-lt, rem-add, rem-small, rem-digits, rem-shift, ⊕-join, ⊕-shift, divides-rem, rem-divides}
+use Rattle.bch_table.specs.Generator.{generator}
+use Rattle.bch_table.specs.GeneratorLaws.{generator-top}
 use Rattle.bch_table.specs.Step.{stepOf}
 use Rattle.bch_remainder.specs.Word.{number, number-from, parityOf, remainderOf, Codeword, bitsOf, parityBits, encoded}
 
@@ -60,7 +62,7 @@ high-part a n j k =
     around : (a b c : ℕ) → a * (b * (c * 2)) ≡ a * c * 2 * b
     around a b c = omega arith
 
-number-digit : (w : List ℕ) (i : ℕ) → i < length w → number w / 2 ^ (length w - suc i) % 2 ≡ getD w i 0 % 2
+pub number-digit : (w : List ℕ) (i : ℕ) → i < length w → number w / 2 ^ (length w - suc i) % 2 ≡ getD w i 0 % 2
 number-digit [] i h = absurd (not-suc-le-zero h)
 number-digit (b ∷ w) zero h =
     ap (λ (x : ℕ). x / 2 ^ (suc (length w) - 1) % 2) (number-one-more b w) ∙ ap (λ (k : ℕ). (b % 2 * 2 ^ length w + number w) / 2 ^ k % 2) less

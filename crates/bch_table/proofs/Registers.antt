@@ -4,18 +4,20 @@
 -- Assumes nothing.
 use mathlib.Core.Path.{_≡_, refl, sym, ap, ap₂, _∙_, subst}
 use mathlib.Core.List.{List, [], _∷_, _++_, map}
-use Prim.Native.Nat.{ℕ, zero, suc, _+_, _-_, _*_, _/_, _%_, _^_, _≤_, _<_}
-use native.Mathlib.Nat.{not-suc-le-zero, le-of-suc-le-suc, le-of-lt, lt-of-lt-of-le, lt-of-not-le, le-refl, add-comm, zero-mul, one-mul, pow-suc, mul-div-cancel, mul-mod-left, two-pow-succ}
+use Prim.Native.Nat.{ℕ, zero, suc, _+_, _-_, _*_, _^_, _≤_, _<_}
+use native.Mathlib.Nat.{not-suc-le-zero, le-of-suc-le-suc, le-of-lt, lt-of-lt-of-le, lt-of-not-le, le-refl, add-comm, zero-mul, one-mul, pow-suc, mul-div-cancel, mul-mod-left, two-pow-succ, add-zero, zero-add, add-suc, suc-add}
 use native.Mathlib.Decide.{decLe}
 use native.Mathlib.Omega.{arith}
 use lib.Arith.{lt-one}
 use lib.ListN.{length, getD, length-append, length-map, List·getD-append}
-use lib.Seq.{getD-append-add, ext-getD}
+use lib.Seq.{getD-append-add}
 use lib.Pow.{pow-mono, pow-lt, shl-lt}
-use Rattle.laws.specs.Xor.{_⊕_, two-pos}
-use Rattle.laws.specs.Poly.{rem, into, shifted, rem-zero, rem-add, rem-digits, ⊕-join, ⊕-shift}
-use Rattle.bch_table.specs.Generator.{generator, generator-is}
-use Rattle.bch_table.specs.Table.{timesPower, wordOf, byteTable, table-length, table-at, after-three}
+use Rattle.laws.specs.Xor.{two-pos}
+use Rattle.laws.specs.Definitions.{_⊕_, rem, into, shifted}
+use Rattle.laws.specs.Poly.{rem-zero, rem-add, rem-digits, ⊕-join, ⊕-shift}
+use Rattle.bch_table.specs.Generator.{generator}
+use Rattle.bch_table.specs.GeneratorLaws.{generator-is}
+use Rattle.bch_table.specs.Table.{timesPower, wordOf, tableFrom, byteTable}
 use Rattle.bch_table.proofs.Entries.{table}
 
 -- a list, and after it the same with r added to each
@@ -132,28 +134,22 @@ registers-at e (suc i) hi t h = go (registers-at e i (le-of-lt hi)) (decLe (2 ^ 
         List·getD-append l (map added l) 0 t (subst (λ (n : ℕ). t < n) (sym long) low) ∙ ih t low
 
 -- ---- the words
-words-at : (rs : List ℕ) (t w : ℕ) → t < length rs → w < 3 → getD (words rs) (t * 3 + w) 0 ≡ wordOf w (getD rs t 0)
-unfolding words
-words-at [] t w h hw = absurd (not-suc-le-zero h)
-words-at (r ∷ rs) zero zero h hw = refl
-words-at (r ∷ rs) zero (suc zero) h hw = refl
-words-at (r ∷ rs) zero (suc (suc zero)) h hw = refl
-words-at (r ∷ rs) zero (suc (suc (suc w))) h hw = absurd (not-suc-le-zero (le-of-suc-le-suc (le-of-suc-le-suc (le-of-suc-le-suc hw))))
-words-at (r ∷ rs) (suc t) w h hw = ap (λ (n : ℕ). getD (words (r ∷ rs)) n 0) (after-three t w) ∙ words-at rs t w (le-of-suc-le-suc h) hw
-
-entry : (t w : ℕ) → t < 256 → w < 3 → getD table (t * 3 + w) 0 ≡ wordOf w (timesPower 192 t)
-entry t w ht hw =
-    ap (λ (l : List ℕ). getD l (t * 3 + w) 0) (sym table-is)
-    ∙ ap₂ (λ (g r : ℕ). getD (words (registers g r 8)) (t * 3 + w) 0) (sym generator-is) (sym first)
-    ∙ words-at (registers generator (timesPower 192 1) 8) t w (subst (λ (n : ℕ). t < n) (sym (registers-length generator (timesPower 192 1) 8)) ht) hw
-    ∙ ap (wordOf w) (registers-at 192 8 (le-refl 8) t ht)
+words-from : (e t : ℕ) (rs : List ℕ) → ((i : ℕ) → i < length rs → getD rs i 0 ≡ timesPower e (t + i)) → words rs ≡ tableFrom e t (length rs)
+unfolding words tableFrom
+words-from e t [] h = refl
+words-from e t (r ∷ rs) h =
+    ap₂ (λ (x : ℕ) (l : List ℕ). wordOf 0 x ∷ wordOf 1 x ∷ wordOf 2 x ∷ l) (h 0 (omega arith) ∙ ap (timesPower e) (add-zero t))
+    (words-from e (suc t) rs (λ i g. h (suc i) (omega arith) ∙ ap (timesPower e) (add-suc t i ∙ sym (suc-add t i))))
 
 pub table-rule : table ≡ byteTable
-table-rule = ext-getD 0 table byteTable (sym table-length) same
+unfolding byteTable
+table-rule =
+    sym table-is ∙ ap₂ (λ (g r : ℕ). words (registers g r 8)) (sym generator-is) (sym first)
+    ∙ words-from 192 0 rs (λ i h. registers-at 192 8 (le-refl 8) i (subst (λ (n : ℕ). i < n) long h) ∙ ap (timesPower 192) (sym (zero-add i)))
+    ∙ ap (tableFrom 192 0) long
   where
-    same : (i : ℕ) → i < length table → getD table i 0 ≡ getD byteTable i 0
-    same i h =
-        let t : i / 3 < 256 = omega arith in
-        let w : i % 3 < 3 = omega arith in
-        let e : i / 3 * 3 + i % 3 ≡ i = omega arith in
-        subst (λ (k : ℕ). getD table k 0 ≡ getD byteTable k 0) e (entry (i / 3) (i % 3) t w ∙ sym (table-at (i / 3) (i % 3) t w))
+    rs : List ℕ
+    rs = registers generator (timesPower 192 1) 8
+
+    long : length rs ≡ 256
+    long = registers-length generator (timesPower 192 1) 8

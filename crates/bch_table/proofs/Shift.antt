@@ -7,8 +7,9 @@ use native.Mathlib.Omega.{arith}
 use lib.Dec.{lit<, lit≤}
 use lib.Bits.{bitXor, xor-shifted}
 use Rattle.bch_table.specs.Table.{wordOf, timesPower}
-use Rattle.laws.specs.Xor.{_⊕_, ⊕-assoc, ⊕-comm, ⊕-split}
-use Rattle.laws.specs.Poly.{rem, rem-add, rem-small, ⊕-shift}
+use Rattle.laws.specs.Xor.{⊕-assoc, ⊕-comm, ⊕-split}
+use Rattle.laws.specs.Definitions.{_⊕_, rem}
+use Rattle.laws.specs.Poly.{rem-add, rem-small, ⊕-shift}
 use Rattle.bch_table.specs.Generator.{generator}
 use Rattle.bch_table.specs.Step.{joined, stepOf}
 use Rattle.bch_table.specs.Words.{below, xored, words, word-lt}

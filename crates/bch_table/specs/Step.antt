@@ -1,7 +1,6 @@
 -- A register of three words as one number of 192 bits, and the step of a division by bytes.
 use Prim.Native.Nat.{ℕ, _+_, _*_, _^_}
-use Rattle.laws.specs.Xor.{_⊕_}
-use Rattle.laws.specs.Poly.{rem}
+use Rattle.laws.specs.Definitions.{_⊕_, rem}
 use Rattle.bch_table.specs.declared.Reg.{Reg}
 use Rattle.bch_table.specs.Generator.{generator}
 

@@ -5,7 +5,7 @@ use Prim.Native.Nat.{ℕ, zero, suc, _+_, _*_, _/_, _%_, _^_, _<_}
 use native.Mathlib.Nat.{not-suc-le-zero, le-of-suc-le-suc, add-zero, zero-add, add-suc, suc-add}
 use native.Mathlib.Omega.{arith}
 use lib.ListN.{length, getD}
-use Rattle.laws.specs.Poly.{rem}
+use Rattle.laws.specs.Definitions.{rem}
 use Rattle.bch_table.specs.Generator.{generator}
 
 -- t(x) times x^e mod g, for a byte t. The table's exponent is 192
@@ -41,7 +41,7 @@ unfolding byteTable
 table-length = length-from 192 0 256
 
 -- word w of the register after that of t
-pub after-three : (t w : ℕ) → suc t * 3 + w ≡ suc (suc (suc (t * 3 + w)))
+after-three : (t w : ℕ) → suc t * 3 + w ≡ suc (suc (suc (t * 3 + w)))
 after-three t w = omega arith
 
 at-from : (e t₀ n t w : ℕ) → t < n → w < 3 → getD (tableFrom e t₀ n) (t * 3 + w) 0 ≡ wordOf w (timesPower e (t₀ + t))

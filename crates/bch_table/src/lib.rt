@@ -2,9 +2,9 @@
 ghost use mathlib.Core.Path.{_≡_};
 ghost use Prim.Native.Nat.{_*_, _<_};
 ghost use lib.ListN.{length};
-ghost use Rattle.laws.specs.Xor.{_⊕_};
-ghost use Rattle.laws.specs.Poly.{clmul};
-ghost use Rattle.bch_table.specs.Generator.{generator, digitsOf, polyOf};
+ghost use Rattle.laws.specs.Definitions.{_⊕_, clmul};
+ghost use Rattle.bch_table.specs.Generator.{generator};
+ghost use Rattle.bch_table.specs.Digits.{digitsOf, polyOf};
 ghost use Rattle.bch_table.specs.Table.{wordOf, timesPower, byteTable};
 ghost use Rattle.bch_table.specs.Step.{valueOf, stepOf};
 

@@ -1,26 +1,20 @@
 // The refusals of a run: 2 to 6 of its code, 7 to 11 of its settings and soft values, 13 of the lent slices.
 ghost use mathlib.Core.Path.{_≡_};
-ghost use Prim.Native.Nat.{_+_, _*_, _/_, _<_, _≤_};
-ghost use lib.ListN.{length};
-ghost use Rattle.decoder_refuse.specs.Refusal.{badLanes, badWords, badStep, badPart, tooShort, workNeed, refusalOf};
+ghost use Prim.Native.Nat.{_/_, _<_, _≤_};
+ghost use Rattle.ldpc_shape.specs.Accepted.{Bounded};
+ghost use Rattle.decoder_refuse.specs.Refusal.{badLanes, badWords, badStep, badPart, tooShort, workNeed, firstRefusal};
+use decoder_plan::Part;
+use decoder_plan::Schedule;
+use decoder_plan::Settings;
+use ldpc_shape::Sizes;
 
-// A run's settings as far as a refusal speaks of them; the sequential schedule has no step.
-pub struct Asked {
-    pub lanes: u32,
-    pub limit: u32,
-    pub layered: bool,
-    pub step: u32,
-    pub first: u32,
-    pub length: u32,
-}
-
-// How much is lent: soft values, records, output, and both work slices.
+// How much is lent: soft values, room for the records of so many words, output, and both work slices.
 pub struct Lent {
     pub soft: usize,
     pub room: usize,
     pub out: usize,
     pub work: usize,
-    pub index: usize,
+    pub lists: usize,
 }
 
 fn bad_lanes(lanes: u32) -> bool
@@ -32,90 +26,90 @@ fn bad_lanes(lanes: u32) -> bool
     64 < lanes
 }
 
-fn bad_words(n: u32, soft: usize) -> bool
+fn bad_words(n: usize, soft: usize) -> bool
     requires { ⌜ 0 < n ⌝ }
     ensures { λ r. ⌜ r ≡ badWords n soft ⌝ }
 {
-    let size = ldpc_shape::wide(n);
-    if soft % size != 0 {
+    if soft % n != 0 {
         return true;
     }
-    4096 < soft / size
+    4096 < soft / n
 }
 
-fn bad_step(layered: bool, step: u32) -> bool
-    ensures { λ r. ⌜ r ≡ badStep layered step ⌝ }
+fn bad_step(s: Schedule) -> bool
+    ensures { λ r. ⌜ r ≡ badStep s ⌝ }
 {
-    if layered {
-        return step == 0;
+    match s {
+        Schedule::Sequential => false,
+        Schedule::Layered(step) => step == 0,
     }
-    false
 }
 
 // The sum is one of integers.
-fn bad_part(n: u32, first: u32, length: u32) -> bool
-    ensures { λ r. ⌜ r ≡ badPart n first length ⌝ }
+fn bad_part(n: usize, part: Part) -> bool
+    ensures { λ r. ⌜ r ≡ badPart n part ⌝ }
 {
-    if length < 193 {
+    if part.length < 193 {
         return true;
     }
-    if 65535 < length {
+    if 65535 < part.length {
         return true;
     }
-    ldpc_shape::wide(n) < ldpc_shape::wide(first) + ldpc_shape::wide(length)
+    n < ldpc_shape::wide(part.first) + ldpc_shape::wide(part.length)
 }
 
 // (n + 3E) times lanes.
-pub fn work_need(n: usize, e: usize, lanes: usize) -> usize
-    requires { ⌜ (n ≤ 44880) × (e ≤ 6000000) × (lanes ≤ 64) ⌝ }
-    ensures { λ r. ⌜ r ≡ workNeed n e lanes ⌝ }
+pub fn work_need(of: Sizes, lanes: usize) -> usize
+    requires { ⌜ Bounded of × (lanes ≤ 64) ⌝ }
+    ensures { λ r. ⌜ r ≡ workNeed of lanes ⌝ }
 {
-    (n + 3 * e) * lanes
+    (of.n + 3 * of.e) * lanes
 }
 
-fn too_short(n: usize, p: usize, e: usize, lanes: u32, lent: Lent) -> bool
-    requires { ⌜ (0 < n) × (n ≤ 44880) × (p ≤ 44880) × (e ≤ 6000000) × (lanes ≤ 64) × (lent .soft / n ≤ 4096) ⌝ }
-    ensures { λ r. ⌜ r ≡ tooShort n p e lanes lent ⌝ }
+fn too_short(of: Sizes, lanes: usize, lent: Lent) -> bool
+    requires { ⌜ Bounded of × (lanes ≤ 64) × (lent .soft / of .n ≤ 4096) ⌝ }
+    ensures { λ r. ⌜ r ≡ tooShort of lanes lent ⌝ }
 {
-    let words = lent.soft / n;
-    if lent.out < words * n {
+    let words = lent.soft / of.n;
+    if lent.out < words * of.n {
         return true;
     }
     if lent.room < words {
         return true;
     }
-    if lent.work < work_need(n, e, ldpc_shape::wide(lanes)) {
+    if lent.work < work_need(of, lanes) {
         return true;
     }
-    lent.index < e + p + 1
+    lent.lists < of.e + of.p + 1
 }
 
 // The first of the refusals 2 to 11 and 13 that applies, 0 for none.
-pub fn refusal(n: u32, lens: &[u32], addrs: &[u16], asked: Asked, lent: Lent) -> u32
-    ensures { λ r. ⌜ r ≡ refusalOf n (now (lens .entry)) (now (addrs .entry)) asked lent ⌝ }
+pub fn refusal(n: u32, lens: &[u32], addrs: &[u16], set: Settings, lent: Lent) -> u32
+    ensures { λ r. ⌜ r ≡ firstRefusal n (now (lens .entry)) (now (addrs .entry)) set lent ⌝ }
 {
     let code = ldpc_shape::refusal(n, lens, addrs);
     if code != 0 {
         return code;
     }
-    if bad_lanes(asked.lanes) {
+    let of = ldpc_shape::sizes_of(n, lens, addrs);
+    if bad_lanes(set.lanes) {
         return 7;
     }
-    if bad_words(n, lent.soft) {
+    if bad_words(of.n, lent.soft) {
         return 8;
     }
-    if 65535 < asked.limit {
+    if 65535 < set.limits.iterations {
         return 9;
     }
-    if bad_step(asked.layered, asked.step) {
+    let schedule = set.schedule;
+    if bad_step(schedule) {
         return 10;
     }
-    if bad_part(n, asked.first, asked.length) {
+    let part = set.part;
+    if bad_part(of.n, part) {
         return 11;
     }
-    let p = ldpc_shape::checks(n, lens, addrs);
-    let e = ldpc_shape::edges(n, lens, addrs);
-    if too_short(ldpc_shape::wide(n), p, e, asked.lanes, lent) {
+    if too_short(of, ldpc_shape::wide(set.lanes), lent) {
         return 13;
     }
     0

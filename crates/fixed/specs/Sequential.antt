@@ -6,16 +6,13 @@ use native.Mathlib.Omega.{arith}
 use native.Mathlib.Numerals.{add-one}
 use lib.ListN.{getD}
 use lib.IntN.{ℤ}
-use Rattle.lane_math.specs.Check.{check}
-use Rattle.lane_math.specs.Iteration.{degree, inTurn, sequential}
-use Rattle.lane_memory.specs.Column.{column}
-use Rattle.lane_memory.specs.Room.{var}
+use Rattle.iteration.specs.Check.{check}
+use Rattle.iteration.specs.Iteration.{degree, inTurn, sequential}
+use Rattle.lane16.specs.Column.{column}
+use Rattle.iteration.specs.Lists.{var, rowsIn, edgesIn, codeIn}
 use Rattle.simd.specs.Words.{word, CheckNode}
-use Rattle.fixed_code.specs.Lists.{rowsIn, edgesIn, codeIn, start-in, degree-in}
-
--- check x of those that begin at check `first`, q apart
-abbrev pub stepped : ℕ → ℕ → ℕ → ℕ
-stepped first q x = first + x * q
+use Rattle.iteration.specs.ListsLaws.{start-in, degree-in}
+use Rattle.iteration.specs.Once.{stepped}
 
 -- Every lane's word after m such checks in turn is that word alone after them; the rows of t and of old messages and all behind them
 -- are as they were.

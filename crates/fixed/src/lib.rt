@@ -3,8 +3,10 @@
 ghost use mathlib.Core.Path.{_≡_};
 ghost use Prim.Native.Nat.{ℕ, _≤_, _<_};
 ghost use lib.ListN.{length};
-ghost use Rattle.fixed_code.specs.Lists.{rowsIn, Memory};
-ghost use Rattle.fixed.specs.Sequential.{stepped, InTurn, Iterated};
+ghost use Rattle.lane16.specs.Memory.{Memory};
+ghost use Rattle.iteration.specs.Lists.{rowsIn};
+ghost use Rattle.fixed.specs.Sequential.{InTurn, Iterated};
+ghost use Rattle.iteration.specs.Once.{stepped};
 
 // The checks first + x * q, x below m, each reading what the ones before it wrote. t and u are work of 128 times 16.
 pub fn checks(

@@ -2,7 +2,7 @@
 ghost use mathlib.Core.Path.{_≡_};
 ghost use Prim.Native.Nat.{_+_, _<_};
 ghost use lib.ListN.{getD, length};
-ghost use Rattle.fixed_code.specs.Lists.{Lists};
+ghost use Rattle.iteration.specs.Lists.{Lists, var};
 
 // Where check c's edges begin.
 pub fn start(index: &[u32], c: usize) -> usize
@@ -18,4 +18,12 @@ pub fn degree(index: &[u32], n: usize, p: usize, c: usize) -> usize
     ensures { λ r. ⌜ getD (now (index .entry)) c 0 + r ≡ getD (now (index .entry)) (c + 1) 0 ⌝ }
 {
     start(index, c + 1) - start(index, c)
+}
+
+// The variable of edge e.
+pub fn variable(rows: &[u32], e: usize) -> usize
+    requires { ⌜ e < length (now rows) ⌝ }
+    ensures { λ r. ⌜ r ≡ var (now (rows .entry)) e ⌝ }
+{
+    rows[e] as usize
 }

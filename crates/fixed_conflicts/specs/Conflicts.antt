@@ -4,28 +4,29 @@ use mathlib.Core.Bool.{Bool, true, false, true≢false}
 use mathlib.Core.List.{List, [], _∷_, _++_}
 use Prim.Native.Nat.{ℕ, zero, suc, _+_, _*_, _-_, _/_, _%_, _≤_, _<_}
 use native.Mathlib.Omega.{arith}
-use native.Mathlib.Nat.{mod-eq-of-lt, mul-le-mul-right, add-mul-mod-self-right}
+use native.Mathlib.Nat.{mul-div-cancel, mod-eq-of-lt, mul-le-mul-right, add-mul-mod-self-right}
 use native.Mathlib.Numerals.{add-one}
 use native.Mathlib.Decide.{ℕ-discrete, decLt}
 use borrow.Author.Tests.{ltb-false, eq-eqb, eqb-true}
 use lib.ListN.{length, take, drop, getD, length-append, List·getD-append}
 use lib.Seq.{getD-take, getD-drop, getD-append-add}
-use Rattle.lane_math.specs.Iteration.{degree}
-use Rattle.lane_memory.specs.Room.{sharedIn}
+use Rattle.iteration.specs.Iteration.{degree}
+use Rattle.iteration.specs.Once.{sharedIn, Once}
 use Rattle.ldpc_shape.specs.Shape.{kOf, pOf, qOf, rowsOf, total, countMod}
 use Rattle.ldpc_shape.specs.Accepted.{Accepted, p-is, p-pos, q-pos, n-is}
 use Rattle.ldpc_edges.specs.Code.{only, meets, ofRows, stairs, check, edgeLists}
 use Rattle.ldpc_edges.specs.Degree.{met-by}
-use Rattle.fixed_code.specs.Lists.{Lists, edgesIn, codeIn, start-in, degree-in}
-use Rattle.fixed_code.specs.Code.{lists-in, laid-in}
-use Rattle.fixed_conflicts.specs.Table.{Once, Split, Shares, Flagged, spanAt}
+use Rattle.iteration.specs.ListsLaws.{start-in, degree-in}
+use Rattle.iteration.specs.Lists.{Lists, edgesIn, codeIn}
+use Rattle.iteration.specs.CodeLaws.{lists-in, laid-in}
+use Rattle.fixed_conflicts.specs.Table.{spansLength, Split, Shares, Flagged, spanAt}
 use Rattle.fixed_conflicts.specs.Edges.{rowOf, parity-without, parity-once, stairs-below, stairs-from, check-length}
 use Rattle.fixed_conflicts.specs.Count.{occurs, occurs-one, occurs-two, sumUp, sum-one, sum-two, layer-occurs, rows-own}
 use Rattle.fixed_conflicts.specs.Spans.{spanOf, span-next, span-within, span-all, groups-below, groups-from}
 
 -- where each row's edges begin in the checks of each layer; behind the last row the parity bits, two or one
 pub record Spanned (n : ℕ) (lens addrs table : List ℕ) : Type 0 where
-  pub long : length table ≡ 14520
+  pub long : length table ≡ spansLength
   pub rows : (g l : ℕ) → g ≤ length lens → l < qOf n lens → spanAt table l g ≡ spanOf (qOf n lens) l lens addrs g
   pub parity : (l : ℕ) → l < qOf n lens → spanAt table l (length lens + 1) ≡ spanOf (qOf n lens) l lens addrs (length lens) + 2
 
@@ -44,12 +45,7 @@ total-within (l ∷ lens) zero = omega arith
 total-within (l ∷ lens) (suc g) = let z = total-within lens g in omega arith
 
 apart : (q l x y : ℕ) → 0 < q → l + x * q ≡ l + y * q → x ≡ y
-apart q l x y pos e = go (decLt x y) (decLt y x)
-  where
-    go : Dec (x < y) → Dec (y < x) → x ≡ y
-    go (yes k) d = absurd (let z : (x + 1) * q ≤ y * q = mul-le-mul-right q (omega arith) in omega arith)
-    go (no k) (yes j) = absurd (let z : (y + 1) * q ≤ x * q = mul-le-mul-right q (omega arith) in omega arith)
-    go (no k) (no j) = omega arith
+apart q l x y pos e = let z : x * q ≡ y * q = omega arith in sym (mul-div-cancel x pos) ∙ ap (λ (k : ℕ). k / q) z ∙ mul-div-cancel y pos
 
 -- two checks of a layer do not stand side by side
 beside : (q l x y : ℕ) → 2 ≤ q → l + x * q + 1 ≡ l + y * q → ⊥

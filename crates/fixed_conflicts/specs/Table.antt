@@ -7,14 +7,14 @@ use native.Mathlib.Omega.{arith}
 use lib.Dec.{T, eqb, ltb}
 use lib.ListN.{getD, set, length, replicate, length-set}
 use lib.Seq.{getD-set-same, getD-set-other}
+use Rattle.laws.specs.Choice.{or-left, or-right}
 use Rattle.laws.specs.Stores.{set-each, grown}
-use Rattle.lane_math.specs.Iteration.{Code, degree}
-use Rattle.lane_memory.specs.Room.{sharedIn}
+use Rattle.iteration.specs.Iteration.{Code, degree}
+use Rattle.iteration.specs.Once.{sharedIn, Once}
 
--- variable u has one edge at most among the run's m checks
-pub record Once (code : Code) (c : ℕ → ℕ) (m u : ℕ) : Type 0 where
-  pub one : (x k y l : ℕ) → x < m → y < m → k < degree code (c x) → l < degree code (c y)
-      → code .rows (code .row-start (c x) + k) ≡ u → code .rows (code .row-start (c y) + l) ≡ u → (x ≡ y) × (k ≡ l)
+-- The table: for each of 121 rows, the last the parity bits', a number for each of 120 layers.
+abbrev pub spansLength : ℕ
+spansLength = 14520
 
 -- where row g's edges begin in the checks of layer l
 abbrev pub spanAt : List ℕ → ℕ → ℕ → ℕ
@@ -49,14 +49,6 @@ zeros zero g = refl
 zeros (suc m) zero = refl
 zeros (suc m) (suc g) = zeros m g
 
-or-false : (a b : Bool) → (a || b) ≡ false → (a ≡ false) × (b ≡ false)
-or-false true b e = (e, go b e)
-  where
-    go : (b : Bool) → true ≡ false → b ≡ false
-    go true e = e
-    go false e = refl
-or-false false b e = (refl, e)
-
 pub flagged-start : (table : List ℕ) (rows q l : ℕ) (flags : List Bool) (any : Bool) → length flags ≡ 120 → rows < 120 → ((g : ℕ) → getD flags g false ≡ false) → any ≡ eqb q 1
     → Flagged table rows q l 0 (set flags rows any) any
 flagged-start table rows q l flags any long few zeros e =
@@ -77,7 +69,7 @@ flagged-again {table} {rows} {q} {l} {k} {flags} {any} {any′} {many} v h few e
       of-row = grown false (λ g b. b ≡ ltb (spanAt table l g + 1) (spanAt table l (g + 1))) flags k many (omega (arith, v .long)) (v .of-row) e;
       of-parity = getD-set-other flags k rows many false (λ r. omega arith) ∙ v .of-parity;
       others = λ g r s. getD-set-other flags k g many false (λ t. omega arith) ∙ v .others g (omega arith) s;
-      none = λ r. let o = or-false any many (sym f ∙ r) in set-each false (λ _ b. b ≡ false) flags k many (omega (arith, v .long)) (o .1) (λ g _. v .none (o .0) g);
+      none = λ r. set-each false (λ _ b. b ≡ false) flags k many (omega (arith, v .long)) (or-right any many (sym f ∙ r)) (λ g _. v .none (or-left any many (sym f ∙ r)) g);
       some = λ r. found any many refl refl (sym f ∙ r);
     }
   where

@@ -3,14 +3,18 @@ ghost use mathlib.Core.Path.{_≡_};
 ghost use mathlib.Core.Bool.{_||_};
 ghost use Prim.Native.Nat.{ℕ, _<_, _≤_, _+_, _*_};
 ghost use lib.ListN.{getD, length};
-ghost use Rattle.ldpc_shape.specs.Shape.{refusalOf};
-ghost use Rattle.fixed_conflicts.specs.Table.{Flagged};
+ghost use Rattle.ldpc_shape.specs.Shape.{codeRefusal, sizesOf};
+ghost use Rattle.fixed_conflicts.specs.Table.{spansLength, Flagged};
 ghost use Rattle.fixed_conflicts.specs.Conflicts.{Spanned};
-ghost use Rattle.fixed_conflicts.specs.Marks.{Advanced};
+ghost use Rattle.fixed_conflicts.specs.Marks.{NextRow};
+use ldpc_shape::Sizes;
+
+// How many numbers the table has: 120 for each of 121 rows.
+pub const SPANS: usize = 14520;
 
 // Where row g's edges begin in the list of each check of layer l. The parity bits are the row behind the last.
 pub fn span(table: &[u8], g: usize, l: usize) -> usize
-    requires { ⌜ (length (now table) ≡ 14520) × ((g ≤ 120) × (l < 120)) ⌝ }
+    requires { ⌜ (length (now table) ≡ spansLength) × ((g ≤ 120) × (l < 120)) ⌝ }
     ensures { λ r. ⌜ (r ≡ getD (now (table .entry)) (g * 120 + l) 0) × (r ≤ 255) ⌝ }
 {
     table[g * 120 + l] as usize
@@ -18,9 +22,9 @@ pub fn span(table: &[u8], g: usize, l: usize) -> usize
 
 // The next row's edges begin where those of row g end: one for each of its addresses that is l modulo q.
 fn advance(table: &mut [u8], counts: &[u32; 120], g: usize, q: usize)
-    requires { ⌜ (length (now table) ≡ 14520) × ((g ≤ 119) × (q ≤ 120)) ⌝ }
+    requires { ⌜ (length (now table) ≡ spansLength) × ((g ≤ 119) × (q ≤ 120)) ⌝ }
     requires { ⌜ ((l : ℕ) → l < q → getD (now table) (g * 120 + l) 0 + getD (now counts) l 0 ≤ 255) ⌝ }
-    ensures { λ _. ⌜ Advanced (now (table .entry)) (now (counts .entry)) g q (now (table .exit)) ⌝ }
+    ensures { λ _. ⌜ NextRow (now (table .entry)) (now (counts .entry)) g q (now (table .exit)) ⌝ }
 {
     let mut l: usize = 0;
     while l < q {
@@ -32,13 +36,13 @@ fn advance(table: &mut [u8], counts: &[u32; 120], g: usize, q: usize)
 }
 
 // Where the rows of an accepted code begin in the checks of each layer.
-pub fn spans(n: u32, lens: &[u32], addrs: &[u16], table: &mut [u8])
-    requires { ⌜ refusalOf n (now lens) (now addrs) ≡ 0 ⌝ }
-    requires { ⌜ (length (now table) ≡ 14520) × ((l : ℕ) → l < 120 → getD (now table) l 0 ≡ 0) ⌝ }
-    ensures { λ _. ⌜ Spanned n (now (lens .entry)) (now (addrs .entry)) (now (table .exit)) ⌝ }
+pub fn spans(of: Sizes, lens: &[u32], addrs: &[u16], table: &mut [u8])
+    requires { ⌜ (codeRefusal (of .n) (now lens) (now addrs) ≡ 0) × (of ≡ sizesOf (of .n) (now lens) (now addrs)) ⌝ }
+    requires { ⌜ (length (now table) ≡ spansLength) × ((l : ℕ) → l < 120 → getD (now table) l 0 ≡ 0) ⌝ }
+    ensures { λ _. ⌜ Spanned (of .n) (now (lens .entry)) (now (addrs .entry)) (now (table .exit)) ⌝ }
 {
-    let q = (n - 374 * (lens.len() as u32)) / 374;
-    let few = ldpc_shape::wide(q);
+    let few = of.q;
+    let q = few as u32;
     let mut at: usize = 0;
     let mut g: usize = 0;
     while g < lens.len() {
@@ -66,7 +70,7 @@ pub struct Layer {
 
 // Rows with two edges or more in a check of layer l; and the parity bits if q = 1.
 pub fn shared(table: &[u8], rows: usize, q: usize, l: usize) -> Layer
-    requires { ⌜ (length (now table) ≡ 14520) × ((rows ≤ 119) × (l < 120)) ⌝ }
+    requires { ⌜ (length (now table) ≡ spansLength) × ((rows ≤ 119) × (l < 120)) ⌝ }
     ensures { λ r. ⌜ Flagged (now (table .entry)) rows q l rows (r .rows) (r .any) ⌝ }
 {
     let mut flags: [bool; 120] = [false; 120];

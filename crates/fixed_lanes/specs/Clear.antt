@@ -11,9 +11,11 @@ use lib.Dec.{ltb}
 use lib.ListN.{getD}
 use lib.IntN.{ℤ, pos}
 use Rattle.laws.specs.Choice.{by-cond, by-bool}
-use Rattle.laws.specs.Put.{put, put-same, put-other, put-self}
-use Rattle.lane_memory.specs.Column.{column}
-use Rattle.simd.specs.Words.{within, wordOf, word}
+use Rattle.laws.specs.Put.{put-same, put-other, put-self}
+use Rattle.laws.specs.Definitions.{put}
+use Rattle.lane16.specs.Column.{column}
+use Rattle.simd.specs.Words.{wordOf, word}
+use Rattle.iteration.specs.Check.{within}
 use Rattle.fixed_lanes.specs.Place.{Placed}
 
 abbrev pub on : List Bool → ℕ → Bool

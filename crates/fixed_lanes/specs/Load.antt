@@ -8,9 +8,10 @@ use borrow.Author.Tests.{eqb-true, eqb-false, ltb-true, ltb-false, lt-ltb, le-lt
 use lib.Dec.{eqb, ltb}
 use lib.ListN.{getD}
 use lib.IntN.{ℤ, pos}
-use Rattle.laws.specs.Put.{put}
-use Rattle.lane_memory.specs.Column.{column}
-use Rattle.simd.specs.Words.{within, wordOf, word}
+use Rattle.laws.specs.Definitions.{put}
+use Rattle.lane16.specs.Column.{column}
+use Rattle.simd.specs.Words.{wordOf, word}
+use Rattle.iteration.specs.Check.{within}
 use Rattle.fixed_lanes.specs.Place.{Placed}
 
 -- the first n rows are xs

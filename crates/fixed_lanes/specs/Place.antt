@@ -9,8 +9,9 @@ use lib.Dec.{eqb}
 use lib.ListN.{getD, set, length}
 use lib.Seq.{getD-set-same, getD-set-other}
 use lib.IntN.{ℤ, pos}
-use Rattle.laws.specs.Put.{put}
-use Rattle.lane_memory.specs.Column.{column, one-place, row-ends}
+use Rattle.laws.specs.Definitions.{put}
+use Rattle.lane16.specs.ColumnLaws.{one-place, row-ends}
+use Rattle.lane16.specs.Column.{column}
 
 pub record Placed (lanes lane u : ℕ) (x : ℤ) (a a′ : List ℤ) : Type 0 where
   pub inside : column lanes a′ lane ≡ put (column lanes a lane) u x

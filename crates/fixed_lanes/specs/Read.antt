@@ -8,7 +8,7 @@ use lib.ListN.{getD, set, length, drop, length-append, length-drop, List·getD-a
 use lib.Seq.{getD-append-add, getD-drop, ext-getD}
 use lib.IntN.{ℤ}
 use Rattle.laws.specs.Stores.{grown, kept}
-use Rattle.lane_math.specs.Iteration.{hard}
+use Rattle.iteration.specs.Iteration.{hard}
 
 -- those of d variables from u on: 1 where L < 0
 unfoldable pub decisions : (ℕ → ℤ) → ℕ → ℕ → List ℕ

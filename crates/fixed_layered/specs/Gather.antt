@@ -6,10 +6,10 @@ use native.Mathlib.Omega.{arith}
 use borrow.Author.Tests.{eqb-true, ne-eqb}
 use lib.Dec.{eqb}
 use lib.IntN.{ℤ, _+ℤ_, _-ℤ_}
-use Rattle.lane_math.specs.Value.{satZ}
-use Rattle.lane_math.specs.Iteration.{Code, degree, Run, Sum, nothing, gather, gatherEdge, gatherCheck, gatherRun}
-use Rattle.fixed_layered.specs.Full.{placeOf}
-use Rattle.fixed_layered.specs.Ready.{Ready}
+use Rattle.iteration.specs.Value.{satZ}
+use Rattle.iteration.specs.Iteration.{Code, degree, Run, Sum, nothing, gather, gatherEdge, gatherCheck, gatherRun}
+use Rattle.iteration.specs.Full.{placeOf}
+use Rattle.fixed_layered.specs.Sent.{Sent}
 
 -- variable u from d edges that begin at edge s, their t and old messages at pl
 unfoldable pub gatherAt : ℕ → ℕ → (ℕ → ℕ) → ℕ → ℕ → ℕ → (ℕ → ℤ) → ℕ → Sum → Sum
@@ -23,7 +23,7 @@ gatherRunAt n E code c u f zero = nothing
 gatherRunAt n E code c u f (suc m) = gatherAt n E (code .rows) u (code .row-start (c m)) (placeOf code c m) f (degree code (c m)) (gatherRunAt n E code c u f m)
 
 -- ---- it is what the definition gathers
-module _ {n E : ℕ} {code : Code} {c : ℕ → ℕ} {m : ℕ} {w : Run} {f : ℕ → ℤ} (r : Ready n E code c m w f) (vs : w .v ≡ code .rows) where
+module _ {n E : ℕ} {code : Code} {c : ℕ → ℕ} {m : ℕ} {w : Run} {f : ℕ → ℤ} (r : Sent n E code c m w f) (vs : w .v ≡ code .rows) where
   check-gathers : (u x d : ℕ) (a : Sum) → x < m → d ≤ degree code (c x) → gatherAt n E (code .rows) u (code .row-start (c x)) (placeOf code c x) f d a ≡ gatherCheck w u (code .row-start (c x)) d a
   unfolding gatherAt gatherCheck gatherEdge
   check-gathers u x zero a h q = refl
@@ -110,30 +110,30 @@ module _ (n E : ℕ) (v : ℕ → ℕ) (u s pl : ℕ) (f : ℕ → ℤ) (a : Sum
       ∙ ap (gatherAt n E v u (s + from) (pl + from) f (end - from)) (at-none n E v u s pl f from a none)
 
 -- ---- the same but for the total of one that has gathered nothing
-pub record Alike (a b : Sum) : Type 0 where
+pub record SameSum (a b : Sum) : Type 0 where
   pub seen : a .seen ≡ b .seen
   pub total : a .seen ≡ true → a .total ≡ b .total
 
-pub alike-same : (a : Sum) → Alike a a
-alike-same a = record { seen = refl; total = λ e. refl }
+pub same-sum : (a : Sum) → SameSum a a
+same-sum a = record { seen = refl; total = λ e. refl }
 
-pub alike-more : {a b c : Sum} → Alike a b → Alike b c → Alike a c
-alike-more x y = record { seen = x .seen ∙ y .seen; total = λ e. x .total e ∙ y .total (sym (x .seen) ∙ e) }
+pub same-sum-more : {a b c : Sum} → SameSum a b → SameSum b c → SameSum a c
+same-sum-more x y = record { seen = x .seen ∙ y .seen; total = λ e. x .total e ∙ y .total (sym (x .seen) ∙ e) }
 
-pub alike-gather : (t new old : ℤ) {a b : Sum} → Alike a b → Alike (gather t new old a) (gather t new old b)
-alike-gather t new old {a} {b} x = record { seen = refl; total = λ e. go (a .seen) (a .total) (x .seen) (x .total) }
+pub same-sum-gather : (t new old : ℤ) {a b : Sum} → SameSum a b → SameSum (gather t new old a) (gather t new old b)
+same-sum-gather t new old {a} {b} x = record { seen = refl; total = λ e. go (a .seen) (a .total) (x .seen) (x .total) }
   where
     go : (s : Bool) (y : ℤ) → s ≡ b .seen → (s ≡ true → y ≡ b .total) → cond s (y +ℤ (new -ℤ old)) (t +ℤ new) ≡ cond (b .seen) (b .total +ℤ (new -ℤ old)) (t +ℤ new)
     go true y e f = ap (λ (w : ℤ). w +ℤ (new -ℤ old)) (f refl) ∙ ap (λ (s : Bool). cond s (b .total +ℤ (new -ℤ old)) (t +ℤ new)) e
     go false y e f = ap (λ (s : Bool). cond s (b .total +ℤ (new -ℤ old)) (t +ℤ new)) e
 
-pub alike-at : (n E : ℕ) (v : ℕ → ℕ) (u s pl : ℕ) (f : ℕ → ℤ) (d : ℕ) {a b : Sum} → Alike a b → Alike (gatherAt n E v u s pl f d a) (gatherAt n E v u s pl f d b)
+pub same-sum-at : (n E : ℕ) (v : ℕ → ℕ) (u s pl : ℕ) (f : ℕ → ℤ) (d : ℕ) {a b : Sum} → SameSum a b → SameSum (gatherAt n E v u s pl f d a) (gatherAt n E v u s pl f d b)
 unfolding gatherAt
-alike-at n E v u s pl f zero x = x
-alike-at n E v u s pl f (suc d) {a} {b} x = go (eqb (v (s + d)) u) (alike-at n E v u s pl f d x)
+same-sum-at n E v u s pl f zero x = x
+same-sum-at n E v u s pl f (suc d) {a} {b} x = go (eqb (v (s + d)) u) (same-sum-at n E v u s pl f d x)
   where
-    go : (t : Bool) → Alike (gatherAt n E v u s pl f d a) (gatherAt n E v u s pl f d b)
-        → Alike (cond t (gather (f (n + E + (pl + d))) (f (n + (s + d))) (f (n + 2 * E + (pl + d))) (gatherAt n E v u s pl f d a)) (gatherAt n E v u s pl f d a))
+    go : (t : Bool) → SameSum (gatherAt n E v u s pl f d a) (gatherAt n E v u s pl f d b)
+        → SameSum (cond t (gather (f (n + E + (pl + d))) (f (n + (s + d))) (f (n + 2 * E + (pl + d))) (gatherAt n E v u s pl f d a)) (gatherAt n E v u s pl f d a))
         (cond t (gather (f (n + E + (pl + d))) (f (n + (s + d))) (f (n + 2 * E + (pl + d))) (gatherAt n E v u s pl f d b)) (gatherAt n E v u s pl f d b))
-    go true y = alike-gather (f (n + E + (pl + d))) (f (n + (s + d))) (f (n + 2 * E + (pl + d))) y
+    go true y = same-sum-gather (f (n + E + (pl + d))) (f (n + (s + d))) (f (n + 2 * E + (pl + d))) y
     go false y = y

@@ -4,7 +4,6 @@ use mathlib.Core.Bool.{Bool, true, false, cond, true≢false}
 use mathlib.Core.List.{List}
 use Prim.Native.Nat.{ℕ, zero, suc, _+_, _*_, _-_, _/_, _≤_, _<_}
 use native.Mathlib.Omega.{arith}
-use native.Mathlib.Nat.{mul-le-mul-right}
 use native.Mathlib.Numerals.{add-one}
 use native.Mathlib.Decide.{ℕ-discrete, decLt}
 use borrow.Author.Tests.{eqb-true, eq-eqb, ne-eqb}
@@ -13,17 +12,18 @@ use lib.ListN.{getD, set, length}
 use lib.Seq.{getD-set-same, getD-set-other}
 use lib.IntN.{ℤ, natAbs}
 use Rattle.laws.specs.Choice.{eqb-sym}
-use Rattle.laws.specs.Put.{put}
-use Rattle.lane_math.specs.Value.{satZ}
-use Rattle.lane_math.specs.Check.{wrote}
-use Rattle.lane_math.specs.Iteration.{Code, degree, Sum, gather}
-use Rattle.lane_math.specs.Laws.{wrote-other}
-use Rattle.lane16.specs.Lanes.{z}
-use Rattle.lane_memory.specs.Column.{column}
-use Rattle.fixed_delta.specs.Gather.{Small, EdgeGathered, Settled, plus}
+use Rattle.laws.specs.Definitions.{put}
+use Rattle.iteration.specs.Value.{satZ}
+use Rattle.iteration.specs.Check.{wrote}
+use Rattle.iteration.specs.Iteration.{Code, degree, Sum, gather}
+use Rattle.iteration.specs.CheckLaws.{wrote-other}
+use Rattle.lane16.specs.Lanes.{intAt}
+use Rattle.lane16.specs.Column.{column}
+use Rattle.lane16.specs.ColumnLaws.{one-place}
+use Rattle.fixed_layered.specs.Sums.{SmallSums, EdgeGathered, Settled, plus}
 use Rattle.fixed_conflicts.specs.Table.{Split}
-use Rattle.fixed_layered.specs.Full.{placeOf}
-use Rattle.fixed_layered.specs.Gather.{gatherAt, gatherRunAt, run-same, at-part, Alike, alike-same, alike-more, alike-gather, alike-at}
+use Rattle.iteration.specs.Full.{placeOf}
+use Rattle.fixed_layered.specs.Gather.{gatherAt, gatherRunAt, run-same, at-part, SameSum, same-sum, same-sum-more, same-sum-gather, same-sum-at}
 
 -- the d edges from s are of the row of 374 variables from base on
 abbrev pub InRow : (ℕ → ℕ) → ℕ → ℕ → ℕ → Type 0
@@ -37,33 +37,29 @@ pub record Grouped (code : Code) (c : ℕ → ℕ) (m base from upto : ℕ) : Ty
 
 -- ---- gathered: the sums of the row's variables, one after the other, lane by lane; those that were seen are as A says
 pub record Gathers (lanes many : ℕ) (A : ℕ → ℕ → Sum) (seen : List Bool) (sums : List ℤ) : Type 0 where
-  pub is : (i j : ℕ) → i < lanes → j < 374 → Alike (record { seen = getD seen j false; total = z sums (j * lanes + i) }) (A i j)
-  pub small : (j : ℕ) → j < 374 → getD seen j false ≡ true → Small lanes (j * lanes) many sums
+  pub is : (i j : ℕ) → i < lanes → j < 374 → SameSum (record { seen = getD seen j false; total = intAt sums (j * lanes + i) }) (A i j)
+  pub small : (j : ℕ) → j < 374 → getD seen j false ≡ true → SmallSums lanes (j * lanes) many sums
 
 abbrev pub sumAt : ℕ → List Bool → List ℤ → ℕ → ℕ → Sum
-sumAt lanes seen sums i j = record { seen = getD seen j false; total = z sums (j * lanes + i) }
+sumAt lanes seen sums i j = record { seen = getD seen j false; total = intAt sums (j * lanes + i) }
 
 -- no sum that was seen is above what `many` edges make
 abbrev pub Smalls : ℕ → ℕ → List Bool → List ℤ → Type 0
-Smalls lanes many seen sums = (j : ℕ) → j < 374 → getD seen j false ≡ true → Small lanes (j * lanes) many sums
+Smalls lanes many seen sums = (j : ℕ) → j < 374 → getD seen j false ≡ true → SmallSums lanes (j * lanes) many sums
 
 -- one edge, e, at `at`
 pub record EdgeDone (n E lanes at e j : ℕ) (a : List ℤ) (seen : List Bool) (sums : List ℤ) (seen′ : List Bool) (sums′ : List ℤ) : Type 0 where
   pub sums-is : EdgeGathered lanes (j * lanes) (n + E + at) (n + e) (n + 2 * E + at) (getD seen j false) a sums lanes sums′
-  pub small : Small lanes (j * lanes) (at + 1) sums′
+  pub small : SmallSums lanes (j * lanes) (at + 1) sums′
   pub seen-is : seen′ ≡ set seen j true
 
 apart : (lanes i j i′ j′ : ℕ) → i < lanes → i′ < lanes → (j ≡ j′ → ⊥) → j * lanes + i ≡ j′ * lanes + i′ → ⊥
-apart lanes i j i′ j′ a b ne e = go (decLt j j′)
-  where
-    go : Dec (j < j′) → ⊥
-    go (yes k) = let y : j + 1 ≤ j′ = omega arith in let x : (j + 1) * lanes ≤ j′ * lanes = mul-le-mul-right lanes y in omega arith
-    go (no k) = let y : j′ + 1 ≤ j = omega arith in let x : (j′ + 1) * lanes ≤ j * lanes = mul-le-mul-right lanes y in omega arith
+apart lanes i j i′ j′ a b ne e = ne (one-place lanes j i j′ i′ a b e .0)
 
-plus-alike : (f : ℕ → ℤ) (tu ru ou : ℕ) (b : Bool) (s : ℤ) (a : Sum) → Alike (record { seen = b; total = s }) a → plus b f tu ru ou s ≡ gather (f tu) (f ru) (f ou) a .total
-plus-alike f tu ru ou b s a h = alike-gather (f tu) (f ru) (f ou) h .total refl
+plus-alike : (f : ℕ → ℤ) (tu ru ou : ℕ) (b : Bool) (s : ℤ) (a : Sum) → SameSum (record { seen = b; total = s }) a → plus b f tu ru ou s ≡ gather (f tu) (f ru) (f ou) a .total
+plus-alike f tu ru ou b s a h = same-sum-gather (f tu) (f ru) (f ou) h .total refl
 
-pub more : {lanes at many many′ : ℕ} {sums : List ℤ} → many ≤ many′ → Small lanes at many sums → Small lanes at many′ sums
+pub more : {lanes at many many′ : ℕ} {sums : List ℤ} → many ≤ many′ → SmallSums lanes at many sums → SmallSums lanes at many′ sums
 more h s = record { small = λ i q. omega (arith, s .small i q) }
 
 module _ (n E lanes : ℕ) (v : ℕ → ℕ) (base s pl : ℕ) (a : List ℤ) (B : ℕ → ℕ → Sum) where
@@ -74,7 +70,7 @@ module _ (n E lanes : ℕ) (v : ℕ → ℕ) (base s pl : ℕ) (a : List ℤ) (B
   pub gathers-start : {seen : List Bool} {sums : List ℤ} → ((i j : ℕ) → sumAt lanes seen sums i j ≡ B i j) → Smalls lanes pl seen sums → Gathers lanes (pl + 0) (after 0) seen sums
   unfolding gatherAt
   gathers-start {seen} {sums} e h =
-      record { is = λ i j q r. subst (Alike (sumAt lanes seen sums i j)) (e i j) (alike-same (sumAt lanes seen sums i j)); small = λ j r f. more (omega arith) (h j r f) }
+      record { is = λ i j q r. subst (SameSum (sumAt lanes seen sums i j)) (e i j) (same-sum (sumAt lanes seen sums i j)); small = λ j r f. more (omega arith) (h j r f) }
 
   pub gathers-again : (d : ℕ) {seen seen′ : List Bool} {sums sums′ : List ℤ} (j : ℕ) → v (s + d) ≡ base + j → j < 374 → length seen ≡ 374 → Gathers lanes (pl + d) (after d) seen sums
       → EdgeDone n E lanes (pl + d) (s + d) j a seen sums seen′ sums′ → Gathers lanes (pl + (d + 1)) (after (d + 1)) seen′ sums′
@@ -90,25 +86,25 @@ module _ (n E lanes : ℕ) (v : ℕ → ℕ) (base s pl : ℕ) (a : List ℤ) (B
       set-here : getD (set seen j true) j false ≡ true
       set-here = getD-set-same seen j true false (omega arith)
 
-      held : (i k : ℕ) → i < lanes → k < 374 → Dec (k ≡ j) → Alike (sumAt lanes (set seen j true) sums′ i k) (new i k (eqb (v (s + d)) (base + k)))
+      held : (i k : ℕ) → i < lanes → k < 374 → Dec (k ≡ j) → SameSum (sumAt lanes (set seen j true) sums′ i k) (new i k (eqb (v (s + d)) (base + k)))
       held i k q r (yes t) =
-          subst (λ (y : ℕ). Alike (sumAt lanes (set seen j true) sums′ i y) (new i y (eqb (v (s + d)) (base + y)))) (sym t)
-          (subst (λ (b : Bool). Alike (sumAt lanes (set seen j true) sums′ i j) (new i j b)) (sym (eq-eqb (v (s + d)) (base + j) is))
+          subst (λ (y : ℕ). SameSum (sumAt lanes (set seen j true) sums′ i y) (new i y (eqb (v (s + d)) (base + y)))) (sym t)
+          (subst (λ (b : Bool). SameSum (sumAt lanes (set seen j true) sums′ i j) (new i j b)) (sym (eq-eqb (v (s + d)) (base + j) is))
           (record {
             seen = set-here;
             total =
                 λ f.
                 e .sums-is .done i q
-                ∙ plus-alike (column lanes a i) (n + E + (pl + d)) (n + (s + d)) (n + 2 * E + (pl + d)) (getD seen j false) (z sums (j * lanes + i)) (after d i j)
+                ∙ plus-alike (column lanes a i) (n + E + (pl + d)) (n + (s + d)) (n + 2 * E + (pl + d)) (getD seen j false) (intAt sums (j * lanes + i)) (after d i j)
                 (g .is i j q small);
           }))
       held i k q r (no t) =
-          subst (λ (b : Bool). Alike (sumAt lanes (set seen j true) sums′ i k) (new i k b)) (sym (ne-eqb (v (s + d)) (base + k) (λ f. t (omega (arith, is, f)))))
-          (subst (λ (b : Bool). Alike (record { seen = b; total = z sums′ (k * lanes + i) }) (after d i k)) (sym (getD-set-other seen j k true false t))
-          (subst (λ (x : ℤ). Alike (record { seen = getD seen k false; total = x }) (after d i k)) (sym (e .sums-is .still (k * lanes + i) (λ i′ q′ f. apart lanes i k i′ j q q′ t f))) (g .is i k q r)))
+          subst (λ (b : Bool). SameSum (sumAt lanes (set seen j true) sums′ i k) (new i k b)) (sym (ne-eqb (v (s + d)) (base + k) (λ f. t (omega (arith, is, f)))))
+          (subst (λ (b : Bool). SameSum (record { seen = b; total = intAt sums′ (k * lanes + i) }) (after d i k)) (sym (getD-set-other seen j k true false t))
+          (subst (λ (x : ℤ). SameSum (record { seen = getD seen k false; total = x }) (after d i k)) (sym (e .sums-is .still (k * lanes + i) (λ i′ q′ f. apart lanes i k i′ j q q′ t f))) (g .is i k q r)))
 
-      bound : (k : ℕ) → k < 374 → getD (set seen j true) k false ≡ true → Dec (k ≡ j) → Small lanes (k * lanes) (pl + suc d) sums′
-      bound k r f (yes t) = subst (λ (y : ℕ). Small lanes (y * lanes) (pl + suc d) sums′) (sym t) (more (omega arith) (e .small))
+      bound : (k : ℕ) → k < 374 → getD (set seen j true) k false ≡ true → Dec (k ≡ j) → SmallSums lanes (k * lanes) (pl + suc d) sums′
+      bound k r f (yes t) = subst (λ (y : ℕ). SmallSums lanes (y * lanes) (pl + suc d) sums′) (sym t) (more (omega arith) (e .small))
       bound k r f (no t) =
           let w = g .small k r (sym (getD-set-other seen j k true false t) ∙ f) in
           record { small = λ i q. subst (λ (x : ℤ). natAbs x ≤ 256 * (pl + suc d + 1)) (sym (e .sums-is .still (k * lanes + i) (λ i′ q′ y. apart lanes i k i′ j q q′ t y))) (omega (arith, w .small i q)) }
@@ -160,17 +156,17 @@ row-again n E {code} {c} {m} {base} {from} {upto} {lanes} a {x} {end} {s} {pl} {
     subst (λ (y : ℕ). Gathers lanes (placeOf code c y) (runSum n E code c base lanes a y) seen′ sums′) (sym (add-one x))
     (record {
       is = λ i j q r.
-          alike-more (k .is i j q r)
-          (subst (Alike (gatherAt n E (code .rows) (base + j) (s + from) (pl + from) (column lanes a i) (end - from) (sumAt lanes seen sums i j)))
+          same-sum-more (k .is i j q r)
+          (subst (SameSum (gatherAt n E (code .rows) (base + j) (s + from) (pl + from) (column lanes a i) (end - from) (sumAt lanes seen sums i j)))
           ((λ y. gatherAt n E (code .rows) (base + j) (e y + from) (f y + from) (column lanes a i) (end - from) (runSum n E code c base lanes a x i j))
           ∙ sym (part-is g n E h end up most least all (base + j) (column lanes a i) (runSum n E code c base lanes a x i j) (omega arith) (omega arith)))
-          (alike-at n E (code .rows) (base + j) (s + from) (pl + from) (column lanes a i) (end - from) (before .is i j q r)));
+          (same-sum-at n E (code .rows) (base + j) (s + from) (pl + from) (column lanes a i) (end - from) (before .is i j q r)));
       small = λ j r y. more (omega (arith, f)) (k .small j r y);
     })
 
 -- ---- settled: every edge writes its variable's value
 pub record CheckSettled (v : ℕ → ℕ) (base s lanes : ℕ) (sums a : List ℤ) (d : ℕ) (a′ : List ℤ) : Type 0 where
-  pub is : (i : ℕ) → i < lanes → column lanes a′ i ≡ wrote (λ k. v (s + k)) (λ k. satZ (z sums ((v (s + k) - base) * lanes + i))) (column lanes a i) d
+  pub is : (i : ℕ) → i < lanes → column lanes a′ i ≡ wrote (λ k. v (s + k)) (λ k. satZ (intAt sums ((v (s + k) - base) * lanes + i))) (column lanes a i) d
 
 pub settled-check-start : (v : ℕ → ℕ) (base s lanes : ℕ) (sums a : List ℤ) → CheckSettled v base s lanes sums a 0 a
 unfolding wrote
@@ -182,7 +178,7 @@ pub settled-check-again : {v : ℕ → ℕ} {base s lanes : ℕ} {sums a : List 
 unfolding wrote
 settled-check-again {v} {base} {s} {lanes} {sums} {a} {d} {a′} {a″} {u} e c k =
     subst (λ (j : ℕ). CheckSettled v base s lanes sums a j a″) (sym (add-one d))
-    (record { is = λ i q. k .done i q q ∙ (λ j. put (c .is i q j) (e j) (satZ (z sums ((e j - base) * lanes + i)))) })
+    (record { is = λ i q. k .done i q q ∙ (λ j. put (c .is i q j) (e j) (satZ (intAt sums ((e j - base) * lanes + i)))) })
 
 pub settled-check-end : {v : ℕ → ℕ} {base s lanes : ℕ} {sums a : List ℤ} {d d′ : ℕ} {a′ : List ℤ} → d ≡ d′ → CheckSettled v base s lanes sums a d a′ → CheckSettled v base s lanes sums a d′ a′
 settled-check-end {v} {base} {s} {lanes} {sums} {a} {d} {d′} {a′} e c = subst (λ (j : ℕ). CheckSettled v base s lanes sums a j a′) e c
@@ -206,7 +202,7 @@ wrote-seen n E v u s pl F val f g (suc d) a h = go (eqb (v (s + d)) u) refl (wro
 -- after the first x checks
 pub record RowSettled (n E : ℕ) (code : Code) (c : ℕ → ℕ) (base lanes : ℕ) (sums a : List ℤ) (x : ℕ) (a′ : List ℤ) : Type 0 where
   pub in-row : (i u : ℕ) → i < lanes → base ≤ u → u < base + 374
-      → column lanes a′ i u ≡ cond (gatherRunAt n E code c u (column lanes a i) x .seen) (satZ (z sums ((u - base) * lanes + i))) (column lanes a i u)
+      → column lanes a′ i u ≡ cond (gatherRunAt n E code c u (column lanes a i) x .seen) (satZ (intAt sums ((u - base) * lanes + i))) (column lanes a i u)
   pub others : (i u : ℕ) → i < lanes → (base ≤ u → u < base + 374 → ⊥) → column lanes a′ i u ≡ column lanes a i u
 
 pub settled-row-start : (n E : ℕ) (code : Code) (c : ℕ → ℕ) (base lanes : ℕ) (sums a : List ℤ) → RowSettled n E code c base lanes sums a 0 a
@@ -223,11 +219,11 @@ settled-row-again {n} {E} {code} {c} {m} {base} {from} {upto} {lanes} {sums} {a}
     (record {
       in-row = λ i u q lo hi.
           ap (λ (f : ℕ → ℤ). f u) (here i q)
-          ∙ wrote-seen n E (code .rows) u S (placeOf code c x + from) (column lanes a i) (λ w. satZ (z sums ((w - base) * lanes + i))) (column lanes a i) (column lanes a′ i) (end - from) (gatherRunAt n E code c u (column lanes a i) x) (r .in-row i u q lo hi)
-          ∙ ap (λ (y : Sum). cond (y .seen) (satZ (z sums ((u - base) * lanes + i))) (column lanes a i u)) (sym (part-is g n E h end up most least all u (column lanes a i) (gatherRunAt n E code c u (column lanes a i) x) lo hi));
+          ∙ wrote-seen n E (code .rows) u S (placeOf code c x + from) (column lanes a i) (λ w. satZ (intAt sums ((w - base) * lanes + i))) (column lanes a i) (column lanes a′ i) (end - from) (gatherRunAt n E code c u (column lanes a i) x) (r .in-row i u q lo hi)
+          ∙ ap (λ (y : Sum). cond (y .seen) (satZ (intAt sums ((u - base) * lanes + i))) (column lanes a i u)) (sym (part-is g n E h end up most least all u (column lanes a i) (gatherRunAt n E code c u (column lanes a i) x) lo hi));
       others = λ i u q no.
           ap (λ (f : ℕ → ℤ). f u) (here i q)
-          ∙ wrote-other (λ k. code .rows (S + k)) (λ k. satZ (z sums ((code .rows (S + k) - base) * lanes + i))) (column lanes a′ i) (end - from) u
+          ∙ wrote-other (λ k. code .rows (S + k)) (λ k. satZ (intAt sums ((code .rows (S + k) - base) * lanes + i))) (column lanes a′ i) (end - from) u
           (λ j l y. let w = part-in g n E h end up most least all j l in no (omega (arith, w .0, y)) (omega (arith, w .1, y)))
           ∙ r .others i u q no;
     })
@@ -235,8 +231,8 @@ settled-row-again {n} {E} {code} {c} {m} {base} {from} {upto} {lanes} {sums} {a}
     S : ℕ
     S = code .row-start (c x) + from
 
-    here : (i : ℕ) → i < lanes → column lanes a″ i ≡ wrote (λ k. code .rows (S + k)) (λ k. satZ (z sums ((code .rows (S + k) - base) * lanes + i))) (column lanes a′ i) (end - from)
-    here i q = k .is i q ∙ (λ y. wrote (λ k. code .rows (e y + from + k)) (λ k. satZ (z sums ((code .rows (e y + from + k) - base) * lanes + i))) (column lanes a′ i) (end - from))
+    here : (i : ℕ) → i < lanes → column lanes a″ i ≡ wrote (λ k. code .rows (S + k)) (λ k. satZ (intAt sums ((code .rows (S + k) - base) * lanes + i))) (column lanes a′ i) (end - from)
+    here i q = k .is i q ∙ (λ y. wrote (λ k. code .rows (e y + from + k)) (λ k. satZ (intAt sums ((code .rows (e y + from + k) - base) * lanes + i))) (column lanes a′ i) (end - from))
 
 pub settled-row-end : {n E : ℕ} {code : Code} {c : ℕ → ℕ} {base lanes : ℕ} {sums a : List ℤ} {x m : ℕ} {a′ : List ℤ} → x ≡ m → RowSettled n E code c base lanes sums a x a′
     → RowSettled n E code c base lanes sums a m a′
@@ -260,7 +256,7 @@ row-written {n} {E} {code} {c} {m} {base} {lanes} {many} {seen} {sums} {a} {a′
     }
   where
     value : (i u : ℕ) → i < lanes → base ≤ u → u < base + 374 → (b : Bool) → gatherRunAt n E code c u (column lanes a i) m .seen ≡ b
-        → cond b (satZ (z sums ((u - base) * lanes + i))) (column lanes a i u) ≡ cond b (satZ (gatherRunAt n E code c u (column lanes a i) m .total)) (column lanes a i u)
+        → cond b (satZ (intAt sums ((u - base) * lanes + i))) (column lanes a i u) ≡ cond b (satZ (gatherRunAt n E code c u (column lanes a i) m .total)) (column lanes a i u)
     value i u q lo hi true e =
         let y : base + (u - base) ≡ u = omega arith in
         let w = g .is i (u - base) q (omega arith) in

@@ -4,29 +4,134 @@
 // In a layer in which variables can have several edges (fixed_conflicts), a run first leaves their values. Then row after row of 374 variables
 // is gathered into `sums`, 374 times `lanes` of them, and settled.
 ghost use mathlib.Core.Path.{_≡_};
-ghost use mathlib.Core.Bool.{false};
+ghost use mathlib.Core.Bool.{cond, true, false};
 ghost use Prim.Native.Nat.{ℕ, _<_, _≤_, _+_, _*_, _-_, min};
 ghost use lib.ListN.{getD, length};
-ghost use Rattle.lane_math.specs.Iteration.{runCount};
-ghost use Rattle.ldpc_shape.specs.Shape.{eOf, refusalOf};
-ghost use Rattle.ldpc_edges.specs.Code.{edgeLists};
-ghost use Rattle.lane_memory.specs.Column.{column};
-ghost use Rattle.lane_memory.specs.Room.{var, sharedIn, Room};
-ghost use Rattle.fixed_code.specs.Lists.{rowsIn, edgesIn, codeIn};
-ghost use Rattle.fixed_conflicts.specs.Table.{Once, Shares};
-ghost use Rattle.fixed_layered.specs.Full.{placeOf};
-ghost use Rattle.fixed.specs.Sequential.{stepped};
+ghost use lib.IntN.{natAbs, _+ℤ_, _-ℤ_};
+ghost use Rattle.laws.specs.Definitions.{minZ, maxZ};
+ghost use Rattle.iteration.specs.Value.{satZ};
+ghost use Rattle.iteration.specs.Iteration.{runCount};
+ghost use Rattle.lane16.specs.Column.{column};
+ghost use Rattle.lane16.specs.Memory.{CheckMemory, Memory};
+ghost use Rattle.iteration.specs.Once.{sharedIn, stepped, Once};
+ghost use Rattle.iteration.specs.Lists.{var, rowsIn, edgesIn, codeIn};
+ghost use Rattle.fixed_conflicts.specs.Table.{spansLength, Shares};
+ghost use Rattle.fixed_conflicts.specs.Prepared.{Prepared};
+ghost use Rattle.iteration.specs.Full.{placeOf};
+ghost use Rattle.fixed_layered.specs.Sums.{SmallSums, EdgeGathered, Settled};
 ghost use Rattle.fixed_layered.specs.Gather.{gatherAt};
-ghost use Rattle.fixed_layered.specs.Run.{InRun};
+ghost use Rattle.fixed_layered.specs.RunMemory.{InRun};
 ghost use Rattle.fixed_layered.specs.Rows.{InRow, Grouped, Smalls, EdgeDone, Gathers, sumAt, runSum, CheckSettled, RowSettled, FlagWritten, Written};
-ghost use Rattle.fixed_layered.specs.Runs.{RunMade, RunsMade, LayersMade, InLayer, AllLayers};
+ghost use Rattle.fixed_layered.specs.Layers.{RunMade, RunsMade, LayersMade, InLayer, Sharing};
 ghost use Rattle.fixed_layered.specs.Checks.{PartMade};
 ghost use Rattle.fixed_layered.specs.Layered.{Layered};
+use ldpc_shape::Sizes;
+
+// How many sums 64 lanes have: 374 each.
+pub const SUMS: usize = 23936;
+
+// What an iteration goes by: n variables, p checks in q layers, the rows of addresses, the lanes, and how many checks a run has.
+struct Pass {
+    n: usize,
+    p: usize,
+    q: usize,
+    rows: usize,
+    lanes: usize,
+    step: usize,
+}
+
+// A run of layer l: the checks first + x * q, x below m. `shared` if variables can have several edges in it.
+struct CheckRun {
+    l: usize,
+    first: usize,
+    m: usize,
+    shared: bool,
+}
+
+// The row of the 374 variables from `base` on. In each check of the run its edges are those from `from` up to `upto`.
+struct RowSpan {
+    base: usize,
+    from: usize,
+    upto: usize,
+}
 
 fn least(a: usize, b: usize) -> usize
     ensures { λ r. ⌜ r ≡ min a b ⌝ }
 {
     if a < b { a } else { b }
+}
+
+// What a lane has gathered, with one edge more.
+fn gathered(seen: bool, sum: i32, t: i8, new: i8, old: i8) -> i32
+    requires { ⌜ (seen ≡ true → natAbs sum ≤ 2000000000) ⌝ }
+    ensures { λ r. ⌜ r ≡ cond seen (sum +ℤ (new -ℤ old)) (t +ℤ new) ⌝ }
+{
+    if seen {
+        return sum + ((new as i32) - (old as i32));
+    }
+    (t as i32) + (new as i32)
+}
+
+// One edge more, with its t in row tu, its message in row ru and its old message in row ou, gathered by every lane; `seen` if there was one before. `many` edges
+// have been gathered at most.
+fn gather(
+    sums: &mut [i32],
+    at: usize,
+    work: &[i8],
+    tu: usize,
+    ru: usize,
+    ou: usize,
+    lanes: usize,
+    seen: bool,
+    many: usize,
+)
+    requires { ⌜ (tu * lanes + lanes ≤ length (now work)) × ((ru * lanes + lanes ≤ length (now work)) × (ou * lanes + lanes ≤ length (now work))) ⌝ }
+    requires { ⌜ (at + lanes ≤ length (now sums)) × ((many ≤ 7000000) × (seen ≡ true → SmallSums lanes at many (now sums))) ⌝ }
+    ensures { λ _. ⌜
+        EdgeGathered lanes at tu ru ou seen (now (work .entry)) (now (sums .entry)) lanes (now (sums .exit)) × SmallSums lanes at (many + 1) (now (sums .exit))
+        ⌝ }
+{
+    let mut i: usize = 0;
+    while i < lanes {
+        let t = fixed_lanes::value(work, tu, lanes, i);
+        let new = fixed_lanes::value(work, ru, lanes, i);
+        let old = fixed_lanes::value(work, ou, lanes, i);
+        let s = sums[at + i];
+        sums[at + i] = gathered(seen, s, t, new, old);
+        i += 1;
+    }
+}
+
+fn min32(a: i32, b: i32) -> i32
+    ensures { λ r. ⌜ r ≡ minZ a b ⌝ }
+{
+    if a < b { a } else { b }
+}
+
+fn max32(a: i32, b: i32) -> i32
+    ensures { λ r. ⌜ r ≡ maxZ a b ⌝ }
+{
+    if a < b { b } else { a }
+}
+
+fn sat(x: i32) -> i8
+    ensures { λ r. ⌜ r ≡ satZ x ⌝ }
+{
+    min32(max32(x, -128), 127) as i8
+}
+
+// The variable's row u of every lane from what the lane gathered, clamped once.
+fn settle(work: &mut [i8], u: usize, lanes: usize, sums: &[i32], at: usize)
+    requires { ⌜ (u * lanes + lanes ≤ length (now work)) × (at + lanes ≤ length (now sums)) ⌝ }
+    ensures { λ _. ⌜ Settled lanes u at (now (sums .entry)) (now (work .entry)) lanes (now (work .exit)) ⌝ }
+{
+    let mut i: usize = 0;
+    while i < lanes {
+        let s = sums[at + i];
+        let x = sat(s);
+        fixed_lanes::place(work, u, lanes, i, x);
+        i += 1;
+    }
 }
 
 // Edge e, whose t and old message are at `at`, gathered by every lane for its variable, one of the row that begins at variable `base`.
@@ -41,7 +146,7 @@ fn gather_edge(
     n: usize,
     lanes: usize,
 )
-    requires { ⌜ Room (now rows) e 1 n lanes (now work) × ((at < length (now rows)) × (length (now rows) ≤ 6000000)) ⌝ }
+    requires { ⌜ CheckMemory (now rows) e 1 n lanes (now work) × ((at < length (now rows)) × (length (now rows) ≤ 6000000)) ⌝ }
     requires { ⌜ (374 * lanes ≤ length (now sums)) × ((length (now seen) ≡ 374) × ((base ≤ var (now rows) e) × (var (now rows) e < base + 374))) ⌝ }
     requires { ⌜ Smalls lanes at (now seen) (now sums) ⌝ }
     ensures { λ _. ⌜
@@ -50,12 +155,12 @@ fn gather_edge(
         ⌝ }
 {
     let edges = rows.len();
-    let j = lane_memory::variable(rows, e) - base;
+    let j = fixed_code::variable(rows, e) - base;
     let tu = n + edges + at;
     let ru = n + e;
     let ou = n + 2 * edges + at;
     let was = seen[j];
-    fixed_delta::gather(sums, j * lanes, work, tu, ru, ou, lanes, was, at);
+    gather(sums, j * lanes, work, tu, ru, ou, lanes, was, at);
     seen[j] = true;
 }
 
@@ -72,7 +177,7 @@ fn gather_check(
     n: usize,
     lanes: usize,
 )
-    requires { ⌜ Room (now rows) s d n lanes (now work) × ((place + d ≤ length (now rows)) × (length (now rows) ≤ 6000000)) ⌝ }
+    requires { ⌜ CheckMemory (now rows) s d n lanes (now work) × ((place + d ≤ length (now rows)) × (length (now rows) ≤ 6000000)) ⌝ }
     requires { ⌜ (374 * lanes ≤ length (now sums)) × ((length (now seen) ≡ 374) × InRow (var (now rows)) base s d) ⌝ }
     requires { ⌜ Smalls lanes place (now seen) (now sums) ⌝ }
     ensures { λ _. ⌜
@@ -89,32 +194,35 @@ fn gather_check(
     }
 }
 
-// Every lane's sums of the row's variables over the run. In each check the row's edges are those from `from` up to `upto`.
+// Every lane's sums of the row's variables over the run.
 fn gather_row(
     sums: &mut [i32],
     seen: &mut [bool],
     index: &[u32],
     rows: &[u32],
     work: &[i8],
-    base: usize,
-    from: usize,
-    upto: usize,
-    n: usize,
-    p: usize,
-    lanes: usize,
-    first: usize,
-    q: usize,
-    m: usize,
+    row: RowSpan,
+    of: Pass,
+    run: CheckRun,
 )
-    requires { ⌜ InRun n p lanes first q m (now index) (now work) × (now rows ≡ rowsIn p (now index)) ⌝ }
-    requires { ⌜ Grouped (codeIn p (now index)) (stepped first q) m base from upto ⌝ }
-    requires { ⌜ (374 * lanes ≤ length (now sums)) × ((length (now seen) ≡ 374) × ((j : ℕ) → getD (now seen) j false ≡ false)) ⌝ }
+    requires { ⌜ InRun (of .n) (of .p) (of .lanes) (run .first) (of .q) (run .m) (now index) (now work) × (now rows ≡ rowsIn (of .p) (now index)) ⌝ }
+    requires { ⌜ Grouped (codeIn (of .p) (now index)) (stepped (run .first) (of .q)) (run .m) (row .base) (row .from) (row .upto) ⌝ }
+    requires { ⌜ (374 * of .lanes ≤ length (now sums)) × ((length (now seen) ≡ 374) × ((j : ℕ) → getD (now seen) j false ≡ false)) ⌝ }
     ensures { λ _. ⌜
-        Gathers lanes (placeOf (codeIn p (now (index .entry))) (stepped first q) m)
-        (runSum n (edgesIn p (now (index .entry))) (codeIn p (now (index .entry))) (stepped first q) base lanes (now (work .entry)) m) (now (seen .exit))
-        (now (sums .exit))
+        Gathers (of .lanes) (placeOf (codeIn (of .p) (now (index .entry))) (stepped (run .first) (of .q)) (run .m))
+        (runSum (of .n) (edgesIn (of .p) (now (index .entry))) (codeIn (of .p) (now (index .entry))) (stepped (run .first) (of .q)) (row .base) (of .lanes) (now (work .entry)) (run .m))
+        (now (seen .exit)) (now (sums .exit))
         ⌝ }
 {
+    let n = of.n;
+    let p = of.p;
+    let q = of.q;
+    let lanes = of.lanes;
+    let first = run.first;
+    let m = run.m;
+    let base = row.base;
+    let from = row.from;
+    let upto = row.upto;
     let mut place: usize = 0;
     let mut x: usize = 0;
     while x < m {
@@ -150,14 +258,14 @@ fn settle_check(
     n: usize,
     lanes: usize,
 )
-    requires { ⌜ Room (now rows) s d n lanes (now work) × ((374 * lanes ≤ length (now sums)) × InRow (var (now rows)) base s d) ⌝ }
+    requires { ⌜ CheckMemory (now rows) s d n lanes (now work) × ((374 * lanes ≤ length (now sums)) × InRow (var (now rows)) base s d) ⌝ }
     ensures { λ _. ⌜ CheckSettled (var (now (rows .entry))) base s lanes (now (sums .entry)) (now (work .entry)) d (now (work .exit)) ⌝ }
 {
     let mut k: usize = 0;
     while k < d {
-        let v = lane_memory::variable(rows, s + k);
+        let v = fixed_code::variable(rows, s + k);
         let at = (v - base) * lanes;
-        fixed_delta::settle(work, v, lanes, sums, at);
+        settle(work, v, lanes, sums, at);
         k += 1;
     }
 }
@@ -168,23 +276,26 @@ fn settle_row(
     sums: &[i32],
     index: &[u32],
     rows: &[u32],
-    base: usize,
-    from: usize,
-    upto: usize,
-    n: usize,
-    p: usize,
-    lanes: usize,
-    first: usize,
-    q: usize,
-    m: usize,
+    row: RowSpan,
+    of: Pass,
+    run: CheckRun,
 )
-    requires { ⌜ InRun n p lanes first q m (now index) (now work) × (now rows ≡ rowsIn p (now index)) ⌝ }
-    requires { ⌜ Grouped (codeIn p (now index)) (stepped first q) m base from upto × (374 * lanes ≤ length (now sums)) ⌝ }
+    requires { ⌜ InRun (of .n) (of .p) (of .lanes) (run .first) (of .q) (run .m) (now index) (now work) × (now rows ≡ rowsIn (of .p) (now index)) ⌝ }
+    requires { ⌜ Grouped (codeIn (of .p) (now index)) (stepped (run .first) (of .q)) (run .m) (row .base) (row .from) (row .upto) × (374 * of .lanes ≤ length (now sums)) ⌝ }
     ensures { λ _. ⌜
-        RowSettled n (edgesIn p (now (index .entry))) (codeIn p (now (index .entry))) (stepped first q) base lanes (now (sums .entry)) (now (work .entry))
-        m (now (work .exit))
+        RowSettled (of .n) (edgesIn (of .p) (now (index .entry))) (codeIn (of .p) (now (index .entry))) (stepped (run .first) (of .q)) (row .base) (of .lanes) (now (sums .entry))
+        (now (work .entry)) (run .m) (now (work .exit))
         ⌝ }
 {
+    let n = of.n;
+    let p = of.p;
+    let q = of.q;
+    let lanes = of.lanes;
+    let first = run.first;
+    let m = run.m;
+    let base = row.base;
+    let from = row.from;
+    let upto = row.upto;
     let mut x: usize = 0;
     while x < m {
         let c = first + x * q;
@@ -196,7 +307,7 @@ fn settle_row(
     }
 }
 
-// The values of row g, if its variables can have several edges in a run of layer l.
+// The values of row g, if its variables can have several edges in the run.
 fn write_row(
     work: &mut [i8],
     sums: &mut [i32],
@@ -205,60 +316,32 @@ fn write_row(
     table: &[u8],
     flags: &[bool; 120],
     g: usize,
-    l: usize,
-    n: usize,
-    p: usize,
-    lanes: usize,
-    first: usize,
-    q: usize,
-    m: usize,
+    of: Pass,
+    run: CheckRun,
 )
-    requires { ⌜ InRun n p lanes first q m (now index) (now work) × (now rows ≡ rowsIn p (now index)) ⌝ }
-    requires { ⌜ Shares n q (codeIn p (now index)) first m l (now table) (now flags) × ((length (now table) ≡ 14520) × ((l < 120) × ((g < 120) × (0 < m)))) ⌝ }
-    requires { ⌜ 23936 ≤ length (now sums) ⌝ }
+    requires { ⌜ InRun (of .n) (of .p) (of .lanes) (run .first) (of .q) (run .m) (now index) (now work) × (now rows ≡ rowsIn (of .p) (now index)) ⌝ }
+    requires { ⌜ Shares (of .n) (of .q) (codeIn (of .p) (now index)) (run .first) (run .m) (run .l) (now table) (now flags) × ((length (now table) ≡ spansLength) × ((run .l < 120) × ((g < 120) × (0 < run .m)))) ⌝ }
+    requires { ⌜ 374 * of .lanes ≤ length (now sums) ⌝ }
     ensures { λ _. ⌜
-        FlagWritten n (edgesIn p (now (index .entry))) (codeIn p (now (index .entry))) (stepped first q) m lanes (now (flags .entry)) g (now (work .entry))
-        (now (work .exit))
+        FlagWritten (of .n) (edgesIn (of .p) (now (index .entry))) (codeIn (of .p) (now (index .entry))) (stepped (run .first) (of .q)) (run .m) (of .lanes) (now (flags .entry)) g
+        (now (work .entry)) (now (work .exit))
         ⌝ }
 {
     if !flags[g] {
         return;
     }
+    let l = run.l;
     let from = fixed_conflicts::span(table, g, l);
     let upto = fixed_conflicts::span(table, g + 1, l);
     let base = 374 * g;
+    let row = RowSpan {
+        base: base,
+        from: from,
+        upto: upto,
+    };
     let mut seen: [bool; 374] = [false; 374];
-    gather_row(
-        sums,
-        &mut seen,
-        index,
-        rows,
-        work,
-        base,
-        from,
-        upto,
-        n,
-        p,
-        lanes,
-        first,
-        q,
-        m,
-    );
-    settle_row(
-        work,
-        sums,
-        index,
-        rows,
-        base,
-        from,
-        upto,
-        n,
-        p,
-        lanes,
-        first,
-        q,
-        m,
-    );
+    gather_row(sums, &mut seen, index, rows, work, row, of, run);
+    settle_row(work, sums, index, rows, row, of, run);
 }
 
 // The values that a run has left.
@@ -269,40 +352,17 @@ fn write_rows(
     rows: &[u32],
     table: &[u8],
     flags: &[bool; 120],
-    l: usize,
-    n: usize,
-    p: usize,
-    lanes: usize,
-    first: usize,
-    q: usize,
-    m: usize,
+    of: Pass,
+    run: CheckRun,
 )
-    requires { ⌜ InRun n p lanes first q m (now index) (now work) × (now rows ≡ rowsIn p (now index)) ⌝ }
-    requires { ⌜ Shares n q (codeIn p (now index)) first m l (now table) (now flags) × ((length (now table) ≡ 14520) × ((l < 120) × (0 < m))) ⌝ }
-    requires { ⌜ 23936 ≤ length (now sums) ⌝ }
-    ensures { λ _. ⌜
-        Written n (edgesIn p (now (index .entry))) (codeIn p (now (index .entry))) (stepped first q) m lanes (now (flags .entry)) (now (work .entry)) 120
-        (now (work .exit))
-        ⌝ }
+    requires { ⌜ InRun (of .n) (of .p) (of .lanes) (run .first) (of .q) (run .m) (now index) (now work) × (now rows ≡ rowsIn (of .p) (now index)) ⌝ }
+    requires { ⌜ Shares (of .n) (of .q) (codeIn (of .p) (now index)) (run .first) (run .m) (run .l) (now table) (now flags) × ((length (now table) ≡ spansLength) × ((run .l < 120) × (0 < run .m))) ⌝ }
+    requires { ⌜ 374 * of .lanes ≤ length (now sums) ⌝ }
+    ensures { λ _. ⌜ Written (of .n) (edgesIn (of .p) (now (index .entry))) (codeIn (of .p) (now (index .entry))) (stepped (run .first) (of .q)) (run .m) (of .lanes) (now (flags .entry)) (now (work .entry)) 120 (now (work .exit)) ⌝ }
 {
     let mut g: usize = 0;
     while g < 120 {
-        write_row(
-            work,
-            sums,
-            index,
-            rows,
-            table,
-            flags,
-            g,
-            l,
-            n,
-            p,
-            lanes,
-            first,
-            q,
-            m,
-        );
+        write_row(work, sums, index, rows, table, flags, g, of, run);
         g += 1;
     }
 }
@@ -315,19 +375,23 @@ fn shared_run(
     t: &mut [i8],
     u: &mut [i8],
     flags: &[bool; 120],
-    n: usize,
-    p: usize,
-    lanes: usize,
+    of: Pass,
     offset: i8,
-    first: usize,
-    q: usize,
-    m: usize,
+    run: CheckRun,
 )
-    requires { ⌜ InRun n p lanes first q m (now index) (now work) × (now rows ≡ rowsIn p (now index)) ⌝ }
-    requires { ⌜ ((v : ℕ) → sharedIn (now flags) v ≡ false → Once (codeIn p (now index)) (stepped first q) m v) ⌝ }
+    requires { ⌜ InRun (of .n) (of .p) (of .lanes) (run .first) (of .q) (run .m) (now index) (now work) × (now rows ≡ rowsIn (of .p) (now index)) ⌝ }
+    requires { ⌜ ((v : ℕ) → sharedIn (now flags) v ≡ false → Once (codeIn (of .p) (now index)) (stepped (run .first) (of .q)) (run .m) v) ⌝ }
     requires { ⌜ (2048 ≤ length (now t)) × (2048 ≤ length (now u)) ⌝ }
-    ensures { λ _. ⌜ PartMade (sharedIn (now (flags .entry))) n p lanes offset (now (index .entry)) first q m (now (work .entry)) (now (work .exit)) ⌝ }
+    ensures { λ _. ⌜
+        PartMade (sharedIn (now (flags .entry))) (of .n) (of .p) (of .lanes) offset (now (index .entry)) (run .first) (of .q) (run .m) (now (work .entry)) (now (work .exit))
+        ⌝ }
 {
+    let n = of.n;
+    let p = of.p;
+    let q = of.q;
+    let lanes = of.lanes;
+    let first = run.first;
+    let m = run.m;
     let mut place: usize = 0;
     let mut x: usize = 0;
     while x < m {
@@ -340,211 +404,135 @@ fn shared_run(
     }
 }
 
-// One run: in a layer without such rows its checks in turn; else their values at the end.
+// One run: if its variables have one edge each, its checks in turn; else their values at the end.
 fn run(
     index: &[u32],
-    rows: &[u32],
     work: &mut [i8],
     t: &mut [i8],
     u: &mut [i8],
     sums: &mut [i32],
     table: &[u8],
     flags: &[bool; 120],
-    any: bool,
-    l: usize,
+    of: Pass,
     offset: i8,
-    n: usize,
-    p: usize,
-    lanes: usize,
-    first: usize,
-    q: usize,
-    m: usize,
+    run: CheckRun,
 )
-    requires { ⌜ InRun n p lanes first q m (now index) (now work) × (now rows ≡ rowsIn p (now index)) ⌝ }
-    requires { ⌜ Shares n q (codeIn p (now index)) first m l (now table) (now flags) × ((length (now table) ≡ 14520) × ((l < 120) × (0 < m))) ⌝ }
-    requires { ⌜ (any ≡ false → (g : ℕ) → getD (now flags) g false ≡ false) ⌝ }
-    requires { ⌜ (2048 ≤ length (now t)) × ((2048 ≤ length (now u)) × (23936 ≤ length (now sums))) ⌝ }
-    ensures { λ _. ⌜ RunMade n p lanes offset (now (index .entry)) first q m (now (work .entry)) (now (work .exit)) ⌝ }
+    requires { ⌜ InRun (of .n) (of .p) (of .lanes) (run .first) (of .q) (run .m) (now index) (now work) ⌝ }
+    requires { ⌜ Shares (of .n) (of .q) (codeIn (of .p) (now index)) (run .first) (run .m) (run .l) (now table) (now flags) × ((length (now table) ≡ spansLength) × ((run .l < 120) × (0 < run .m))) ⌝ }
+    requires { ⌜ (run .shared ≡ false → (g : ℕ) → getD (now flags) g false ≡ false) ⌝ }
+    requires { ⌜ (2048 ≤ length (now t)) × ((2048 ≤ length (now u)) × (374 * of .lanes ≤ length (now sums))) ⌝ }
+    ensures { λ _. ⌜ RunMade (of .n) (of .p) (of .lanes) offset (now (index .entry)) (run .first) (of .q) (run .m) (now (work .entry)) (now (work .exit)) ⌝ }
 {
-    if !any {
-        fixed::checks(index, rows, work, t, u, n, p, lanes, offset, first, q, m);
+    let base = of.p + 1;
+    let rows = &index[base..];
+    if !run.shared {
+        fixed::checks(
+            index,
+            rows,
+            work,
+            t,
+            u,
+            of.n,
+            of.p,
+            of.lanes,
+            offset,
+            run.first,
+            of.q,
+            run.m,
+        );
         return;
     }
-    shared_run(
-        index,
-        rows,
-        work,
-        t,
-        u,
-        flags,
-        n,
-        p,
-        lanes,
-        offset,
-        first,
-        q,
-        m,
-    );
-    write_rows(
-        work,
-        sums,
-        index,
-        rows,
-        table,
-        flags,
-        l,
-        n,
-        p,
-        lanes,
-        first,
-        q,
-        m,
-    );
+    shared_run(index, rows, work, t, u, flags, of, offset, run);
+    write_rows(work, sums, index, rows, table, flags, of, run);
 }
 
 // Layer l in runs of `step` checks, the last shorter.
 fn runs(
     index: &[u32],
-    rows: &[u32],
     work: &mut [i8],
     t: &mut [i8],
     u: &mut [i8],
     sums: &mut [i32],
     table: &[u8],
-    flags: &[bool; 120],
-    any: bool,
+    of: Pass,
     offset: i8,
-    n: usize,
-    p: usize,
-    lanes: usize,
-    q: usize,
-    step: usize,
     l: usize,
 )
-    requires { ⌜ InLayer n p lanes q step l (now index) (now work) × (now rows ≡ rowsIn p (now index)) ⌝ }
-    requires { ⌜ Shares n q (codeIn p (now index)) l 374 l (now table) (now flags) × ((length (now table) ≡ 14520) × (l < 120)) ⌝ }
-    requires { ⌜ (any ≡ false → (g : ℕ) → getD (now flags) g false ≡ false) ⌝ }
-    requires { ⌜ (2048 ≤ length (now t)) × ((2048 ≤ length (now u)) × (23936 ≤ length (now sums))) ⌝ }
-    ensures { λ _. ⌜ RunsMade n p lanes offset (now (index .entry)) q step l (now (work .entry)) (runCount step) (now (work .exit)) ⌝ }
+    requires { ⌜ InLayer (of .n) (of .p) (of .lanes) (of .q) (of .step) l (now index) (now work) ⌝ }
+    requires { ⌜ Sharing (of .n) (of .p) (of .q) (of .rows) (now index) (now table) ⌝ }
+    requires { ⌜ (2048 ≤ length (now t)) × ((2048 ≤ length (now u)) × (374 * of .lanes ≤ length (now sums))) ⌝ }
+    ensures { λ _. ⌜ RunsMade (of .n) (of .p) (of .lanes) offset (now (index .entry)) (of .q) (of .step) l (now (work .entry)) (runCount (of .step)) (now (work .exit)) ⌝ }
 {
+    let q = of.q;
+    let step = of.step;
+    let sharing = fixed_conflicts::shared(table, of.rows, q, l);
+    let flags = sharing.rows;
+    let any = sharing.any;
     let mut at: usize = 0;
     let mut j: usize = 0;
     while at < 374 {
         let m = least(step, 374 - at);
         let first = l + at * q;
-        run(
-            index,
-            rows,
-            work,
-            t,
-            u,
-            sums,
-            table,
-            flags,
-            any,
-            l,
-            offset,
-            n,
-            p,
-            lanes,
-            first,
-            q,
-            m,
-        );
+        let part = CheckRun {
+            l: l,
+            first: first,
+            m: m,
+            shared: any,
+        };
+        run(index, work, t, u, sums, table, &flags, of, offset, part);
         at += step;
         j += 1;
     }
 }
 
-// Layers 0 to q − 1. `few` is how many rows of addresses there are.
+// Layers 0 to q − 1.
 fn layers(
     index: &[u32],
-    rows: &[u32],
     work: &mut [i8],
     t: &mut [i8],
     u: &mut [i8],
     sums: &mut [i32],
     table: &[u8],
-    few: usize,
+    of: Pass,
     offset: i8,
-    n: usize,
-    p: usize,
-    lanes: usize,
-    q: usize,
-    step: usize,
 )
-    requires { ⌜ AllLayers n p lanes q step few (now index) (now work) (now table) × (now rows ≡ rowsIn p (now index)) ⌝ }
-    requires { ⌜ (2048 ≤ length (now t)) × ((2048 ≤ length (now u)) × (23936 ≤ length (now sums))) ⌝ }
-    ensures { λ _. ⌜ LayersMade n p lanes offset (now (index .entry)) q step (now (work .entry)) q (now (work .exit)) ⌝ }
+    requires { ⌜ ((l : ℕ) → l < of .q → InLayer (of .n) (of .p) (of .lanes) (of .q) (of .step) l (now index) (now work)) × Sharing (of .n) (of .p) (of .q) (of .rows) (now index) (now table) ⌝ }
+    requires { ⌜ (2048 ≤ length (now t)) × ((2048 ≤ length (now u)) × (374 * of .lanes ≤ length (now sums))) ⌝ }
+    ensures { λ _. ⌜ LayersMade (of .n) (of .p) (of .lanes) offset (now (index .entry)) (of .q) (of .step) (now (work .entry)) (of .q) (now (work .exit)) ⌝ }
 {
+    let q = of.q;
     let mut l: usize = 0;
     while l < q {
-        let s = fixed_conflicts::shared(table, few, q, l);
-        let flags = s.rows;
-        let any = s.any;
-        runs(
-            index,
-            rows,
-            work,
-            t,
-            u,
-            sums,
-            table,
-            &flags,
-            any,
-            offset,
-            n,
-            p,
-            lanes,
-            q,
-            step,
-            l,
-        );
+        runs(index, work, t, u, sums, table, of, offset, l);
         l += 1;
     }
 }
 
-// One layered iteration of every lane's word, with runs of `step` checks. `index` holds exactly the code's lists.
+// One layered iteration of every lane's word, with runs of `step` checks. `lists` are the code's and `spans` the table of its rows' edges (fixed_conflicts);
+// `sums` is work of 374 times `lanes`.
 pub fn layered_iteration(
-    n: u32,
-    lens: &[u32],
-    addrs: &[u16],
-    index: &[u32],
+    of: Sizes,
+    spans: &[u8],
+    lists: &[u32],
     work: &mut [i8],
+    sums: &mut [i32],
     lanes: usize,
     offset: i8,
     step: usize,
 )
-    requires { ⌜ (refusalOf n (now lens) (now addrs) ≡ 0) × (now index ≡ edgeLists n (now lens) (now addrs)) ⌝ }
-    requires { ⌜ (0 < lanes) × ((lanes ≤ 64) × ((n + 3 * eOf n (now lens) (now addrs)) * lanes ≤ length (now work))) ⌝ }
-    requires { ⌜ (0 < step) × (step ≤ 4294967295) ⌝ }
-    ensures { λ _. ⌜ Layered n (now (lens .entry)) (now (addrs .entry)) lanes offset step (now (work .entry)) (now (work .exit)) ⌝ }
+    requires { ⌜ Prepared of (now lists) (now spans) × Memory (of .n) (of .p) lanes (now lists) (now work) ⌝ }
+    requires { ⌜ (374 * lanes ≤ length (now sums)) × ((0 < step) × (step ≤ 4294967295)) ⌝ }
+    ensures { λ _. ⌜ Layered (of .n) (of .p) (of .q) lanes offset step (now (lists .entry)) (now (work .entry)) (now (work .exit)) ⌝ }
 {
-    let mut table: [u8; 14520] = [0; 14520];
-    fixed_conflicts::spans(n, lens, addrs, &mut table);
-    let bits = n as usize;
-    let few = lens.len();
-    let k = 374 * few;
-    let p = bits - k;
-    let q = p / 374;
-    let base = p + 1;
+    let pass = Pass {
+        n: of.n,
+        p: of.p,
+        q: of.q,
+        rows: of.k / 374,
+        lanes: lanes,
+        step: step,
+    };
     let mut t: [i8; 2048] = [0; 2048];
     let mut u: [i8; 2048] = [0; 2048];
-    let mut sums: [i32; 23936] = [0; 23936];
-    layers(
-        index,
-        &index[base..],
-        work,
-        &mut t,
-        &mut u,
-        &mut sums,
-        &table,
-        few,
-        offset,
-        bits,
-        p,
-        lanes,
-        q,
-        step,
-    );
+    layers(lists, work, &mut t, &mut u, sums, spans, pass, offset);
 }

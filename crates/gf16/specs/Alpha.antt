@@ -5,20 +5,14 @@ use mathlib.Core.Bool.{Bool}
 use Prim.Native.Nat.{ℕ, suc, _-_, _*_, _/_, _%_, _≤_, _<_}
 use native.Mathlib.Omega.{arith}
 use lib.Dec.{T, eqb, eqb-refl, lit<}
-use Rattle.laws.specs.Xor.{_⊕_}
-use Rattle.algebra.specs.Gf.{mul, mulN, xt}
-use Rattle.algebra.specs.Ring.{Ring}
+use Rattle.laws.specs.Definitions.{_⊕_}
+use Rattle.algebra.specs.Gf.{mul, mulN, xt, El}
 use Rattle.algebra.specs.Series.{pow}
 use Rattle.algebra.specs.Power.{digit, fast, fast-pow, misses, order-part}
 use Rattle.algebra.specs.Roots.{Distinct, power-nz, power-distinct}
-use Rattle.algebra.specs.GfField.{El, gf-ring, gf-field, el-path}
-use Rattle.gf16.specs.Field16.{gf16}
-
-abbrev pub α : El 15
-α = (2, lit< tt)
-
-abbrev pub R16 : Ring (El 15)
-R16 = gf16 .ring
+use Rattle.algebra.specs.GfField.{gf-ring, gf-field}
+use Rattle.algebra.specs.GfLaws.{el-path}
+use Rattle.gf16.specs.Field16.{gf16, R16, α}
 
 unfoldable isOne : El 15 → Bool
 isOne x = eqb (x .0) 1

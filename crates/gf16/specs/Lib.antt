@@ -1,4 +1,5 @@
--- The field of the BCH code, and the order of its element alpha.
+-- The field of the BCH code; then its laws: the checks that make it a field, the order of its element alpha, the generator's roots.
 pub mod Field16
+pub mod Checks16
 pub mod Alpha
 pub mod Roots16

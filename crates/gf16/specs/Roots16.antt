@@ -4,25 +4,30 @@ use mathlib.Core.Path.{_≡_, sym, ap, ap₂, _∙_, subst}
 use mathlib.Core.Bool.{not, _&&_}
 use mathlib.Core.List.{List, [], _∷_}
 use Prim.Native.Nat.{ℕ, zero, suc, _+_, _*_, _/_, _%_, _^_, _≤_, _<_}
-use native.Mathlib.Nat.{not-suc-le-zero, le-of-suc-le-suc, mod-lt, pow-suc, mul-one, le-refl}
+use native.Mathlib.Nat.{not-suc-le-zero, le-of-suc-le-suc, mod-lt, pow-suc, mul-one, le-refl, lt-of-lt-of-le}
 use native.Mathlib.Decide.{decLe}
 use native.Mathlib.Omega.{arith}
 use lib.Dec.{T, ltb, ltb→lt, eqb, eqb→eq, eqb-refl, T-not, lit<}
 use lib.Ieee.Fits.{and-l, and-r}
 use lib.ListN.{getD, length}
-use Rattle.laws.specs.Xor.{_⊕_}
+use lib.Pow.{pow-mono}
+use Rattle.laws.specs.Definitions.{_⊕_, clmul, rem}
 use Rattle.laws.specs.Tests.{below, below-at}
-use Rattle.laws.specs.Poly.{clmul, clmul-lt, rem, quo, division, rem-lt}
-use Rattle.bch_table.specs.Generator.{masks, product, generator, generator-lt, generator-top}
-use Rattle.algebra.specs.Gf.{mul, mulN, xt}
-use Rattle.algebra.specs.Ring.{⊠-zero, zero-⊠, zero-⊞}
-use Rattle.algebra.specs.GfField.{El, gf-ring, gf-field, el-path}
-use Rattle.algebra.specs.Series.{pow, pow-add}
+use Rattle.laws.specs.Poly.{quo, division, rem-lt}
+use Rattle.bch_table.specs.Generator.{masks, product, generator}
+use Rattle.bch_table.specs.Digits.{product-lt}
+use Rattle.bch_table.specs.GeneratorLaws.{generator-lt, generator-top}
+use Rattle.algebra.specs.Gf.{mul, mulN, xt, El}
+use Rattle.algebra.specs.RingLaws.{⊠-zero, zero-⊠, zero-⊞}
+use Rattle.algebra.specs.GfField.{gf-ring, gf-field}
+use Rattle.algebra.specs.GfLaws.{el-path}
+use Rattle.algebra.specs.Series.{pow, ev, bit}
+use Rattle.algebra.specs.SeriesLaws.{pow-add}
 use Rattle.algebra.specs.Power.{fast, digit, fast-pow, pow-mod}
 use Rattle.algebra.specs.Roots.{Distinct}
-use Rattle.algebra.specs.Values.{ev, bit, ev-add, ev-square, ev-clmul, ev-more, multiple}
-use Rattle.gf16.specs.Field16.{gf16}
-use Rattle.gf16.specs.Alpha.{R16, α, α-full, α-distinct}
+use Rattle.algebra.specs.Values.{ev-add, ev-square, ev-clmul, ev-more, multiple}
+use Rattle.gf16.specs.Field16.{gf16, R16, α}
+use Rattle.gf16.specs.Alpha.{α-full, α-distinct}
 
 -- ---- entry i vanishes at alpha^(2i - 1), computed; here i counts from 0
 entries : T (below 12 (λ i. eqb ((ev R16 17 (getD masks i 0) (fast R16 16 α (2 * i + 1))) .0) 0))
@@ -34,12 +39,8 @@ unfolding gf16 gf-field gf-ring
 entry-vanishes i h = ap (ev R16 17 (getD masks i 0)) (sym (fast-pow R16 16 α (2 * i + 1) (omega arith))) ∙ el-path (eqb→eq _ _ (below-at 12 _ entries i h))
 
 -- a product of k polynomials of 17 coefficients has at most 17 k + 1
-product-lt : (ms : List ℕ) → product ms < 2 ^ (17 * length ms + 1)
-unfolding product
-product-lt [] = lit< tt
-product-lt (m ∷ ms) =
-    let e : 17 + (17 * length ms + 1) ≡ 17 * suc (length ms) + 1 = omega arith in
-    subst (λ (n : ℕ). clmul 17 m (product ms) < 2 ^ n) e (clmul-lt 17 m (17 * length ms + 1) (product ms) (product-lt ms))
+few : (ms : List ℕ) → product ms < 2 ^ (17 * length ms + 1)
+few ms = lt-of-lt-of-le (product-lt ms) (pow-mono (omega arith))
 
 -- a product vanishes where one of its factors does
 product-vanish : (ms : List ℕ) (i : ℕ) (z : El 15) → i < length ms → ev R16 17 (getD ms i 0) z ≡ R16 .𝟘 → ev R16 (17 * length ms + 1) (product ms) z ≡ R16 .𝟘
@@ -48,7 +49,7 @@ product-vanish [] i z h e = absurd (not-suc-le-zero h)
 product-vanish (m ∷ ms) i z h e =
     let n : 17 * suc (length ms) + 1 ≡ 17 + (17 * length ms + 1) = omega arith in
     ap (λ (k : ℕ). ev R16 k (clmul 17 m (product ms)) z) n
-    ∙ ev-clmul R16 17 m (product ms) (17 * length ms + 1) (17 + (17 * length ms + 1)) z (product-lt ms) (le-refl _)
+    ∙ ev-clmul R16 17 m (product ms) (17 * length ms + 1) (17 + (17 * length ms + 1)) z (few ms) (le-refl _)
     ∙ factor (λ j. product-vanish ms j z) i h e
   where
     factor : ((j : ℕ) → j < length ms → ev R16 17 (getD ms j 0) z ≡ R16 .𝟘 → ev R16 (17 * length ms + 1) (product ms) z ≡ R16 .𝟘)

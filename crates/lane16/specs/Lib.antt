@@ -1,2 +1,5 @@
--- What the functions on sixteen lanes make of each lane.
+-- Sixteen lanes by value (Lanes). Interleaved memory by columns (Column), and what a call on it may count on (Memory).
 pub mod Lanes
+pub mod Column
+pub mod ColumnLaws
+pub mod Memory

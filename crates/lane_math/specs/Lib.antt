@@ -1,7 +1,4 @@
--- The arithmetic of one word: a value, a check, an iteration. The laws that the lanes' code leans on.
-pub mod Value
-pub mod Check
-pub mod Iteration
-pub mod Bench
+-- The arithmetic of one lane: what it makes a message of (Reply), what fits eight bits (Fits), and that it makes the message of the definition (Laws).
+pub mod Reply
 pub mod Fits
 pub mod Laws

@@ -1,31 +1,21 @@
--- Decimal numbers as bytes, and what makes a text that begins with one readable in one way only.
+-- Decimal numbers as bytes (Definitions: `decimal`, `signed`), and what makes a text that begins with one readable in one way only.
+--
+-- In order: digits; a number by its digits (`decimal-small`, `decimal-more`, `decimal-snoc`); all bytes are digits; the number that digits spell;
+-- the first byte (`decimal-leads`); how many bytes; a text behind a number (`span-prefix`, `decimal-unique`, `signed-unique`).
+--
+-- Not here: how a reader goes through a text (report_form).
 use mathlib.Core.Path.{_≡_, refl, sym, ap, ap₂, _∙_, subst}
-use mathlib.Core.Bool.{Bool, false, cond, _&&_}
+use mathlib.Core.Bool.{Bool, false, _&&_}
 use mathlib.Core.List.{List, [], _∷_, _++_}
 use Prim.Native.Nat.{ℕ, zero, suc, _+_, _-_, _*_, _/_, _%_, _^_, _≤_, _<_}
 use native.Mathlib.Nat.{not-suc-le-zero, mod-lt, div-add-mod', div-lt-iff-lt-mul, pow-suc}
 use native.Mathlib.Decide.{decLt}
 use native.Mathlib.Omega.{arith}
 use borrow.Author.Tests.{lt-ltb, le-ltb, le-leb}
-use lib.Dec.{T, ltb, leb}
+use lib.Dec.{T, leb}
 use lib.IntN.{ℤ, pos, negsuc}
 use lib.ListN.{length, getD, length-append}
-
--- the decimal digits of n as bytes, highest first, for n below k: one digit below ten, otherwise those of n / 10 and then n % 10
-unfoldable pub digits : ℕ → ℕ → List ℕ
-digits zero n = []
-digits (suc k) n =
-    let more = digits k (n / 10) ++ ((48 + n % 10) ∷ []) in
-    cond (ltb n 10) ((48 + n) ∷ []) more
-
--- a number in decimal, without leading zeros
-unfoldable pub decimal : ℕ → List ℕ
-decimal n = digits (suc n) n
-
--- a whole number: a minus before a negative one, and no other sign
-unfoldable pub signed : ℤ → List ℕ
-signed (pos n) = decimal n
-signed (negsuc n) = 45 ∷ decimal (suc n)
+use Rattle.laws.specs.Definitions.{digits, decimal, signed}
 
 -- a byte that is a digit
 abbrev pub digit : ℕ → Bool
@@ -105,7 +95,7 @@ decimal-digits =
     (λ n h r. subst Digits (sym (decimal-more n h)) (Digits-append (decimal (n / 10)) ((48 + n % 10) ∷ []) r (digit-of (n % 10) (mod-lt n (omega arith)), tt)))
 
 -- the number that digits spell behind the number v
-abbrev pub spelled : ℕ → List ℕ → ℕ
+abbrev spelled : ℕ → List ℕ → ℕ
 spelled v [] = v
 spelled v (x ∷ xs) = spelled (v * 10 + (x - 48)) xs
 

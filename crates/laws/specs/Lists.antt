@@ -1,18 +1,15 @@
--- Tests joined by or, parts of lists, and lists of zeros.
+-- Parts of lists and lists of zeros, beside the kit's lib.Seq and lib.ListN.
+--
+-- In order: a part taken first and dropped from (`drop-take`); a list of zeros at any index; the part of a slice from n on, as it is lent and as it
+-- comes back (`lent-from`, `back-from`).
+--
+-- Not here: stores (Stores).
 use mathlib.Core.Path.{_≡_, refl, sym, ap, _∙_}
-use mathlib.Core.Bool.{Bool, false, _||_}
-use mathlib.Mathlib.Data.Bool.Basic.{or-eq-false-eq-eq-false-and-eq-false}
 use mathlib.Core.List.{List, [], _∷_, _++_, append-nil}
 use Prim.Native.Nat.{ℕ, zero, suc, _-_}
 use native.Mathlib.Omega.{arith}
 use lib.ListN.{length, getD, take, drop, replicate, length-drop, drop-of-length-le}
 use lib.Seq.{take-nil, take-all}
-
-pub or-left : (a b : Bool) → (a || b) ≡ false → a ≡ false
-or-left a b e = or-eq-false-eq-eq-false-and-eq-false a b .0 e .0
-
-pub or-right : (a b : Bool) → (a || b) ≡ false → b ≡ false
-or-right a b e = or-eq-false-eq-eq-false-and-eq-false a b .0 e .1
 
 -- a part taken first and dropped from, or dropped from first
 pub drop-take : (f t : ℕ) (l : List ℕ) → drop f (take t l) ≡ take (t - f) (drop f l)

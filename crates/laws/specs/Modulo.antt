@@ -1,4 +1,8 @@
--- Xor modulo 2, and sums over a grid of residues.
+-- Xor as a sum modulo 2, and sums of the first m values of a function.
+--
+-- In order: `xor-parity`, `xor-bit`; `sumTo` and one term more; equal terms; a sum over the numbers below a * q by their residues (`sum-grid`).
+--
+-- Not here: sums over the words of a list (schedule, Status: `sum`).
 use mathlib.Core.Path.{_≡_, refl, sym, ap, ap₂, _∙_}
 use Prim.Native.Nat.{ℕ, zero, suc, _+_, _*_, _%_, _<_}
 use native.Mathlib.Omega.{arith}

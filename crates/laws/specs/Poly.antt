@@ -1,4 +1,11 @@
--- Polynomials over two elements as numbers, digit i the coefficient of x^i: their product, and division by a polynomial of degree d.
+-- Polynomials over two elements as numbers (Definitions: `clmul`, `rem`): `rem` is the remainder of a division by g of degree d, and the only one.
+-- That g has degree d is `g / 2 ^ d ≡ 1` everywhere.
+--
+-- In order: the quotient, and `division`; the remainder is below 2 ^ d (`rem-lt`); digits joined and moved up; the remainder does not depend on
+-- the number of digits, is additive, and is the number itself if that is small (`rem-digits`, `rem-add`, `rem-small`); degrees of products;
+-- multiples of g; `remainder-only`; what a shift register needs (`rem-shift`); `Divides` is remainder 0.
+--
+-- Not here: the laws of a ring and of a field (algebra).
 use mathlib.Core.Path.{_≡_, refl, sym, ap, ap₂, _∙_, subst}
 use Prim.Native.Nat.{ℕ, zero, suc, _+_, _*_, _/_, _%_, _^_, _≤_, _<_}
 use native.Mathlib.Nat.{mod-lt, pow-suc, zero-mul, one-mul, mul-div-cancel, mul-mod-left, mul-comm, div-add-mod', zero-add, zero-div, suc-add, add-zero, add-suc, add-comm, mul-one, mul-assoc, div-le-self, lt-of-lt-of-le, lt-of-le-of-lt, mod-eq-of-lt, div-lt-iff-lt-mul, div-eq-of-lt}
@@ -6,23 +13,8 @@ use native.Mathlib.Omega.{arith}
 use lib.Arith.{lt-one, digits-div, digits-mod}
 use lib.Bits.{xor-shifted}
 use lib.Pow.{pow-pos, shl-lt, shr-shr, pow-mono}
-use Rattle.laws.specs.Xor.{_⊕_, ⊕-assoc, ⊕-comm, ⊕-self, ⊕-zero, zero-⊕, ⊕-lt, ⊕-half, ⊕-odd, ⊕-double, ⊕-swap, ⊕-split, ⊕-div, bit-mul, two-cases, two-pos}
-
--- the product, over k digits of q
-unfoldable pub clmul : ℕ → ℕ → ℕ → ℕ
-clmul zero q g = 0
-clmul (suc k) q g = (q % 2 * g) ⊕ (clmul k (q / 2) g * 2)
-
--- one digit into the remainder by g, of degree d
-unfoldable pub shifted : ℕ → ℕ → ℕ
-shifted r b = (r * 2) ⊕ b
-
-unfoldable pub into : ℕ → ℕ → ℕ → ℕ → ℕ
-into d g r b = shifted r b ⊕ (shifted r b / 2 ^ d % 2 * g)
-
-unfoldable pub rem : ℕ → ℕ → ℕ → ℕ → ℕ
-rem d g zero w = 0
-rem d g (suc k) w = into d g (rem d g k (w / 2)) (w % 2)
+use Rattle.laws.specs.Xor.{⊕-assoc, ⊕-comm, ⊕-self, ⊕-zero, zero-⊕, ⊕-lt, ⊕-half, ⊕-odd, ⊕-double, ⊕-swap, ⊕-split, ⊕-div, bit-mul, two-cases, two-pos}
+use Rattle.laws.specs.Definitions.{_⊕_, clmul, shifted, into, rem, Divides}
 
 unfoldable pub quo : ℕ → ℕ → ℕ → ℕ → ℕ
 quo d g zero w = 0
@@ -287,11 +279,6 @@ rem-shift d g k j n w v e hw hk hd =
     short = shl-lt d j (rem-lt d g k w e)
 
 -- ---- g divides w
-pub record Divides (g w : ℕ) : Type 0 where
-  pub digits : ℕ
-  pub quotient : ℕ
-  pub product : w ≡ clmul digits quotient g
-
 pub divides-rem : (d g n w : ℕ) → g / 2 ^ d ≡ 1 → w < 2 ^ n → Divides g w → rem d g n w ≡ 0
 divides-rem d g n w e h m = sym (remainder-only d g (m .digits) (m .quotient) 0 n w e (pow-pos d) (m .product ∙ sym (⊕-zero (clmul (m .digits) (m .quotient) g))) h)
 

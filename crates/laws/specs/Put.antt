@@ -1,15 +1,12 @@
--- A function changed at one place.
+-- `put`, a function changed at one place: there, elsewhere, and where nothing changes. Not here: a list changed at one place (lib.Seq, Stores).
 use mathlib.Core.Path.{_≡_, refl, sym, ap}
 use mathlib.Core.Logic.{_≢_}
 use mathlib.Core.Bool.{Bool, cond}
 use Prim.Native.Nat.{ℕ}
 use borrow.Author.Tests.{eqb-true, eq-eqb, ne-eqb}
 use lib.Dec.{eqb}
+use Rattle.laws.specs.Definitions.{put}
 use Rattle.laws.specs.Choice.{by-cond}
-
--- f with x at u
-unfoldable pub put : {A : Type 0} → (ℕ → A) → ℕ → A → ℕ → A
-put f u x w = cond (eqb w u) x (f w)
 
 module _ {A : Type 0} (f : ℕ → A) (u : ℕ) where
   pub put-same : (x : A) → put f u x u ≡ x

@@ -1,33 +1,24 @@
--- Whole numbers of 8 and 16 bits: the smaller and the larger of two, signs, and that sums, differences and negatives fit.
-use mathlib.Core.Path.{_≡_, refl, ap, subst, _∙_}
-use mathlib.Core.Bool.{Bool, true, false, not, cond}
+-- Whole numbers of 8 and 16 bits, as antt's omega does not read them: each law by the cases of the sign.
+--
+-- In order: what the machine reads back from a number's bits (`plain`, `wide`, `lt-plain`); sums, differences and negatives of 8 bit numbers take
+-- 16 bits; the absolute value as a larger of two; signs: as a test, of a larger of two, of a product (`times-swap`, `times-twice`), and of the
+-- xor of two numbers (`xor-sign`).
+--
+-- Not here: sat, magnitude and messages (lane_math).
+use mathlib.Core.Path.{_≡_, refl, ap, _∙_}
+use mathlib.Core.Bool.{Bool, true, false, cond}
 use Prim.Native.Nat.{ℕ, zero, suc, _-_, _<_, _≤_, _^_, _/_}
 use native.Mathlib.Omega.{arith}
 use lib.IntN.{ℤ, pos, negsuc, _+ℤ_, _-ℤ_, negℤ, natAbs, +ℤ-idl}
 use lib.Signed.{ltZ}
-use lib.Dec.{ltb, T}
+use lib.Dec.{ltb}
 use mir.Syntax.{Width, w8, w16}
 use mir.Val.{SFits, toZ, ofZ}
 use mir.ValLaws.{toZ-ofZ}
 use lib.Bits.{bitXor, xor-shr}
 use borrow.Author.Tests.{lt-ltb, le-ltb}
+use Rattle.laws.specs.Definitions.{maxZ, negative, times}
 use Rattle.laws.specs.Choice.{by-cond}
-
-abbrev pub minZ : ℤ → ℤ → ℤ
-minZ a b = cond (ltZ a b) a b
-
-abbrev pub maxZ : ℤ → ℤ → ℤ
-maxZ a b = cond (ltZ a b) b a
-
--- 0 is positive
-abbrev pub negative : ℤ → Bool
-negative (pos n) = false
-negative (negsuc n) = true
-
--- the sign of a product: negative where exactly one of the two is
-abbrev pub times : Bool → Bool → Bool
-times true b = not b
-times false b = b
 
 -- ---- what the machine reads back from a number's bits
 pub plain : (z : ℤ) → SFits w8 z → toZ w8 (ofZ w8 z) ≡ z
@@ -68,16 +59,6 @@ neg-fits16 (pos zero) f = record { sfits = omega arith }
 neg-fits16 (pos (suc n)) f = record { sfits = omega (arith, f .sfits) }
 neg-fits16 (negsuc n) f = record { sfits = omega (arith, f .sfits) }
 
--- the negative of one that is not negative takes no bit more
-pub neg-fits : (z : ℤ) → SFits w8 z → ltZ z (pos 0) ≡ false → SFits w8 (pos 0 -ℤ z)
-neg-fits (pos zero) f e = record { sfits = omega arith }
-neg-fits (pos (suc n)) f e = go (ltb 0 (suc n)) n (f .sfits)
-  where
-    go : (b : Bool) (n : ℕ) → suc n < 128 → SFits w8 (cond b (negsuc (suc n - 1)) (pos (0 - suc n)))
-    go true n h = record { sfits = omega arith }
-    go false n h = record { sfits = omega arith }
-neg-fits (negsuc n) f e = absurd (subst T e tt)
-
 pub sub-neg : (z : ℤ) → pos 0 -ℤ z ≡ negℤ z
 sub-neg z = +ℤ-idl (negℤ z)
 
@@ -90,9 +71,6 @@ abs (negsuc n) = refl
 pub sign-test : (z : ℤ) → ltZ z (pos 0) ≡ negative z
 sign-test (pos n) = le-ltb n 0 (omega arith)
 sign-test (negsuc n) = refl
-
-pub cond-nonneg : (b : Bool) (x y : ℤ) → ltZ x (pos 0) ≡ false → ltZ y (pos 0) ≡ false → ltZ (cond b x y) (pos 0) ≡ false
-cond-nonneg b x y p q = by-cond (λ z. ltZ z (pos 0) ≡ false) b x y (λ _. p) (λ _. q)
 
 pub max-nonneg : (z : ℤ) → ltZ (maxZ z (pos 0)) (pos 0) ≡ false
 max-nonneg z = by-cond (λ y. ltZ y (pos 0) ≡ false) (ltZ z (pos 0)) (pos 0) z (λ _. refl) (λ e. e)

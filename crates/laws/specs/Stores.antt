@@ -1,4 +1,9 @@
 -- Stores into a list: one, one a turn of a loop, a run of them.
+--
+-- In order: what one store leaves (`set-at`, `set-each`); a loop that writes one element a turn, at `at i` or at i, and leaves the rest
+-- (`grown-at`, `grown`, `kept`); a run of stores, lib.Seq's `sets` (`sets-append`, `set-sets`), and a list of equal elements one longer.
+--
+-- Not here: `getD-set-same`, `getD-set-other`, `sets-eq` (lib.Seq), `length-set` (lib.ListN).
 use mathlib.Core.Path.{_≡_, sym, ap, _∙_, subst}
 use mathlib.Core.Logic.{_≢_}
 use mathlib.Core.List.{List, [], _∷_, _++_, append-assoc}

@@ -1,4 +1,4 @@
--- A test that antt computes once, at each number below k, and what it shows at each.
+-- A test that antt computes once, at each number below k, and what it shows at each (`below-at`).
 use mathlib.Core.Path.{_≡_, subst, sym}
 use mathlib.Core.Bool.{Bool, true, _&&_}
 use Prim.Native.Nat.{ℕ, zero, suc, _<_}

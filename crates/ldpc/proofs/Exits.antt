@@ -2,15 +2,15 @@
 use mathlib.Core.Path.{_≡_, refl, sym, ap, ap₂, _∙_, subst}
 use mathlib.Core.Bool.{cond}
 use mathlib.Core.List.{List, _++_}
-use Prim.Native.Nat.{ℕ, suc, _+_, _-_, _*_, _/_, _≤_, _<_}
+use Prim.Native.Nat.{ℕ, suc, _+_, _≤_, _<_}
 use native.Mathlib.Omega.{arith}
 use borrow.Author.Tests.{eq-eqb, ne-eqb, lt-ltb, le-ltb, le-leb, lt-leb}
 use lib.Dec.{eqb}
 use lib.ListN.{length, take, drop}
 use lib.Seq.{length-take-le}
-use Rattle.ldpc_shape.specs.Shape.{kOf, pOf, qOf, eOf, refusalOf}
+use Rattle.ldpc_shape.specs.declared.Sizes.{Sizes}
+use Rattle.ldpc_shape.specs.Shape.{kOf, pOf, eOf, sizesOf, codeRefusal}
 use Rattle.ldpc_shape.specs.Accepted.{accepted, p-pos}
-use Rattle.ldpc_shape.specs.Worked.{k-worked, p-worked, e-worked, lists-worked}
 use Rattle.ldpc_edges.specs.Code.{check, edgeLists, parity, encode, weight}
 use Rattle.ldpc_edges.specs.Degree.{degree-le}
 use Rattle.ldpc_edges.specs.Layout.{lists-length}
@@ -18,7 +18,8 @@ use Rattle.ldpc_edges.specs.Encoder.{parity-length, encode-length}
 use Rattle.ldpc.specs.declared.Made.the-variants as made
 use Rattle.ldpc.specs.declared.Counted.the-variants as counted
 use Rattle.ldpc.specs.declared.Written.the-variants as written
-use Rattle.ldpc.specs.Answers.{orElse, shortOf, otherOf, beyondOf, inFront, newRefusal, checkRefusal, parityRefusal, encodeRefusal, weightRefusal, newAnswer, checkAnswer, parityAnswer, encodeAnswer, weightAnswer, newInto, checkInto, parityInto, encodeInto, or-first, or-next}
+use Rattle.ldpc.specs.Answers.{orElse, shortOf, otherOf, beyondOf, inFront, newRefusal, checkRefusal, parityRefusal, encodeRefusal, weightRefusal, newAnswer, checkAnswer, parityAnswer, encodeAnswer, weightAnswer, newInto, checkInto, parityInto, encodeInto}
+use Rattle.ldpc.specs.AnswersLaws.{or-first, or-next}
 
 -- ---- an answer with its number
 pub with-number : {A X : Type 0} (number : A → ℕ) {a b : A} {f : ℕ} → number b ≡ f → (a ≡ b) × X → ((a ≡ b) × X) × (number a ≡ f)
@@ -75,61 +76,56 @@ module _ (R : ℕ) (xs out : List ℕ) where
 module _ (n : ℕ) (lens addrs : List ℕ) where
   -- ---- new
   module _ (lists : List ℕ) where
-    pub new-refused : (r : ℕ) → r ≡ refusalOf n lens addrs → (r ≡ 0 → ⊥)
+    pub new-refused : (r : ℕ) → r ≡ codeRefusal n lens addrs → (r ≡ 0 → ⊥)
         → (made.Refused r ≡ newAnswer n lens addrs (length lists)) × (lists ≡ newInto n lens addrs lists)
     unfolding newAnswer newRefusal newInto
     new-refused r e ne =
-        let f = or-first (refusalOf n lens addrs) (shortOf (suc (pOf n lens) + eOf n lens addrs) (length lists)) r e ne in
+        let f = or-first (codeRefusal n lens addrs) (shortOf (suc (pOf n lens) + eOf n lens addrs) (length lists)) r e ne in
         (says-no _ _ made.Refused r f ne, keeps _ _ lists r f ne)
 
-    module _ (e : refusalOf n lens addrs ≡ 0) (size : ℕ) (s : size ≡ n - length lens * 374 + 1 + (length addrs * 374 + 2 * (n - length lens * 374) - 1)) where
-      size-is : size ≡ suc (pOf n lens) + eOf n lens addrs
-      size-is = s ∙ lists-worked n lens addrs
+    module _ (e : codeRefusal n lens addrs ≡ 0) (S : Sizes) (d : S ≡ sizesOf n lens addrs) where
+      size-is : S .p + 1 + S .e ≡ suc (pOf n lens) + eOf n lens addrs
+      size-is = omega (arith, ap (λ (z : Sizes). z .p) d, ap (λ (z : Sizes). z .e) d)
 
-      pub new-short : length lists < size → (made.Refused 13 ≡ newAnswer n lens addrs (length lists)) × (lists ≡ newInto n lens addrs lists)
+      pub new-short : length lists < S .p + 1 + S .e → (made.Refused 13 ≡ newAnswer n lens addrs (length lists)) × (lists ≡ newInto n lens addrs lists)
       unfolding newAnswer newRefusal newInto
       new-short h =
-          let f = or-next (refusalOf n lens addrs) _ 13 e (short (suc (pOf n lens) + eOf n lens addrs) (length lists) (omega (arith, size-is))) in
+          let f = or-next (codeRefusal n lens addrs) _ 13 e (short (suc (pOf n lens) + eOf n lens addrs) (length lists) (omega (arith, size-is))) in
           (says-no _ _ made.Refused 13 f thirteen, keeps _ _ lists 13 f thirteen)
 
-      pub new-ready : size ≤ length lists → length (take size lists) ≡ suc (pOf n lens) + eOf n lens addrs
-      new-ready h = length-take-le size lists h ∙ size-is
+      pub new-ready : S .p + 1 + S .e ≤ length lists → length (take (S .p + 1 + S .e) lists) ≡ suc (pOf n lens) + eOf n lens addrs
+      new-ready h = length-take-le (S .p + 1 + S .e) lists h ∙ size-is
 
-      made-is : made.Code (length lens * 374) (n - length lens * 374) ((n - length lens * 374) / 374) (length addrs * 374 + 2 * (n - length lens * 374) - 1)
-          ≡ made.Code (kOf lens) (pOf n lens) (qOf n lens) (eOf n lens addrs)
-      unfolding qOf
-      made-is =
-          ap₂ (λ (y z : ℕ). made.Code y (n - length lens * 374) ((n - length lens * 374) / 374) z) (k-worked lens) (e-worked n lens addrs)
-          ∙ ap (λ (y : ℕ). made.Code (kOf lens) y (y / 374) (eOf n lens addrs)) (p-worked n lens)
-
-      pub new-done : size ≤ length lists → (y : List ℕ) → y ≡ edgeLists n lens addrs
-          → (made.Code (length lens * 374) (n - length lens * 374) ((n - length lens * 374) / 374) (length addrs * 374 + 2 * (n - length lens * 374) - 1) ≡ newAnswer n lens addrs (length lists))
-          × (y ++ drop size lists ≡ newInto n lens addrs lists)
+      pub new-done : S .p + 1 + S .e ≤ length lists → (y : List ℕ) → y ≡ edgeLists n lens addrs
+          → (made.Code (S .k) (S .p) (S .q) (S .e) ≡ newAnswer n lens addrs (length lists))
+          × (y ++ drop (S .p + 1 + S .e) lists ≡ newInto n lens addrs lists)
       unfolding newAnswer newRefusal newInto
       new-done h y g =
-          let f = or-next (refusalOf n lens addrs) _ 0 e (room (suc (pOf n lens) + eOf n lens addrs) (length lists) (omega (arith, size-is))) in
-          (made-is ∙ says-yes _ _ made.Refused f, puts _ _ lists f y size g (size-is ∙ sym (lists-length n lens addrs (accepted n lens addrs e))))
+          let f = or-next (codeRefusal n lens addrs) _ 0 e (room (suc (pOf n lens) + eOf n lens addrs) (length lists) (omega (arith, size-is))) in (
+            ap (λ (z : Sizes). made.Code (z .k) (z .p) (z .q) (z .e)) d ∙ says-yes _ _ made.Refused f,
+            puts _ _ lists f y (S .p + 1 + S .e) g (size-is ∙ sym (lists-length n lens addrs (accepted n lens addrs e))),
+          )
 
   -- ---- check
   module _ (c : ℕ) (out : List ℕ) where
-    pub check-refused : (r : ℕ) → r ≡ refusalOf n lens addrs → (r ≡ 0 → ⊥)
+    pub check-refused : (r : ℕ) → r ≡ codeRefusal n lens addrs → (r ≡ 0 → ⊥)
         → (counted.Refused r ≡ checkAnswer n lens addrs c (length out)) × (out ≡ checkInto n lens addrs c out)
     unfolding checkAnswer checkRefusal checkInto
     check-refused r e ne =
-        let f = or-first (refusalOf n lens addrs) (orElse (beyondOf c (pOf n lens)) (shortOf (length (check n lens addrs c)) (length out))) r e ne in
+        let f = or-first (codeRefusal n lens addrs) (orElse (beyondOf c (pOf n lens)) (shortOf (length (check n lens addrs c)) (length out))) r e ne in
         (says-no _ _ counted.Refused r f ne, keeps _ _ out r f ne)
 
-    module _ (e : refusalOf n lens addrs ≡ 0) where
-      pub check-beyond : n - length lens * 374 ≤ c → (counted.Refused 12 ≡ checkAnswer n lens addrs c (length out)) × (out ≡ checkInto n lens addrs c out)
+    module _ (e : codeRefusal n lens addrs ≡ 0) (p m : ℕ) (d : p ≡ pOf n lens) (w : m ≡ c) where
+      pub check-beyond : p ≤ m → (counted.Refused 12 ≡ checkAnswer n lens addrs c (length out)) × (out ≡ checkInto n lens addrs c out)
       unfolding checkAnswer checkRefusal checkInto
       check-beyond h =
-          let g = beyond c (pOf n lens) (subst (λ (z : ℕ). z ≤ c) (p-worked n lens) h) in
-          let f = or-next (refusalOf n lens addrs) _ 12 e (or-first (beyondOf c (pOf n lens)) (shortOf (length (check n lens addrs c)) (length out)) 12 g twelve) in
+          let g = beyond c (pOf n lens) (omega (arith, d, w)) in
+          let f = or-next (codeRefusal n lens addrs) _ 12 e (or-first (beyondOf c (pOf n lens)) (shortOf (length (check n lens addrs c)) (length out)) 12 g twelve) in
           (says-no _ _ counted.Refused 12 f twelve, keeps _ _ out 12 f twelve)
 
-      module _ (b : c < n - length lens * 374) where
+      module _ (b : m < p) where
         pub check-below : c < pOf n lens
-        check-below = subst (λ (z : ℕ). c < z) (p-worked n lens) b
+        check-below = omega (arith, d, w)
 
         below-is : beyondOf c (pOf n lens) ≡ 0
         below-is = within c (pOf n lens) check-below
@@ -137,76 +133,72 @@ module _ (n : ℕ) (lens addrs : List ℕ) where
         pub check-small : length (check n lens addrs c) ≤ 128
         check-small = degree-le n lens addrs (accepted n lens addrs e) c check-below
 
-        pub check-short : (d : ℕ) → d ≡ length (check n lens addrs c) → length out < d → (counted.Refused 13 ≡ checkAnswer n lens addrs c (length out)) × (out ≡ checkInto n lens addrs c out)
+        pub check-short : (l : ℕ) → l ≡ length (check n lens addrs c) → length out < l → (counted.Refused 13 ≡ checkAnswer n lens addrs c (length out)) × (out ≡ checkInto n lens addrs c out)
         unfolding checkAnswer checkRefusal checkInto
-        check-short d s h =
+        check-short l s h =
             let g = short (length (check n lens addrs c)) (length out) (subst (λ (z : ℕ). length out < z) s h) in
-            let f = or-next (refusalOf n lens addrs) _ 13 e (or-next (beyondOf c (pOf n lens)) (shortOf (length (check n lens addrs c)) (length out)) 13 below-is g) in
+            let f = or-next (codeRefusal n lens addrs) _ 13 e (or-next (beyondOf c (pOf n lens)) (shortOf (length (check n lens addrs c)) (length out)) 13 below-is g) in
             (says-no _ _ counted.Refused 13 f thirteen, keeps _ _ out 13 f thirteen)
 
-        pub check-done : (d r : ℕ) → d ≡ length (check n lens addrs c) → d ≤ length out → r ≡ length (check n lens addrs c) → (y : List ℕ) → y ≡ check n lens addrs c ++ drop r out
+        pub check-done : (l r : ℕ) → l ≡ length (check n lens addrs c) → l ≤ length out → r ≡ length (check n lens addrs c) → (y : List ℕ) → y ≡ check n lens addrs c ++ drop r out
             → (counted.Count r ≡ checkAnswer n lens addrs c (length out)) × (y ≡ checkInto n lens addrs c out)
         unfolding checkAnswer checkRefusal checkInto
-        check-done d r s h t y u =
+        check-done l r s h t y u =
             let g = room (length (check n lens addrs c)) (length out) (subst (λ (z : ℕ). z ≤ length out) s h) in
-            let f = or-next (refusalOf n lens addrs) _ 0 e (or-next (beyondOf c (pOf n lens)) (shortOf (length (check n lens addrs c)) (length out)) 0 below-is g) in
+            let f = or-next (codeRefusal n lens addrs) _ 0 e (or-next (beyondOf c (pOf n lens)) (shortOf (length (check n lens addrs c)) (length out)) 0 below-is g) in
             (ap counted.Count t ∙ says-yes _ _ counted.Refused f, u ∙ puts _ _ out f (check n lens addrs c) r refl t)
 
   -- ---- parity
   module _ (info out : List ℕ) where
-    pub parity-refused : (r : ℕ) → r ≡ refusalOf n lens addrs → (r ≡ 0 → ⊥)
+    pub parity-refused : (r : ℕ) → r ≡ codeRefusal n lens addrs → (r ≡ 0 → ⊥)
         → (written.Refused r ≡ parityAnswer n lens addrs (length info) (length out)) × (out ≡ parityInto n lens addrs info out)
     unfolding parityAnswer parityRefusal parityInto
     parity-refused r e ne =
-        let f = or-first (refusalOf n lens addrs) (orElse (otherOf (length info) (kOf lens)) (shortOf (pOf n lens) (length out))) r e ne in
+        let f = or-first (codeRefusal n lens addrs) (orElse (otherOf (length info) (kOf lens)) (shortOf (pOf n lens) (length out))) r e ne in
         (says-no _ _ written.Refused r f ne, keeps _ _ out r f ne)
 
-    module _ (e : refusalOf n lens addrs ≡ 0) (k : ℕ) (ek : k ≡ kOf lens) where
+    module _ (e : codeRefusal n lens addrs ≡ 0) (k : ℕ) (ek : k ≡ kOf lens) where
       pub parity-other : (length info ≡ k → ⊥) → (written.Refused 12 ≡ parityAnswer n lens addrs (length info) (length out)) × (out ≡ parityInto n lens addrs info out)
       unfolding parityAnswer parityRefusal parityInto
       parity-other h =
           let g = other (length info) (kOf lens) (λ z. h (z ∙ sym ek)) in
-          let f = or-next (refusalOf n lens addrs) _ 12 e (or-first (otherOf (length info) (kOf lens)) (shortOf (pOf n lens) (length out)) 12 g twelve) in
+          let f = or-next (codeRefusal n lens addrs) _ 12 e (or-first (otherOf (length info) (kOf lens)) (shortOf (pOf n lens) (length out)) 12 g twelve) in
           (says-no _ _ written.Refused 12 f twelve, keeps _ _ out 12 f twelve)
 
-      module _ (l : length info ≡ k) (p : ℕ) (ep : p ≡ n - k) where
-        p-size : p ≡ pOf n lens
-        unfolding pOf
-        p-size = ep ∙ ap (λ (z : ℕ). n - z) ek
-
+      module _ (l : length info ≡ k) (p : ℕ) (ep : p ≡ pOf n lens) where
         pub parity-short : length out < p → (written.Refused 13 ≡ parityAnswer n lens addrs (length info) (length out)) × (out ≡ parityInto n lens addrs info out)
         unfolding parityAnswer parityRefusal parityInto
         parity-short h =
-            let g = short (pOf n lens) (length out) (subst (λ (z : ℕ). length out < z) p-size h) in
-            let f = or-next (refusalOf n lens addrs) _ 13 e (or-next (otherOf (length info) (kOf lens)) (shortOf (pOf n lens) (length out)) 13 (sym (same (length info) (kOf lens) (l ∙ ek))) g) in
+            let g = short (pOf n lens) (length out) (subst (λ (z : ℕ). length out < z) ep h) in
+            let f = or-next (codeRefusal n lens addrs) _ 13 e (or-next (otherOf (length info) (kOf lens)) (shortOf (pOf n lens) (length out)) 13 (sym (same (length info) (kOf lens) (l ∙ ek))) g) in
             (says-no _ _ written.Refused 13 f thirteen, keeps _ _ out 13 f thirteen)
 
         pub parity-ready : p ≤ length out → (length info ≡ kOf lens) × (length (take p out) ≡ pOf n lens)
-        parity-ready h = (l ∙ ek, length-take-le p out h ∙ p-size)
+        parity-ready h = (l ∙ ek, length-take-le p out h ∙ ep)
 
         pub parity-done : p ≤ length out → (y : List ℕ) → y ≡ parity n lens addrs info
             → (written.Done ≡ parityAnswer n lens addrs (length info) (length out)) × (y ++ drop p out ≡ parityInto n lens addrs info out)
         unfolding parityAnswer parityRefusal parityInto
         parity-done h y u =
-            let g = room (pOf n lens) (length out) (subst (λ (z : ℕ). z ≤ length out) p-size h) in
-            let f = or-next (refusalOf n lens addrs) _ 0 e (or-next (otherOf (length info) (kOf lens)) (shortOf (pOf n lens) (length out)) 0 (sym (same (length info) (kOf lens) (l ∙ ek))) g) in
-            (says-yes _ _ written.Refused f, puts _ _ out f y p u (p-size ∙ sym (parity-length n lens addrs info (p-pos n lens addrs (accepted n lens addrs e)))))
+            let g = room (pOf n lens) (length out) (subst (λ (z : ℕ). z ≤ length out) ep h) in
+            let f = or-next (codeRefusal n lens addrs) _ 0 e (or-next (otherOf (length info) (kOf lens)) (shortOf (pOf n lens) (length out)) 0 (sym (same (length info) (kOf lens) (l ∙ ek))) g) in
+            (says-yes _ _ written.Refused f, puts _ _ out f y p u (ep ∙ sym (parity-length n lens addrs info (p-pos n lens addrs (accepted n lens addrs e)))))
 
   -- ---- encode
   module _ (info out : List ℕ) where
-    pub encode-refused : (r : ℕ) → r ≡ refusalOf n lens addrs → (r ≡ 0 → ⊥)
+    pub encode-refused : (r : ℕ) → r ≡ codeRefusal n lens addrs → (r ≡ 0 → ⊥)
         → (written.Refused r ≡ encodeAnswer n lens addrs (length info) (length out)) × (out ≡ encodeInto n lens addrs info out)
     unfolding encodeAnswer encodeRefusal encodeInto
     encode-refused r e ne =
-        let f = or-first (refusalOf n lens addrs) (orElse (otherOf (length info) (kOf lens)) (shortOf n (length out))) r e ne in
+        let f = or-first (codeRefusal n lens addrs) (orElse (otherOf (length info) (kOf lens)) (shortOf n (length out))) r e ne in
         (says-no _ _ written.Refused r f ne, keeps _ _ out r f ne)
 
-    module _ (e : refusalOf n lens addrs ≡ 0) (k : ℕ) (ek : k ≡ kOf lens) where
+    module _ (e : codeRefusal n lens addrs ≡ 0) (k : ℕ) (ek : k ≡ kOf lens) where
       pub encode-other : (length info ≡ k → ⊥) → (written.Refused 12 ≡ encodeAnswer n lens addrs (length info) (length out)) × (out ≡ encodeInto n lens addrs info out)
       unfolding encodeAnswer encodeRefusal encodeInto
       encode-other h =
           let g = other (length info) (kOf lens) (λ z. h (z ∙ sym ek)) in
-          let f = or-next (refusalOf n lens addrs) _ 12 e (or-first (otherOf (length info) (kOf lens)) (shortOf n (length out)) 12 g twelve) in
+          let f = or-next (codeRefusal n lens addrs) _ 12 e (or-first (otherOf (length info) (kOf lens)) (shortOf n (length out)) 12 g twelve) in
           (says-no _ _ written.Refused 12 f twelve, keeps _ _ out 12 f twelve)
 
       module _ (l : length info ≡ k) (size : ℕ) (es : size ≡ n) where
@@ -214,7 +206,7 @@ module _ (n : ℕ) (lens addrs : List ℕ) where
         unfolding encodeAnswer encodeRefusal encodeInto
         encode-short h =
             let g = short n (length out) (subst (λ (z : ℕ). length out < z) es h) in
-            let f = or-next (refusalOf n lens addrs) _ 13 e (or-next (otherOf (length info) (kOf lens)) (shortOf n (length out)) 13 (sym (same (length info) (kOf lens) (l ∙ ek))) g) in
+            let f = or-next (codeRefusal n lens addrs) _ 13 e (or-next (otherOf (length info) (kOf lens)) (shortOf n (length out)) 13 (sym (same (length info) (kOf lens) (l ∙ ek))) g) in
             (says-no _ _ written.Refused 13 f thirteen, keeps _ _ out 13 f thirteen)
 
         pub encode-ready : size ≤ length out → (length info ≡ kOf lens) × (length (take size out) ≡ n)
@@ -225,20 +217,20 @@ module _ (n : ℕ) (lens addrs : List ℕ) where
         unfolding encodeAnswer encodeRefusal encodeInto
         encode-done h y u =
             let g = room n (length out) (subst (λ (z : ℕ). z ≤ length out) es h) in
-            let f = or-next (refusalOf n lens addrs) _ 0 e (or-next (otherOf (length info) (kOf lens)) (shortOf n (length out)) 0 (sym (same (length info) (kOf lens) (l ∙ ek))) g) in
+            let f = or-next (codeRefusal n lens addrs) _ 0 e (or-next (otherOf (length info) (kOf lens)) (shortOf n (length out)) 0 (sym (same (length info) (kOf lens) (l ∙ ek))) g) in
             (says-yes _ _ written.Refused f, puts _ _ out f y size u (es ∙ sym (encode-length n lens addrs info e (l ∙ ek))))
 
   -- ---- syndrome_weight
   module _ (bits : List ℕ) where
-    pub weight-refused : (r : ℕ) → r ≡ refusalOf n lens addrs → (r ≡ 0 → ⊥) → counted.Refused r ≡ weightAnswer n lens addrs bits
+    pub weight-refused : (r : ℕ) → r ≡ codeRefusal n lens addrs → (r ≡ 0 → ⊥) → counted.Refused r ≡ weightAnswer n lens addrs bits
     unfolding weightAnswer weightRefusal
-    weight-refused r e ne = says-no _ _ counted.Refused r (or-first (refusalOf n lens addrs) (otherOf (length bits) n) r e ne) ne
+    weight-refused r e ne = says-no _ _ counted.Refused r (or-first (codeRefusal n lens addrs) (otherOf (length bits) n) r e ne) ne
 
-    module _ (e : refusalOf n lens addrs ≡ 0) (size : ℕ) (es : size ≡ n) where
+    module _ (e : codeRefusal n lens addrs ≡ 0) (size : ℕ) (es : size ≡ n) where
       pub weight-other : (length bits ≡ size → ⊥) → counted.Refused 12 ≡ weightAnswer n lens addrs bits
       unfolding weightAnswer weightRefusal
-      weight-other h = says-no _ _ counted.Refused 12 (or-next (refusalOf n lens addrs) _ 12 e (other (length bits) n (λ z. h (z ∙ sym es)))) twelve
+      weight-other h = says-no _ _ counted.Refused 12 (or-next (codeRefusal n lens addrs) _ 12 e (other (length bits) n (λ z. h (z ∙ sym es)))) twelve
 
       pub weight-done : length bits ≡ size → (r : ℕ) → r ≡ weight n lens addrs bits → counted.Count r ≡ weightAnswer n lens addrs bits
       unfolding weightAnswer weightRefusal
-      weight-done h r f = ap counted.Count f ∙ says-yes _ _ counted.Refused (or-next (refusalOf n lens addrs) _ 0 e (same (length bits) n (h ∙ es)))
+      weight-done h r f = ap counted.Count f ∙ says-yes _ _ counted.Refused (or-next (codeRefusal n lens addrs) _ 0 e (same (length bits) n (h ∙ es)))

@@ -1,3 +1,3 @@
--- What the entry points promise, and the scope's examples.
+-- What the entry points promise (Answers) and laws of it.
 pub mod Answers
-pub mod Examples
+pub mod AnswersLaws

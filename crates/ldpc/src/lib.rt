@@ -34,19 +34,17 @@ pub fn new(n: u32, lens: &[u32], addrs: &[u16], lists: &mut [u32]) -> Made
     if r != 0 {
         return Made::Refused(r);
     }
-    let k = (lens.len() as u32) * 374;
-    let p = n - k;
-    let e = (addrs.len() as u32) * 374 + 2 * p - 1;
-    let size = ldpc_shape::wide(p + 1 + e);
+    let sizes = ldpc_shape::sizes_of(n, lens, addrs);
+    let size = sizes.p + 1 + sizes.e;
     if lists.len() < size {
         return Made::Refused(13);
     }
     ldpc_lists::build(n, lens, addrs, &mut lists[..size]);
     Made::Code {
-        k,
-        p,
-        q: p / 374,
-        e,
+        k: sizes.k as u32,
+        p: sizes.p as u32,
+        q: sizes.q as u32,
+        e: sizes.e as u32,
     }
 }
 
@@ -62,8 +60,8 @@ pub fn check(n: u32, lens: &[u32], addrs: &[u16], c: u32, out: &mut [u32]) -> Co
     if r != 0 {
         return Counted::Refused(r);
     }
-    let k = (lens.len() as u32) * 374;
-    if n - k <= c {
+    let sizes = ldpc_shape::sizes_of(n, lens, addrs);
+    if sizes.p <= ldpc_shape::wide(c) {
         return Counted::Refused(12);
     }
     if out.len() < ldpc_check::degree_of(n, lens, addrs, c) {
@@ -85,11 +83,11 @@ pub fn parity(n: u32, lens: &[u32], addrs: &[u16], info: &[u8], out: &mut [u8]) 
     if r != 0 {
         return Written::Refused(r);
     }
-    let k = ldpc_shape::info_bits(lens);
-    if info.len() != k {
+    let sizes = ldpc_shape::sizes_of(n, lens, addrs);
+    if info.len() != sizes.k {
         return Written::Refused(12);
     }
-    let p = ldpc_shape::wide(n) - k;
+    let p = sizes.p;
     if out.len() < p {
         return Written::Refused(13);
     }
@@ -109,10 +107,11 @@ pub fn encode(n: u32, lens: &[u32], addrs: &[u16], info: &[u8], out: &mut [u8]) 
     if r != 0 {
         return Written::Refused(r);
     }
-    if info.len() != ldpc_shape::info_bits(lens) {
+    let sizes = ldpc_shape::sizes_of(n, lens, addrs);
+    if info.len() != sizes.k {
         return Written::Refused(12);
     }
-    let size = ldpc_shape::wide(n);
+    let size = sizes.n;
     if out.len() < size {
         return Written::Refused(13);
     }

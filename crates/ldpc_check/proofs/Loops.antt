@@ -1,22 +1,22 @@
 -- What each turn of the loops does.
-use mathlib.Core.Path.{_≡_, refl, sym, ap, ap₂, _∙_, subst}
+use mathlib.Core.Path.{_≡_, refl, sym, ap, ap₂, _∙_}
 use mathlib.Core.Bool.{cond}
 use mathlib.Core.List.{List, [], _∷_, _++_, append-assoc, append-nil}
-use Prim.Native.Nat.{ℕ, zero, suc, _+_, _-_, _*_, _/_, _%_, _≤_, _<_}
+use Prim.Native.Nat.{ℕ, zero, suc, _+_, _-_, _*_, _%_, _≤_, _<_}
 use native.Mathlib.Omega.{arith}
 use native.Mathlib.Nat.{mod-lt}
 use native.Mathlib.Numerals.{add-one}
 use borrow.Author.Tests.{eq-eqb, ne-eqb, lt-ltb, le-ltb}
 use lib.Dec.{eqb, ltb}
-use lib.ListN.{length, take, drop, getD, set, length-append, length-take, length-drop, length-set, drop-of-length-le, take-append-drop}
+use lib.ListN.{length, take, drop, getD, set, length-append, length-take, length-drop, length-set, take-append-drop}
 use lib.Seq.{drop-cons, drop-drop, drop-length, drop-set-lt, take-suc, take-suc-set, take-at, drop-at, set-split, length-take-le}
 use Rattle.laws.specs.Lists.{lent-from, back-from}
-use Rattle.ldpc_shape.specs.Shape.{kOf, pOf, rowsOf, total, countMod, refusalOf}
-use Rattle.ldpc_shape.specs.Accepted.{Accepted, accepted, q-pos, q-le, rows-le, addrs-le}
-use Rattle.ldpc_shape.specs.Worked.{k-worked, q-beside, p-beside}
-use Rattle.ldpc_shape.specs.Counts.{Counted}
+use Rattle.ldpc_shape.specs.declared.Sizes.{Sizes}
+use Rattle.ldpc_shape.specs.Shape.{pOf, qOf, sizesOf, rowsOf, total, countMod, codeRefusal}
+use Rattle.ldpc_shape.specs.Accepted.{Accepted, accepted, Bounded, sizes-bounded, rows-le, addrs-le}
+use Rattle.ldpc_shape.specs.Counts.{CountsBelow}
 use Rattle.ldpc_edges.specs.Code.{ofBits, ofRows, meets, only, stairs, check}
-use Rattle.ldpc_edges.specs.Inside.{only-append}
+use Rattle.ldpc_edges.specs.Inside.{only-append, rows-next, rows-none}
 use Rattle.ldpc_edges.specs.Insert.{insert, insert-length, place, row-cons}
 use Rattle.ldpc_edges.specs.Degree.{bits-none, bits-count, count-split, degree, degree-le}
 
@@ -80,6 +80,10 @@ module _ (q c first : ℕ) (row : List ℕ) (pos : 0 < q) (inside : c < 374 * q)
   unfolding found
   found-le i = omega (arith, bits-count q c pos inside first (drop i row), bits-count q c pos inside first row, count-split q (c % q) i row)
 
+  pub found-fits : (out out₀ : List ℕ) (n i : ℕ) → n ≡ length (found q c first row i) → out ≡ found q c first row i ++ drop n out₀
+      → length (only c (ofBits (374 * q) q 374 first 0 row)) ≤ length out₀ → length out ≡ length out₀
+  found-fits out out₀ n i en eo fit = ap length eo ∙ length-append (found q c first row i) (drop n out₀) ∙ omega (arith, length-drop n out₀, found-le i)
+
   found-next : (i : ℕ) → 0 < i → i ≤ length row
       → found q c first row (i - 1) ≡ cond (eqb (getD row (i - 1) 0 % q) (c % q)) (insert (first + place q c (getD row (i - 1) 0)) (found q c first row i)) (found q c first row i)
   unfolding found
@@ -100,7 +104,7 @@ module _ (q c first : ℕ) (row : List ℕ) (pos : 0 < q) (inside : c < 374 * q)
     module _ (out out₀ : List ℕ) (n : ℕ) (en : n ≡ length (found q c first row i)) (eo : out ≡ found q c first row i ++ drop n out₀)
         (fit : length (only c (ofBits (374 * q) q 374 first 0 row)) ≤ length out₀) where
       pub row-size : length out ≡ length out₀
-      row-size = ap length eo ∙ length-append (found q c first row i) (drop n out₀) ∙ omega (arith, length-drop n out₀, found-le i)
+      row-size = found-fits out out₀ n i en eo fit
 
       pub row-room : r ≡ l → n < length out
       row-room f = omega (arith, row-size, found-le (i - 1), ap length (found-hit f), insert-length (first + place q c (getD row (i - 1) 0)) (found q c first row i))
@@ -126,10 +130,6 @@ module _ (q c first : ℕ) (row : List ℕ) (pos : 0 < q) (inside : c < 374 * q)
       ap (λ (y : ℕ). only c (ofBits (374 * q) q 374 first 0 (drop y row))) e ∙ ap (λ (y : List ℕ). only c (ofBits (374 * q) q 374 first 0 y)) (drop-length row) ∙ bits-none (374 * q) q c 374 first 0 in
       (ap length (sym z), ap (λ (y : List ℕ). y ++ out) (sym z))
 
-  pub found-fits : (out out₀ : List ℕ) (n i : ℕ) → n ≡ length (found q c first row i) → out ≡ found q c first row i ++ drop n out₀
-      → length (only c (ofBits (374 * q) q 374 first 0 row)) ≤ length out₀ → length out ≡ length out₀
-  found-fits out out₀ n i en eo fit = ap length eo ∙ length-append (found q c first row i) (drop n out₀) ∙ omega (arith, length-drop n out₀, found-le i)
-
   pub row-end : (out out₀ : List ℕ) (n i : ℕ) → i ≤ 0 → n ≡ length (found q c first row i) → out ≡ found q c first row i ++ drop n out₀
       → (n ≡ length (only c (ofBits (374 * q) q 374 first 0 row))) × (out ≡ only c (ofBits (374 * q) q 374 first 0 row) ++ drop n out₀)
   unfolding found
@@ -151,24 +151,21 @@ unfolding allOf restOf
 rest-start q c lens addrs = refl
 
 pub rest-end : (q c : ℕ) (lens addrs : List ℕ) (g from : ℕ) → length lens ≤ g → restOf q c lens addrs g from ≡ []
-unfolding restOf ofRows rowsOf only
-rest-end q c lens addrs g from h =
-    ap (λ (ls : List ℕ). only c (ofRows (374 * q) q (374 * g) (rowsOf ls (drop from addrs)))) (drop-of-length-le lens {i = g} h)
+unfolding restOf only
+rest-end q c lens addrs g from h = ap (only c) (rows-none (374 * q) q (374 * g) g lens (drop from addrs) h)
 
 module _ (q c : ℕ) (lens addrs : List ℕ) (g from : ℕ) (h : g < length lens) where
   -- the row's addresses as they are lent
   pub rest-next : (r first : ℕ) → r ≡ getD lens g 0 → first ≡ 374 * g
       → restOf q c lens addrs g from ≡ only c (ofBits (374 * q) q 374 first 0 (take (from + r - from) (drop from addrs))) ++ restOf q c lens addrs (g + 1) (from + r)
-  unfolding restOf ofRows rowsOf
+  unfolding restOf
   rest-next r first e f =
-      let d : 374 * g + 374 ≡ 374 * (g + 1) = omega arith in
       let t : getD lens g 0 ≡ from + r - from = omega arith in
-      let row : List ℕ = take (getD lens g 0) (drop from addrs) in
-      ap (λ (ls : List ℕ). only c (ofRows (374 * q) q (374 * g) (rowsOf ls (drop from addrs)))) (drop-cons lens g 0 h ∙ ap (λ (z : ℕ). getD lens g 0 ∷ drop z lens) (sym (add-one g)))
-      ∙ only-append c (ofBits (374 * q) q 374 (374 * g) 0 row) _
+      ap (only c) (rows-next (374 * q) q lens addrs g from h)
+      ∙ only-append c (ofBits (374 * q) q 374 (374 * g) 0 (take (getD lens g 0) (drop from addrs))) _
       ∙ ap₂ (λ (y z : List ℕ). y ++ z)
       (ap₂ (λ (y z : ℕ). only c (ofBits (374 * q) q 374 y 0 (take z (drop from addrs)))) (sym f) t)
-      (ap₂ (λ (y : ℕ) (z : List ℕ). only c (ofRows (374 * q) q y (rowsOf (drop (g + 1) lens) z))) d (drop-drop (getD lens g 0) from addrs ∙ ap (λ (z : ℕ). drop (from + z) addrs) (sym e)))
+      (ap (λ (z : ℕ). only c (ofRows (374 * q) q (374 * (g + 1)) (rowsOf (drop (g + 1) lens) (drop (from + z) addrs)))) (sym e))
 
 -- a list put in front of the part from n on
 module _ (out list ys : List ℕ) (n d : ℕ) (ed : d ≡ length list) (ey : ys ≡ list ++ drop d (take (length out - n) (drop n out))) (fit : n + d ≤ length out) where
@@ -244,72 +241,70 @@ stair-two out n k (suc c) v e z h =
     let f : v - 1 ≡ k + c = omega arith in
     (omega arith, omega arith, set-two out n (v - 1) v (omega arith) ∙ ap₂ (λ (y i : ℕ). take n out ++ (y ∷ i ∷ drop (n + 1 + 1) out)) f e)
 
--- ---- an accepted code: q as it is worked out
-module _ (n : ℕ) (lens addrs : List ℕ) (e : refusalOf n lens addrs ≡ 0) where
+-- ---- an accepted code, with its sizes as the program has them
+module _ (n : ℕ) (lens addrs : List ℕ) (e : codeRefusal n lens addrs ≡ 0) (S : Sizes) (D : S ≡ sizesOf n lens addrs) where
   A : Accepted n lens addrs
   A = accepted n lens addrs e
 
-  pub sizes : (length lens ≤ 119) × (length lens ≤ n / 374) × (0 < n / 374 - length lens) × (n / 374 - length lens ≤ 120) × (length addrs ≤ 15360)
-      × (total lens ≡ length addrs) × (n ≤ 44880) × (length lens * 374 ≤ n)
-  sizes = (
-    rows-le n lens addrs A,
-    omega (arith, A .rows, A .whole),
-    omega (arith, q-beside n lens (A .whole), q-pos n lens addrs A),
-    omega (arith, q-beside n lens (A .whole), q-le n lens addrs A),
-    addrs-le n lens addrs A,
-    A .adds,
-    A .small,
-    omega (arith, A .rows),
-  )
+  pub bounds : Bounded S
+  bounds = sizes-bounded S n lens addrs D e
 
-  pub c-inside : (c : ℕ) → c < pOf n lens → c < 374 * (n / 374 - length lens)
-  c-inside c h = subst (λ (z : ℕ). c < z) (p-beside n lens addrs A) h
+  pub lent : (length lens ≤ 119) × (length addrs ≤ 15360) × (total lens ≡ length addrs)
+  lent = (rows-le n lens addrs A, addrs-le n lens addrs A, A .adds)
 
-  pub sum-fits : (c : ℕ) → c < pOf n lens → length lens * 374 + c ≤ 44880
-  unfolding pOf kOf
-  sum-fits c h = omega (arith, A .small, A .rows)
+  q-same : S .q ≡ qOf n lens
+  q-same = ap (λ (z : Sizes). z .q) D
 
-  all-is : (c : ℕ) → allOf (n / 374 - length lens) c lens addrs ≡ only c (meets n lens addrs)
+  p-same : 374 * S .q ≡ pOf n lens
+  p-same = sym (bounds .p-is) ∙ ap (λ (z : Sizes). z .p) D
+
+  pub c-inside : (c : ℕ) → c < pOf n lens → c < 374 * (S .q)
+  c-inside c h = omega (arith, p-same)
+
+  pub sum-fits : (c : ℕ) → c < pOf n lens → S .k + c ≤ 44880
+  sum-fits c h = omega (arith, p-same, bounds)
+
+  all-is : (c : ℕ) → allOf (S .q) c lens addrs ≡ only c (meets n lens addrs)
   unfolding allOf meets
-  all-is c = ap₂ (λ (y z : ℕ). only c (ofRows y z 0 (rowsOf lens addrs))) (sym (p-beside n lens addrs A)) (q-beside n lens (A .whole))
+  all-is c = ap₂ (λ (y z : ℕ). only c (ofRows y z 0 (rowsOf lens addrs))) p-same q-same
 
-  pub check-is : (c : ℕ) → check n lens addrs c ≡ allOf (n / 374 - length lens) c lens addrs ++ stairs (length lens * 374) c
+  pub check-is : (c : ℕ) → check n lens addrs c ≡ allOf (S .q) c lens addrs ++ stairs (S .k) c
   unfolding check
-  check-is c = ap₂ (λ (y : List ℕ) (z : ℕ). y ++ stairs z c) (sym (all-is c)) (sym (k-worked lens))
+  check-is c = ap₂ (λ (y : List ℕ) (z : ℕ). y ++ stairs z c) (sym (all-is c)) (sym (ap (λ (z : Sizes). z .k) D))
 
   -- how many bits, from the counts r
-  pub degree-is : (r : List ℕ) → Counted r (n / 374 - length lens) addrs → (c : ℕ) → c < pOf n lens → (l m : ℕ) → l ≡ c % (n / 374 - length lens) → m ≡ getD r l 0
+  pub degree-is : (r : List ℕ) → CountsBelow r (S .q) addrs → (c : ℕ) → c < pOf n lens → (l m : ℕ) → l ≡ c % (S .q) → m ≡ getD r l 0
       → length (check n lens addrs c) ≡ m + cond (eqb c 0) 1 2
   degree-is r C c h l m el em =
       degree n lens addrs A c h
       ∙ ap (λ (z : ℕ). z + cond (eqb c 0) 1 2)
-      (ap (λ (z : ℕ). countMod z (c % z) addrs) (sym (q-beside n lens (A .whole)))
-      ∙ sym (C (c % (n / 374 - length lens)) (mod-lt c (omega (arith, q-beside n lens (A .whole), q-pos n lens addrs A)))) ∙ ap (λ (z : ℕ). getD r z 0) (sym el) ∙ sym em)
+      (ap (λ (z : ℕ). countMod z (c % z) addrs) (sym q-same)
+      ∙ sym (C (c % (S .q)) (mod-lt c (bounds .q-pos))) ∙ ap (λ (z : ℕ). getD r z 0) (sym el) ∙ sym em)
 
-  check-length : (c : ℕ) → length (check n lens addrs c) ≡ length (allOf (n / 374 - length lens) c lens addrs) + length (stairs (length lens * 374) c)
-  check-length c = ap length (check-is c) ∙ length-append (allOf (n / 374 - length lens) c lens addrs) (stairs (length lens * 374) c)
+  check-length : (c : ℕ) → length (check n lens addrs c) ≡ length (allOf (S .q) c lens addrs) + length (stairs (S .k) c)
+  check-length c = ap length (check-is c) ∙ length-append (allOf (S .q) c lens addrs) (stairs (S .k) c)
 
-  pub info-room : (c : ℕ) (x : List ℕ) → length (check n lens addrs c) ≤ length x → length (allOf (n / 374 - length lens) c lens addrs) ≤ length x
+  pub info-room : (c : ℕ) (x : List ℕ) → length (check n lens addrs c) ≤ length x → length (allOf (S .q) c lens addrs) ≤ length x
   info-room c x h = omega (arith, check-length c)
 
-  pub stairs-room : (c d : ℕ) (x y : List ℕ) → d ≡ length (allOf (n / 374 - length lens) c lens addrs) → length y ≡ length x → length (check n lens addrs c) ≤ length x
-      → d + length (stairs (length lens * 374) c) ≤ length y
+  pub stairs-room : (c d : ℕ) (x y : List ℕ) → d ≡ length (allOf (S .q) c lens addrs) → length y ≡ length x → length (check n lens addrs c) ≤ length x
+      → d + length (stairs (S .k) c) ≤ length y
   stairs-room c d x y e f h = omega (arith, check-length c)
 
   pub degree-small : (c : ℕ) → c < pOf n lens → length (check n lens addrs c) ≤ 128
   degree-small = degree-le n lens addrs A
 
-  pub check-done : (c d r : ℕ) (x y z : List ℕ) → d ≡ length (allOf (n / 374 - length lens) c lens addrs) → y ≡ allOf (n / 374 - length lens) c lens addrs ++ drop d x
-      → r ≡ d + length (stairs (length lens * 374) c) → z ≡ take d y ++ (stairs (length lens * 374) c ++ drop r y) → length (check n lens addrs c) ≤ length x
+  pub check-done : (c d r : ℕ) (x y z : List ℕ) → d ≡ length (allOf (S .q) c lens addrs) → y ≡ allOf (S .q) c lens addrs ++ drop d x
+      → r ≡ d + length (stairs (S .k) c) → z ≡ take d y ++ (stairs (S .k) c ++ drop r y) → length (check n lens addrs c) ≤ length x
       → (r ≡ length (check n lens addrs c)) × (z ≡ check n lens addrs c ++ drop r x)
   check-done c d r x y z ed ey er ez fit = (
-    er ∙ ap (λ (u : ℕ). u + length (stairs (length lens * 374) c)) ed ∙ sym (check-length c),
-    ez ∙ ap₂ (λ (u v : List ℕ). u ++ (stairs (length lens * 374) c ++ v)) (ap (take d) ey ∙ take-at all (drop d x) d (sym ed)) tail
-        ∙ sym (append-assoc all (stairs (length lens * 374) c) (drop r x)) ∙ ap (λ (u : List ℕ). u ++ drop r x) (sym (check-is c)),
+    er ∙ ap (λ (u : ℕ). u + length (stairs (S .k) c)) ed ∙ sym (check-length c),
+    ez ∙ ap₂ (λ (u v : List ℕ). u ++ (stairs (S .k) c ++ v)) (ap (take d) ey ∙ take-at all (drop d x) d (sym ed)) tail
+        ∙ sym (append-assoc all (stairs (S .k) c) (drop r x)) ∙ ap (λ (u : List ℕ). u ++ drop r x) (sym (check-is c)),
   )
     where
       all : List ℕ
-      all = allOf (n / 374 - length lens) c lens addrs
+      all = allOf (S .q) c lens addrs
 
       tail : drop r y ≡ drop r x
       tail =

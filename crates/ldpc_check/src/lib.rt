@@ -1,9 +1,10 @@
 // The list of one check of an accepted code, from the addresses alone: each address equal to c modulo q joins one bit of its row to check c.
+use ldpc_shape::GROUP_U32;
 ghost use mathlib.Core.Path.{_≡_};
 ghost use mathlib.Core.List.{_++_};
 ghost use Prim.Native.Nat.{_+_, _*_, _<_, _≤_};
 ghost use lib.ListN.{length, take, drop};
-ghost use Rattle.ldpc_shape.specs.Shape.{pOf, rowsOf, total, refusalOf};
+ghost use Rattle.ldpc_shape.specs.Shape.{pOf, rowsOf, total, codeRefusal};
 ghost use Rattle.ldpc_edges.specs.Code.{ofBits, ofRows, only, stairs, check};
 ghost use Rattle.ldpc_edges.specs.Insert.{insert, place};
 
@@ -30,7 +31,7 @@ fn bit_of(a: u16, q: u32, c: u32) -> u32
     requires { ⌜ (0 < q) × (c < 374 * q) × (q ≤ 120) ⌝ }
     ensures { λ r. ⌜ (r ≡ place q c a) × (r < 374) ⌝ }
 {
-    (c / q + 374 - (a as u32) / q % 374) % 374
+    (c / q + GROUP_U32 - (a as u32) / q % GROUP_U32) % GROUP_U32
 }
 
 // The bits of a row at check c, ascending, in front; how many. The row's first bit is `first`.
@@ -79,7 +80,7 @@ fn check_rows(out: &mut [u32], lens: &[u32], addrs: &[u16], q: u32, c: u32) -> u
         let d = check_row(&mut out[n..], &addrs[from..end], q, c, first);
         n += d;
         from = end;
-        first += 374;
+        first += GROUP_U32;
         g += 1;
     }
     n
@@ -102,10 +103,11 @@ fn put_stairs(out: &mut [u32], n: usize, k: u32, c: u32, v: u32) -> usize
 
 // How many bits check c has.
 pub fn degree_of(n: u32, lens: &[u32], addrs: &[u16], c: u32) -> usize
-    requires { ⌜ (refusalOf n (now lens) (now addrs) ≡ 0) × (c < pOf n (now lens)) ⌝ }
+    requires { ⌜ (codeRefusal n (now lens) (now addrs) ≡ 0) × (c < pOf n (now lens)) ⌝ }
     ensures { λ r. ⌜ r ≡ length (check n (now (lens .entry)) (now (addrs .entry)) c) ⌝ }
 {
-    let q = n / 374 - (lens.len() as u32);
+    let sizes = ldpc_shape::sizes_of(n, lens, addrs);
+    let q = sizes.q as u32;
     let r = ldpc_shape::counts(addrs, q);
     let l = ldpc_shape::wide(c % q);
     let met = ldpc_shape::wide(r[l]);
@@ -117,14 +119,15 @@ pub fn degree_of(n: u32, lens: &[u32], addrs: &[u16], c: u32) -> usize
 
 // The list of check c in front; its length.
 pub fn check_of(n: u32, lens: &[u32], addrs: &[u16], c: u32, out: &mut [u32]) -> usize
-    requires { ⌜ (refusalOf n (now lens) (now addrs) ≡ 0) × (c < pOf n (now lens)) × (length (check n (now lens) (now addrs) c) ≤ length (now out)) ⌝ }
+    requires { ⌜ (codeRefusal n (now lens) (now addrs) ≡ 0) × (c < pOf n (now lens)) × (length (check n (now lens) (now addrs) c) ≤ length (now out)) ⌝ }
     ensures { λ r. ⌜
         (r ≡ length (check n (now (lens .entry)) (now (addrs .entry)) c))
         × (now (out .exit) ≡ check n (now (lens .entry)) (now (addrs .entry)) c ++ drop r (now (out .entry)))
         ⌝ }
 {
-    let k = (lens.len() as u32) * 374;
-    let q = n / 374 - (lens.len() as u32);
+    let sizes = ldpc_shape::sizes_of(n, lens, addrs);
+    let k = sizes.k as u32;
+    let q = sizes.q as u32;
     let d = check_rows(out, lens, addrs, q, c);
     put_stairs(out, d, k, c, k + c)
 }

@@ -5,13 +5,12 @@ use mathlib.Core.List.{List, [], _∷_, _++_, append-nil}
 use Prim.Native.Nat.{ℕ, zero, suc, _+_, _-_, _*_, _≤_, _<_}
 use native.Mathlib.Omega.{arith}
 use native.Mathlib.Decide.{ℕ-discrete, decLt}
-use borrow.Author.Tests.{eq-eqb, ne-eqb}
 use lib.Dec.{eqb}
 use lib.ListN.{length, take, drop, getD, length-append, length-take, length-drop}
 use Rattle.ldpc_shape.specs.Shape.{kOf, pOf, qOf, eOf, rowsOf, total}
 use Rattle.ldpc_shape.specs.Accepted.{Accepted, p-pos, n-is}
 use Rattle.ldpc_edges.specs.Code.{Edge, edge, met, ofBits, ofRows, meets, only, stairs, check, startOf}
-use Rattle.ldpc_edges.specs.Inside.{Inside, inside-append, meets-inside, only-append}
+use Rattle.ldpc_edges.specs.Inside.{Inside, inside-append, meets-inside, only-append, only-hit, only-miss}
 
 -- how many of the edges lie at checks below c
 unfoldable pub start : List Edge → ℕ → ℕ
@@ -43,12 +42,12 @@ allEdges n lens addrs = meets n lens addrs ++ toStairs (kOf lens) 0 (pOf n lens)
 only-to : (c : ℕ) (vs : List ℕ) → only c (toBits c vs) ≡ vs
 unfolding only toBits
 only-to c [] = refl
-only-to c (v ∷ vs) = ap (λ b. cond b (v ∷ only c (toBits c vs)) (only c (toBits c vs))) (eq-eqb c c refl) ∙ ap (λ (z : List ℕ). v ∷ z) (only-to c vs)
+only-to c (v ∷ vs) = only-hit c v c (toBits c vs) refl ∙ ap (λ (z : List ℕ). v ∷ z) (only-to c vs)
 
 only-to-other : (b c : ℕ) → (b ≡ c → ⊥) → (vs : List ℕ) → only c (toBits b vs) ≡ []
 unfolding only toBits
 only-to-other b c ne [] = refl
-only-to-other b c ne (v ∷ vs) = ap (λ t. cond t (v ∷ only c (toBits b vs)) (only c (toBits b vs))) (ne-eqb b c ne) ∙ only-to-other b c ne vs
+only-to-other b c ne (v ∷ vs) = only-miss b v c (toBits b vs) ne ∙ only-to-other b c ne vs
 
 stairs-before : (k c b d : ℕ) → c < b → only c (toStairs k b d) ≡ []
 unfolding toStairs only
@@ -98,26 +97,26 @@ all-inside n lens addrs h =
 
 -- ---- how many: each lies at one check
 start-other : (p m : ℕ) (es : List Edge) (P : ℕ) → P ≤ p → start (edge p m ∷ es) P ≡ start es P
-unfolding start only
+unfolding start
 start-other p m es zero h = refl
 start-other p m es (suc c) h =
     ap₂ (λ (x y : ℕ). x + y) (start-other p m es c (omega arith))
-    (ap (λ t. length (cond t (m ∷ only c es) (only c es))) (ne-eqb p c (λ e. omega arith)))
+    (ap length (only-miss p m c es (λ e. omega arith)))
 
 start-one : (p m : ℕ) (es : List Edge) (P : ℕ) → p < P → start (edge p m ∷ es) P ≡ suc (start es P)
-unfolding start only
+unfolding start
 start-one p m es zero h = absurd (omega arith)
 start-one p m es (suc c) h = go (ℕ-discrete p c) (λ (g : p < c). start-one p m es c g)
   where
     go : Dec (p ≡ c) → (p < c → start (edge p m ∷ es) c ≡ suc (start es c))
-        → start (edge p m ∷ es) c + length (cond (eqb p c) (m ∷ only c es) (only c es)) ≡ suc (start es c + length (only c es))
+        → start (edge p m ∷ es) c + length (only c (edge p m ∷ es)) ≡ suc (start es c + length (only c es))
     go (yes e) ih =
         let a = start-other p m es c (omega arith) in
-        let b = ap (λ t. length (cond t (m ∷ only c es) (only c es))) (eq-eqb p c e) in
+        let b = ap length (only-hit p m c es e) in
         omega arith
     go (no e) ih =
         let a = ih (omega arith) in
-        let b = ap (λ t. length (cond t (m ∷ only c es) (only c es))) (ne-eqb p c e) in
+        let b = ap length (only-miss p m c es e) in
         omega arith
 
 start-none : (P : ℕ) → start [] P ≡ 0

@@ -12,7 +12,7 @@ use lib.ListN.{length, getD, set, replicate, length-set, length-replicate, getD-
 use lib.Seq.{getD-set-same, getD-set-other, getD-append-add, ext-getD}
 use native.Mathlib.Decide.{ℕ-discrete, decLt}
 use Rattle.laws.specs.Modulo.{xor-parity, xor-bit}
-use Rattle.ldpc_shape.specs.Shape.{kOf, pOf, refusalOf}
+use Rattle.ldpc_shape.specs.Shape.{kOf, pOf, codeRefusal}
 use Rattle.ldpc_shape.specs.Accepted.{accepted, p-pos, n-is}
 use Rattle.ldpc_edges.specs.Code.{Edge, edge, meets, only, stairs, check, flip, flips, sums, parity, encode, ones, unmet, unmets, weight}
 use Rattle.ldpc_edges.specs.Inside.{Inside, meets-inside}
@@ -199,7 +199,7 @@ module _ (n : ℕ) (lens addrs v : List ℕ) (some : 0 < pOf n lens) where
         omega (arith, unmet-next c h, m (suc c) h, parity-by-met m c (omega arith), parity-next c h, parity-bits (suc c))
 
 -- ---- the theorems
-module _ (n : ℕ) (lens addrs v : List ℕ) (A : refusalOf n lens addrs ≡ 0) (fit : length v ≡ kOf lens) where
+module _ (n : ℕ) (lens addrs v : List ℕ) (A : codeRefusal n lens addrs ≡ 0) (fit : length v ≡ kOf lens) where
   some : 0 < pOf n lens
   some = p-pos n lens addrs (accepted n lens addrs A)
 

@@ -6,12 +6,12 @@ use Prim.Native.Nat.{ℕ, zero, suc, _+_, _-_, _*_, _/_, _%_, _≤_, _<_}
 use native.Mathlib.Omega.{arith}
 use native.Mathlib.Nat.{mod-lt, div-add-mod', add-mul-mod-self-right, add-mul-div-right, div-lt-iff-lt-mul}
 use native.Mathlib.Decide.{ℕ-discrete}
-use borrow.Author.Tests.{eqb-true, eqb-false, eq-eqb, ne-eqb, le-ltb, ltb-false}
+use borrow.Author.Tests.{eqb-true, eqb-false, le-ltb, ltb-false}
 use lib.Arith.{mod-mul, digits-div, digits-mod}
 use lib.Dec.{eqb, ltb}
 use lib.ListN.{length, getD}
 use Rattle.ldpc_edges.specs.Code.{met, ofBits, only, ones}
-use Rattle.ldpc_edges.specs.Inside.{only-append}
+use Rattle.ldpc_edges.specs.Inside.{only-append, only-hit, only-miss}
 
 -- v in its place among the ascending bits
 unfoldable pub insert : ℕ → List ℕ → List ℕ
@@ -129,12 +129,12 @@ module _ (q c a : ℕ) (pos : 0 < q) (inside : c < 374 * q) where
   place-lt = mod-lt (c / q + 374 - a / q % 374) (omega arith)
 
   met-miss : (m j : ℕ) (row : List ℕ) → ((a + j * q) % (374 * q) ≡ c → ⊥) → only c (met (374 * q) q m j (a ∷ row)) ≡ only c (met (374 * q) q m j row)
-  unfolding met only
-  met-miss m j row h = ap (λ t. cond t (m ∷ only c (met (374 * q) q m j row)) (only c (met (374 * q) q m j row))) (ne-eqb _ _ h)
+  unfolding met
+  met-miss m j row h = only-miss _ m c (met (374 * q) q m j row) h
 
   met-hit : (m j : ℕ) (row : List ℕ) → (a + j * q) % (374 * q) ≡ c → only c (met (374 * q) q m j (a ∷ row)) ≡ m ∷ only c (met (374 * q) q m j row)
-  unfolding met only
-  met-hit m j row h = ap (λ t. cond t (m ∷ only c (met (374 * q) q m j row)) (only c (met (374 * q) q m j row))) (eq-eqb _ _ h)
+  unfolding met
+  met-hit m j row h = only-hit _ m c (met (374 * q) q m j row) h
 
   next : (row : List ℕ) (d m j : ℕ)
       → only c (ofBits (374 * q) q (suc d) m j row) ≡ only c (met (374 * q) q m j row) ++ only c (ofBits (374 * q) q d (suc m) (suc j) row)

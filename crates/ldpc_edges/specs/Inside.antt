@@ -1,12 +1,15 @@
 -- Lists of edges: their parts, and where their checks and bits lie.
-use mathlib.Core.Path.{_≡_, refl, ap, _∙_}
+use mathlib.Core.Path.{_≡_, refl, sym, ap, ap₂, _∙_}
 use mathlib.Core.Bool.{Bool, true, false, cond}
 use mathlib.Core.List.{List, [], _∷_, _++_}
 use Prim.Native.Nat.{ℕ, zero, suc, _+_, _*_, _≤_, _<_}
 use native.Mathlib.Omega.{arith}
 use native.Mathlib.Nat.{mod-lt}
+use native.Mathlib.Numerals.{add-one}
+use borrow.Author.Tests.{eq-eqb, ne-eqb}
 use lib.Dec.{eqb}
-use lib.ListN.{length, drop, length-append}
+use lib.ListN.{length, take, drop, getD, length-append, drop-of-length-le}
+use lib.Seq.{drop-cons, drop-drop}
 use Rattle.ldpc_shape.specs.Shape.{kOf, pOf, qOf, rowsOf}
 use Rattle.ldpc_edges.specs.Code.{Edge, edge, met, ofBits, ofRows, meets, only}
 
@@ -56,3 +59,26 @@ only-append c (edge p m ∷ xs) ys = go (eqb p c) (only-append c xs ys)
 
 pub only-length : (c : ℕ) (xs ys : List Edge) → length (only c (xs ++ ys)) ≡ length (only c xs) + length (only c ys)
 only-length c xs ys = ap length (only-append c xs ys) ∙ length-append (only c xs) (only c ys)
+
+-- ---- one edge more: it is check c's, or it is not
+pub only-hit : (p m c : ℕ) (es : List Edge) → p ≡ c → only c (edge p m ∷ es) ≡ m ∷ only c es
+unfolding only
+only-hit p m c es e = ap (λ b. cond b (m ∷ only c es) (only c es)) (eq-eqb p c e)
+
+pub only-miss : (p m c : ℕ) (es : List Edge) → (p ≡ c → ⊥) → only c (edge p m ∷ es) ≡ only c es
+unfolding only
+only-miss p m c es e = ap (λ b. cond b (m ∷ only c es) (only c es)) (ne-eqb p c e)
+
+-- ---- the edges of the rows from row g on, whose addresses begin at `from`: those of row g first, and none where there is no row
+pub rows-next : (P q : ℕ) (lens addrs : List ℕ) (g from : ℕ) → g < length lens → ofRows P q (374 * g) (rowsOf (drop g lens) (drop from addrs))
+    ≡ ofBits P q 374 (374 * g) 0 (take (getD lens g 0) (drop from addrs)) ++ ofRows P q (374 * (g + 1)) (rowsOf (drop (g + 1) lens) (drop (from + getD lens g 0) addrs))
+unfolding ofRows rowsOf
+rows-next P q lens addrs g from h =
+    let e : 374 * g + 374 ≡ 374 * (g + 1) = omega arith in
+    ap (λ (ls : List ℕ). ofRows P q (374 * g) (rowsOf ls (drop from addrs))) (drop-cons lens g 0 h ∙ ap (λ (z : ℕ). getD lens g 0 ∷ drop z lens) (sym (add-one g)))
+    ∙ ap₂ (λ (y : ℕ) (z : List ℕ). ofBits P q 374 (374 * g) 0 (take (getD lens g 0) (drop from addrs)) ++ ofRows P q y (rowsOf (drop (g + 1) lens) z)) e
+    (drop-drop (getD lens g 0) from addrs)
+
+pub rows-none : (P q m g : ℕ) (lens addrs : List ℕ) → length lens ≤ g → ofRows P q m (rowsOf (drop g lens) addrs) ≡ []
+unfolding ofRows rowsOf
+rows-none P q m g lens addrs h = ap (λ (ls : List ℕ). ofRows P q m (rowsOf ls addrs)) (drop-of-length-le lens {i = g} h)

@@ -13,7 +13,7 @@ use lib.ListN.{length, take, drop, getD, length-take, length-drop, length-append
 use lib.Seq.{drop-cons, getD-take, getD-drop, getD-append-add, length-take-le}
 use Rattle.laws.specs.Modulo.{xor-parity}
 use Rattle.laws.specs.Lists.{lent-from, back-from}
-use Rattle.ldpc_encode.specs.Sums.{xors, turnedBit, rowBit, Added, stairBit}
+use Rattle.ldpc_encode.specs.Sums.{xors, turnedBit, rowBit, AddedToSums, stairBit}
 use Rattle.ldpc_encode.proofs.Bytes.{xors-length, xors-at}
 
 -- ---- the parity bits of a check
@@ -78,7 +78,7 @@ module _ (x w : List ℕ) (s : ℕ) (lx : length x ≡ 374) (lw : length w ≡ 3
   unfolding both
   both-length = length-append (xors (take s high) (drop (374 - s) w)) (drop s high) ∙ omega (arith, low-length, length-drop s high, high-length)
 
-  pub turned : Added x both (turnedBit w s)
+  pub turned : AddedToSums x both (turnedBit w s)
   unfolding turnedBit
   turned = record { long = both-length; sum = λ i h. go i h (decLt i s) }
     where
@@ -112,10 +112,10 @@ module _ (x w : List ℕ) (s : ℕ) (lx : length x ≡ 374) (lw : length w ≡ 3
 
     pub turned-done : (v : List ℕ)
         → v ≡ xors (take s (take s x ++ (u ++ drop (length x - s) (drop s x)))) (take (length w - (374 - s)) (drop (374 - s) w))
-        → Added x (v ++ drop s (take s x ++ (u ++ drop (length x - s) (drop s x)))) (turnedBit w s)
+        → AddedToSums x (v ++ drop s (take s x ++ (u ++ drop (length x - s) (drop s x)))) (turnedBit w s)
     unfolding both
     turned-done v f =
-        subst (λ (y : List ℕ). Added x y (turnedBit w s))
+        subst (λ (y : List ℕ). AddedToSums x y (turnedBit w s))
         (sym (ap₂ (λ (y z : List ℕ). y ++ z) (f ∙ ap₂ (λ (y z : List ℕ). xors (take s y) z) high-is (lent-from (374 - s) w)) (ap (drop s) high-is))) turned
 
   pub first-fits : length (take (length x - s) (drop s x)) ≡ length (take (374 - s) w)
@@ -130,14 +130,14 @@ Left x f x₀ g = (j : ℕ) → j < 374 → (getD x j 0 + f j) % 2 ≡ (getD x�
 add-one-more : (x y t r z : ℕ) → y % 2 ≡ (x + t) % 2 → (x + (t + r)) % 2 ≡ z → (y + r) % 2 ≡ z
 add-one-more x y t r z e f = omega arith
 
-pub left-add : (x y x₀ : List ℕ) (t f h g : ℕ → ℕ) → Added x y t → ((j : ℕ) → j < 374 → f j ≡ t j + h j) → Left x f x₀ g → Left y h x₀ g
+pub left-add : (x y x₀ : List ℕ) (t f h g : ℕ → ℕ) → AddedToSums x y t → ((j : ℕ) → j < 374 → f j ≡ t j + h j) → Left x f x₀ g → Left y h x₀ g
 left-add x y x₀ t f h g a e l j i =
     add-one-more (getD x j 0) (getD y j 0) (t j) (h j) _ (a .sum j i) (ap (λ (z : ℕ). (getD x j 0 + z) % 2) (sym (e j i)) ∙ l j i)
 
 pub left-same : (x y x₀ : List ℕ) (f h g : ℕ → ℕ) → y ≡ x → ((j : ℕ) → j < 374 → f j ≡ h j) → Left x f x₀ g → Left y h x₀ g
 left-same x y x₀ f h g s e l j i = ap₂ (λ (u : List ℕ) (z : ℕ). (getD u j 0 + z) % 2) s (sym (e j i)) ∙ l j i
 
-pub left-none : (x x₀ : List ℕ) (f g : ℕ → ℕ) → length x ≡ 374 → ((j : ℕ) → j < 374 → f j ≡ 0) → Left x f x₀ g → Added x₀ x g
+pub left-none : (x x₀ : List ℕ) (f g : ℕ → ℕ) → length x ≡ 374 → ((j : ℕ) → j < 374 → f j ≡ 0) → Left x f x₀ g → AddedToSums x₀ x g
 left-none x x₀ f g l e L = record { long = l; sum = λ j i. none (getD x j 0) (f j) _ (e j i) (L j i) }
   where
     none : (x f z : ℕ) → f ≡ 0 → (x + f) % 2 ≡ z → x % 2 ≡ z
@@ -152,7 +152,7 @@ module _ (q l : ℕ) (w row : List ℕ) (i : ℕ) where
       ap (λ (z : List ℕ). rowBit q l w z j) (drop-cons row i 0 h)
       ∙ ap (λ (z : ℕ). cond (eqb (getD row i 0 % q) l) (turnedBit w (getD row i 0 / q % 374) j + rowBit q l w (drop z row) j) (rowBit q l w (drop z row) j)) (sym (add-one i))
 
-  pub row-hit : (x y x₀ : List ℕ) (r s : ℕ) → i < length row → r ≡ getD row i 0 % q → r ≡ l → s ≡ getD row i 0 / q % 374 → Added x y (turnedBit w s)
+  pub row-hit : (x y x₀ : List ℕ) (r s : ℕ) → i < length row → r ≡ getD row i 0 % q → r ≡ l → s ≡ getD row i 0 / q % 374 → AddedToSums x y (turnedBit w s)
       → Left x (rowBit q l w (drop i row)) x₀ (rowBit q l w row) → Left y (rowBit q l w (drop (i + 1) row)) x₀ (rowBit q l w row)
   row-hit x y x₀ r s h e f g a =
       left-add x y x₀ (turnedBit w s) (rowBit q l w (drop i row)) (rowBit q l w (drop (i + 1) row)) (rowBit q l w row) a
@@ -167,7 +167,7 @@ module _ (q l : ℕ) (w row : List ℕ) (i : ℕ) where
       (λ j k. row-next h j
       ∙ ap (λ t. cond t (turnedBit w (getD row i 0 / q % 374) j + rowBit q l w (drop (i + 1) row) j) (rowBit q l w (drop (i + 1) row) j)) (ne-eqb _ _ (λ z. f (e ∙ z))))
 
-  pub row-end : (x x₀ : List ℕ) → length x ≡ 374 → length row ≤ i → Left x (rowBit q l w (drop i row)) x₀ (rowBit q l w row) → Added x₀ x (rowBit q l w row)
+  pub row-end : (x x₀ : List ℕ) → length x ≡ 374 → length row ≤ i → Left x (rowBit q l w (drop i row)) x₀ (rowBit q l w row) → AddedToSums x₀ x (rowBit q l w row)
   unfolding rowBit
   row-end x x₀ k h =
       left-none x x₀ (rowBit q l w (drop i row)) (rowBit q l w row) k

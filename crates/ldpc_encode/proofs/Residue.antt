@@ -10,12 +10,11 @@ use lib.Seq.{getD-set-other, getD-drop}
 use Rattle.laws.specs.Modulo.{sumTo, sum-none, sum-more, sum-same, sum-grid}
 use Rattle.laws.specs.Stores.{set-at}
 use Rattle.laws.specs.Lists.{lent-from}
-use Rattle.ldpc_shape.specs.Shape.{kOf, pOf, qOf, rowsOf, total, refusalOf}
-use Rattle.ldpc_shape.specs.Accepted.{Accepted, accepted, p-is, p-pos, n-is, q-pos, q-le, rows-le}
-use Rattle.ldpc_shape.specs.Worked.{q-beside}
+use Rattle.ldpc_shape.specs.Shape.{kOf, pOf, qOf, rowsOf, total, codeRefusal}
+use Rattle.ldpc_shape.specs.Accepted.{Accepted, accepted, p-is, p-pos, n-is, q-pos, q-le}
 use Rattle.ldpc_edges.specs.Code.{ofRows, meets, only, ones, stairs, check, sums, parity, unmet, unmets, weight}
 use Rattle.ldpc_edges.specs.Encoder.{parity-from}
-use Rattle.ldpc_encode.specs.Sums.{Added, infoBit, Scattered, stairBit, unmetAt}
+use Rattle.ldpc_encode.specs.Sums.{AddedToSums, infoBit, Scattered, stairBit, unmetAt}
 use Rattle.ldpc_encode.proofs.Rows.{at-mod, at-lt, ones-append}
 
 pub at-next : (q l i c : ℕ) → c ≡ l + i * q → c + q ≡ l + (i + 1) * q
@@ -82,13 +81,10 @@ infoOnes n lens addrs w c = ones w (only c (meets n lens addrs))
 unfoldable pub unmetBelow : ℕ → List ℕ → List ℕ → ℕ → List ℕ → ℕ → ℕ
 unmetBelow n lens addrs s w l = sumTo l (λ m. sumTo 374 (λ i. unmet n lens addrs w (m + i * s)))
 
--- ---- for an accepted code: q as it is worked out, s as a usize
-module _ (n : ℕ) (lens addrs : List ℕ) (e : refusalOf n lens addrs ≡ 0) where
+-- ---- for an accepted code
+module _ (n : ℕ) (lens addrs : List ℕ) (e : codeRefusal n lens addrs ≡ 0) where
   A : Accepted n lens addrs
   A = accepted n lens addrs e
-
-  pub rows-fit : (length lens ≤ 119) × (length lens ≤ n / 374)
-  rows-fit = (rows-le n lens addrs A, omega (arith, A .rows, A .whole))
 
   pub n-parts : kOf lens + pOf n lens ≡ n
   n-parts = n-is n lens addrs A
@@ -104,18 +100,13 @@ module _ (n : ℕ) (lens addrs : List ℕ) (e : refusalOf n lens addrs ≡ 0) wh
   unfolding kOf
   n-fits w f = (omega (arith, A .rows), omega (arith, A .rows))
 
-  module _ (s : ℕ) (sq : s ≡ n / 374 - length lens) where
-    s-is : s ≡ qOf n lens
-    s-is = sq ∙ q-beside n lens (A .whole)
-
+  module _ (s : ℕ) (s-is : s ≡ qOf n lens) where
     pub s-fits : (s ≤ 120) × (pOf n lens ≡ 374 * s)
     s-fits = (omega (arith, s-is, q-le n lens addrs A), p-is n lens addrs A ∙ ap (λ (z : ℕ). 374 * z) (sym s-is))
 
-    pub info-is : (w : List ℕ) (l i : ℕ) → infoBit (n / 374 - length lens) l w lens addrs i ≡ infoOnes n lens addrs w (l + i * s)
+    pub info-is : (w : List ℕ) (l i : ℕ) → infoBit s l w lens addrs i ≡ infoOnes n lens addrs w (l + i * s)
     unfolding infoBit infoOnes meets
-    info-is w l i =
-        ap (λ (z : ℕ). ones w (only (l + i * z) (ofRows (374 * z) z 0 (rowsOf lens addrs)))) (q-beside n lens (A .whole))
-        ∙ ap₂ (λ (y z : ℕ). ones w (only (l + i * y) (ofRows z (qOf n lens) 0 (rowsOf lens addrs)))) (sym s-is) (sym (p-is n lens addrs A))
+    info-is w l i = ap₂ (λ (y z : ℕ). ones w (only (l + i * s) (ofRows y z 0 (rowsOf lens addrs)))) (sym (s-fits .1)) s-is
 
     pub parity-done : (w out : List ℕ) → length out ≡ pOf n lens → (l : ℕ) → s ≤ l → Done s l out (infoOnes n lens addrs w) → sums 0 out ≡ parity n lens addrs w
     unfolding infoOnes
@@ -179,7 +170,7 @@ module _ (n : ℕ) (lens addrs : List ℕ) (e : refusalOf n lens addrs ≡ 0) wh
         ∙ sym (unmets-sum w (pOf n lens) ∙ ap (λ (z : ℕ). sumTo z (unmet n lens addrs w)) (s-fits .1) ∙ sum-grid 374 s (unmet n lens addrs w))
 
 -- ---- a fresh array of sums
-pub from-zeros : (x : List ℕ) (f : ℕ → ℕ) → Added (replicate 374 0) x f → (i : ℕ) → i < 374 → getD x i 0 % 2 ≡ f i % 2
+pub from-zeros : (x : List ℕ) (f : ℕ → ℕ) → AddedToSums (replicate 374 0) x f → (i : ℕ) → i < 374 → getD x i 0 % 2 ≡ f i % 2
 from-zeros x f a i h = a .sum i h ∙ ap (λ (z : ℕ). (z + f i) % 2) (getD-replicate 374 i 0 0 h) ∙ ap (λ (z : ℕ). z % 2) (zero-add (f i))
 
 pub scatter-end : (q l : ℕ) (x out out′ : List ℕ) (i : ℕ) → i ≡ 374 → Scattered i q l x out out′ → Scattered 374 q l x out out′

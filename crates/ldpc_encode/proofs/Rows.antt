@@ -5,17 +5,16 @@ use mathlib.Core.List.{List, [], _∷_, _++_}
 use Prim.Native.Nat.{ℕ, _+_, _-_, _*_, _/_, _%_, _≤_, _<_}
 use native.Mathlib.Omega.{arith}
 use native.Mathlib.Nat.{mod-lt, mod-eq-of-lt, add-mul-div-right, add-mul-mod-self-right, div-eq-of-lt}
-use native.Mathlib.Numerals.{add-one}
 use lib.Arith.{digits-lt}
 use lib.Dec.{eqb}
-use lib.ListN.{length, take, drop, getD, drop-of-length-le}
-use lib.Seq.{drop-cons, drop-drop, getD-take, getD-drop}
+use lib.ListN.{length, take, drop, getD}
+use lib.Seq.{getD-take, getD-drop}
 use Rattle.ldpc_shape.specs.Shape.{rowsOf}
-use Rattle.ldpc_edges.specs.Code.{ofBits, ofRows, only, ones}
-use Rattle.ldpc_edges.specs.Inside.{only-append}
+use Rattle.ldpc_edges.specs.Code.{Edge, ofBits, ofRows, only, ones}
+use Rattle.ldpc_edges.specs.Inside.{only-append, rows-next, rows-none}
 use Rattle.ldpc_edges.specs.Insert.{insert, insert-ones, place, row-cons}
 use Rattle.ldpc_edges.specs.Degree.{bits-none}
-use Rattle.ldpc_encode.specs.Sums.{turnedBit, rowBit, infoBit, Added}
+use Rattle.ldpc_encode.specs.Sums.{turnedBit, rowBit, infoBit, AddedToSums}
 use Rattle.ldpc_encode.proofs.Bits.{Left, left-add, left-none}
 
 pub ones-append : (w xs ys : List ℕ) → ones w (xs ++ ys) ≡ ones w xs + ones w ys
@@ -69,20 +68,18 @@ infoFrom q l w lens addrs g from j = ones w (only (l + j * q) (ofRows (374 * q) 
 module _ (q l : ℕ) (w lens addrs : List ℕ) (g from : ℕ) (h : g < length lens) where
   info-next : l < q → (j : ℕ) → j < 374 → infoFrom q l w lens addrs g from j
       ≡ rowBit q l (take 374 (drop (374 * g) w)) (take (getD lens g 0) (drop from addrs)) j + infoFrom q l w lens addrs (g + 1) (from + getD lens g 0) j
-  unfolding infoFrom ofRows rowsOf
+  unfolding infoFrom
   info-next hl j hj =
-      let e : 374 * g + 374 ≡ 374 * (g + 1) = omega arith in
       let r : List ℕ = take (getD lens g 0) (drop from addrs) in
-      ap (λ (ls : List ℕ). ones w (only (l + j * q) (ofRows (374 * q) q (374 * g) (rowsOf ls (drop from addrs)))))
-      (drop-cons lens g 0 h ∙ ap (λ (z : ℕ). getD lens g 0 ∷ drop z lens) (sym (add-one g)))
-      ∙ ap (ones w) (only-append (l + j * q) (ofBits (374 * q) q 374 (374 * g) 0 r) _)
-      ∙ ones-append w (only (l + j * q) (ofBits (374 * q) q 374 (374 * g) 0 r)) _
-      ∙ ap₂ (λ (y z : ℕ). y + z) (row-bit q l j hl hj (374 * g) w r)
-      (ap₂ (λ (y : ℕ) (z : List ℕ). ones w (only (l + j * q) (ofRows (374 * q) q y (rowsOf (drop (g + 1) lens) z)))) e (drop-drop (getD lens g 0) from addrs))
+      let rest : List Edge = ofRows (374 * q) q (374 * (g + 1)) (rowsOf (drop (g + 1) lens) (drop (from + getD lens g 0) addrs)) in
+      ap (λ (es : List Edge). ones w (only (l + j * q) es)) (rows-next (374 * q) q lens addrs g from h)
+      ∙ ap (ones w) (only-append (l + j * q) (ofBits (374 * q) q 374 (374 * g) 0 r) rest)
+      ∙ ones-append w (only (l + j * q) (ofBits (374 * q) q 374 (374 * g) 0 r)) (only (l + j * q) rest)
+      ∙ ap (λ (z : ℕ). z + ones w (only (l + j * q) rest)) (row-bit q l j hl hj (374 * g) w r)
 
   -- the code's parts: the row's bits and its addresses
   pub info-add : l < q → (x y x₀ : List ℕ) (r first : ℕ) (f : ℕ → ℕ) → r ≡ getD lens g 0 → first ≡ 374 * g
-      → Added x y (rowBit q l (take (first + 374 - first) (drop first w)) (take (from + r - from) (drop from addrs)))
+      → AddedToSums x y (rowBit q l (take (first + 374 - first) (drop first w)) (take (from + r - from) (drop from addrs)))
       → Left x (infoFrom q l w lens addrs g from) x₀ f → Left y (infoFrom q l w lens addrs (g + 1) (from + r)) x₀ f
   info-add hl x y x₀ r first f e d a =
       left-add x y x₀ (rowBit q l (take (first + 374 - first) (drop first w)) (take (from + r - from) (drop from addrs))) (infoFrom q l w lens addrs g from)
@@ -101,8 +98,8 @@ unfolding infoFrom infoBit
 info-start q l w lens addrs x j h = refl
 
 pub info-end : (q l : ℕ) (w lens addrs x x₀ : List ℕ) (g from : ℕ) → length x ≡ 374 → length lens ≤ g
-    → Left x (infoFrom q l w lens addrs g from) x₀ (infoBit q l w lens addrs) → Added x₀ x (infoBit q l w lens addrs)
-unfolding infoFrom ofRows rowsOf only ones
+    → Left x (infoFrom q l w lens addrs g from) x₀ (infoBit q l w lens addrs) → AddedToSums x₀ x (infoBit q l w lens addrs)
+unfolding infoFrom only ones
 info-end q l w lens addrs x x₀ g from k h =
     left-none x x₀ (infoFrom q l w lens addrs g from) (infoBit q l w lens addrs) k
-    (λ j i. ap (λ (ls : List ℕ). ones w (only (l + j * q) (ofRows (374 * q) q (374 * g) (rowsOf ls (drop from addrs))))) (drop-of-length-le lens {i = g} h))
+    (λ j i. ap (λ (es : List Edge). ones w (only (l + j * q) es)) (rows-none (374 * q) q (374 * g) g lens (drop from addrs) h))

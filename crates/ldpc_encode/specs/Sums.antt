@@ -28,7 +28,7 @@ unfoldable pub infoBit : ℕ → ℕ → List ℕ → List ℕ → List ℕ → 
 infoBit q l w lens addrs i = ones w (only (l + i * q) (ofRows (374 * q) q 0 (rowsOf lens addrs)))
 
 -- f i is added to each of 374 sums, modulo 2
-pub record Added (x y : List ℕ) (f : ℕ → ℕ) : Type 0 where
+pub record AddedToSums (x y : List ℕ) (f : ℕ → ℕ) : Type 0 where
   pub long : length y ≡ 374
   pub sum : (i : ℕ) → i < 374 → getD y i 0 % 2 ≡ (getD x i 0 + f i) % 2
 

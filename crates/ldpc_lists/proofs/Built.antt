@@ -2,7 +2,7 @@
 use mathlib.Core.Path.{_≡_, refl, sym, ap, ap₂, _∙_, subst}
 use mathlib.Core.Bool.{cond}
 use mathlib.Core.List.{List, [], _++_}
-use Prim.Native.Nat.{ℕ, zero, suc, _+_, _-_, _*_, _/_, _%_, _≤_, _<_}
+use Prim.Native.Nat.{ℕ, zero, suc, _+_, _-_, _*_, _%_, _≤_, _<_}
 use native.Mathlib.Omega.{arith}
 use native.Mathlib.Nat.{mod-lt}
 use native.Mathlib.Numerals.{add-one}
@@ -10,23 +10,23 @@ use lib.Dec.{eqb}
 use lib.ListN.{length, take, drop, getD, length-drop, take-append-drop, drop-of-length-le}
 use lib.Seq.{slice, getD-take, length-take-le, ext-getD, drop-drop}
 use Rattle.laws.specs.Lists.{drop-take}
-use Rattle.ldpc_shape.specs.Shape.{kOf, pOf, qOf, eOf, rowsOf, total, refusalOf}
-use Rattle.ldpc_shape.specs.Accepted.{Accepted, accepted, p-pos, p-le, q-pos, q-le, addrs-le, few}
-use Rattle.ldpc_shape.specs.Worked.{k-worked, p-worked, q-worked}
-use Rattle.ldpc_shape.specs.Counts.{Counted}
+use Rattle.ldpc_shape.specs.declared.Sizes.{Sizes}
+use Rattle.ldpc_shape.specs.Shape.{kOf, pOf, qOf, eOf, sizesOf, rowsOf, total, codeRefusal}
+use Rattle.ldpc_shape.specs.Accepted.{Accepted, accepted, Bounded, sizes-bounded, p-pos, q-pos, addrs-le, few}
+use Rattle.ldpc_shape.specs.Counts.{CountsBelow}
 use Rattle.ldpc_edges.specs.Code.{Edge, ofRows, meets, check, startOf, joined, rowStart, rows, edgeLists}
 use Rattle.ldpc_edges.specs.Degree.{degree}
 use Rattle.ldpc_edges.specs.Count.{start, start-le, toStairs, allEdges, all-check, all-inside, stairs-inside, all-start, start-of}
 use Rattle.ldpc_edges.specs.Layout.{start-length, start-at}
-use Rattle.ldpc_lists.specs.Build.{Lists, parts, putAll, putAll-append, Room, room-later, room-then, Filled, fill, empty, Listed, listed}
-use Rattle.ldpc_lists.specs.Ends.{Few, ending, Ends}
+use Rattle.ldpc_lists.specs.Build.{Lists, parts, putAll, putAll-append, RoomForEdges, room-later, room-then, HoldsEdges, fill, empty, Listed, listed}
+use Rattle.ldpc_lists.specs.Ends.{Few, ending, EndsSet}
 
 module _ (n : ℕ) (lens addrs : List ℕ) (A : Accepted n lens addrs) where
-  counted-few : (r : List ℕ) → Counted r (qOf n lens) addrs → Few r (qOf n lens)
+  counted-few : (r : List ℕ) → CountsBelow r (qOf n lens) addrs → Few r (qOf n lens)
   counted-few r C l h = omega (arith, C l h, few n lens addrs A l h)
 
   -- the ends are those of the definition's lists
-  ending-is : (r : List ℕ) → Counted r (qOf n lens) addrs → (c : ℕ) → c ≤ pOf n lens → ending r (qOf n lens) c ≡ start (allEdges n lens addrs) c
+  ending-is : (r : List ℕ) → CountsBelow r (qOf n lens) addrs → (c : ℕ) → c ≤ pOf n lens → ending r (qOf n lens) c ≡ start (allEdges n lens addrs) c
   unfolding ending start
   ending-is r C zero h = refl
   ending-is r C (suc c) h =
@@ -51,8 +51,8 @@ module _ (n : ℕ) (lens addrs : List ℕ) (A : Accepted n lens addrs) where
       (drop-drop (length (check n lens addrs c)) (startOf n lens addrs c) bits ∙ rows-from bits l f s (suc c) d (omega arith))
 
   -- xs after the ends are set
-  module _ (r xs : List ℕ) (C : Counted r (qOf n lens) addrs) (long : length xs ≡ suc (pOf n lens) + eOf n lens addrs)
-      (E : Ends r (qOf n lens) xs (pOf n lens)) (L : getD xs (pOf n lens) 0 ≡ ending r (qOf n lens) (pOf n lens)) where
+  module _ (r xs : List ℕ) (C : CountsBelow r (qOf n lens) addrs) (long : length xs ≡ suc (pOf n lens) + eOf n lens addrs)
+      (E : EndsSet r (qOf n lens) xs (pOf n lens)) (L : getD xs (pOf n lens) 0 ≡ ending r (qOf n lens) (pOf n lens)) where
     st : Lists
     st = parts (pOf n lens + 1) xs
 
@@ -68,13 +68,13 @@ module _ (n : ℕ) (lens addrs : List ℕ) (A : Accepted n lens addrs) where
     bits-length : length (drop (pOf n lens + 1) xs) ≡ start (allEdges n lens addrs) (pOf n lens)
     bits-length = length-drop (pOf n lens + 1) xs ∙ omega (arith, long, all-start n lens addrs A)
 
-    nothing : Filled (pOf n lens) (allEdges n lens addrs) [] st
+    nothing : HoldsEdges (pOf n lens) (allEdges n lens addrs) [] st
     unfolding st
     nothing =
         empty (pOf n lens) (allEdges n lens addrs) (parts (pOf n lens + 1) xs) at-length bits-length
         (at-is (pOf n lens) (omega arith) ∙ L ∙ ending-is r C (pOf n lens) (omega arith)) at-end
 
-    room-all : Room (pOf n lens) (allEdges n lens addrs) (parts (pOf n lens + 1) xs)
+    room-all : RoomForEdges (pOf n lens) (allEdges n lens addrs) (parts (pOf n lens + 1) xs)
     unfolding start
     room-all =
         record {
@@ -83,11 +83,11 @@ module _ (n : ℕ) (lens addrs : List ℕ) (A : Accepted n lens addrs) where
           room = λ c h. omega (arith, at-end c h);
         }
 
-    room-stairs : Room (pOf n lens) (toStairs (kOf lens) 0 (pOf n lens)) (parts (pOf n lens + 1) xs)
+    room-stairs : RoomForEdges (pOf n lens) (toStairs (kOf lens) 0 (pOf n lens)) (parts (pOf n lens + 1) xs)
     unfolding allEdges
     room-stairs = room-later (pOf n lens) (meets n lens addrs) _ (parts (pOf n lens + 1) xs) room-all
 
-    room-meets : Room (pOf n lens) (meets n lens addrs) (putAll (toStairs (kOf lens) 0 (pOf n lens)) (parts (pOf n lens + 1) xs))
+    room-meets : RoomForEdges (pOf n lens) (meets n lens addrs) (putAll (toStairs (kOf lens) 0 (pOf n lens)) (parts (pOf n lens + 1) xs))
     unfolding allEdges
     room-meets =
         room-then (pOf n lens) (kOf lens + pOf n lens) (meets n lens addrs) _ (parts (pOf n lens + 1) xs)
@@ -121,79 +121,78 @@ module _ (n : ℕ) (lens addrs : List ℕ) (A : Accepted n lens addrs) where
       unfolding edgeLists
       built = sym (take-append-drop (pOf n lens + 1) ys) ∙ ap₂ (λ (x y : List ℕ). x ++ y) front back
 
--- ---- in the code's terms: k, P and q as they are worked out, c and s for P and q as usize
-module _ (n : ℕ) (lens addrs : List ℕ) (e : refusalOf n lens addrs ≡ 0) where
+-- ---- an accepted code, with its sizes as the program has them
+module _ (n : ℕ) (lens addrs : List ℕ) (e : codeRefusal n lens addrs ≡ 0) (S : Sizes) (D : S ≡ sizesOf n lens addrs) where
   A : Accepted n lens addrs
   A = accepted n lens addrs e
 
-  pub k-fits : length lens * 374 ≤ n × (n ≤ 44880)
-  k-fits = (omega (arith, A .rows), A .small)
+  pub bounds : Bounded S
+  bounds = sizes-bounded S n lens addrs D e
 
-  pub counts-ready : (0 < (n - length lens * 374) / 374) × ((n - length lens * 374) / 374 ≤ 120) × (length addrs ≤ 15360)
-  counts-ready = (omega (arith, q-worked n lens, q-pos n lens addrs A), omega (arith, q-worked n lens, q-le n lens addrs A), addrs-le n lens addrs A)
+  pub lent : (length addrs ≤ 15360) × (total lens ≡ length addrs) × (S .n ≡ n) × (S .k ≡ 374 * length lens)
+  unfolding kOf
+  lent = (addrs-le n lens addrs A, A .adds, ap (λ (z : Sizes). z .n) D, ap (λ (z : Sizes). z .k) D)
 
-  module _ (c s : ℕ) (cp : c ≡ n - length lens * 374) (sq : s ≡ (n - length lens * 374) / 374) where
-    c-is : c ≡ pOf n lens
-    c-is = cp ∙ p-worked n lens
+  k-same : S .k ≡ kOf lens
+  k-same = ap (λ (z : Sizes). z .k) D
 
-    s-is : s ≡ qOf n lens
-    s-is = sq ∙ q-worked n lens
+  p-same : S .p ≡ pOf n lens
+  p-same = ap (λ (z : Sizes). z .p) D
 
-    pub ends-ready : (r xs : List ℕ) → Counted r ((n - length lens * 374) / 374) addrs → length xs ≡ suc (pOf n lens) + eOf n lens addrs
-        → (0 < s) × (s ≤ 120) × (c ≤ 44880) × (c < length xs) × Few r s
-    ends-ready r xs C long = (
-      omega (arith, s-is, q-pos n lens addrs A),
-      omega (arith, s-is, q-le n lens addrs A),
-      omega (arith, c-is, p-le n lens addrs A),
-      omega (arith, c-is, long),
-      subst (Few r) (sym s-is) (counted-few n lens addrs A r (subst (λ (z : ℕ). Counted r z addrs) (q-worked n lens) C)),
-    )
+  q-same : S .q ≡ qOf n lens
+  q-same = ap (λ (z : Sizes). z .q) D
 
-    pub sizes : (0 < n - length lens * 374) × (length lens * 374 ≡ 374 * length lens) × (length lens * 374 ≤ 44880) × (total lens ≡ length addrs) × (n ≡ length lens * 374 + c)
-    sizes = (omega (arith, p-worked n lens, p-pos n lens addrs A), omega arith, omega (arith, A .rows, A .small), A .adds, omega (arith, A .rows))
+  pub ends-ready : (r xs : List ℕ) → CountsBelow r (S .q) addrs → length xs ≡ suc (pOf n lens) + eOf n lens addrs
+      → (0 < S .q) × (S .q ≤ 120) × (S .p ≤ 44880) × (S .p < length xs) × Few r (S .q)
+  ends-ready r xs C long = (
+    bounds .q-pos,
+    bounds .q-le,
+    omega (arith, bounds),
+    omega (arith, p-same, long),
+    subst (Few r) (sym q-same) (counted-few n lens addrs A r (subst (λ (z : ℕ). CountsBelow r z addrs) q-same C)),
+  )
 
-    module _ (r xs : List ℕ) (C : Counted r ((n - length lens * 374) / 374) addrs) (long : length xs ≡ suc (pOf n lens) + eOf n lens addrs)
-        (E : Ends r s xs c) (L : getD xs c 0 ≡ ending r s c) where
-      C′ : Counted r (qOf n lens) addrs
-      C′ = subst (λ (z : ℕ). Counted r z addrs) (q-worked n lens) C
+  module _ (r xs : List ℕ) (C : CountsBelow r (S .q) addrs) (long : length xs ≡ suc (pOf n lens) + eOf n lens addrs)
+      (E : EndsSet r (S .q) xs (S .p)) (L : getD xs (S .p) 0 ≡ ending r (S .q) (S .p)) where
+    C′ : CountsBelow r (qOf n lens) addrs
+    C′ = subst (λ (z : ℕ). CountsBelow r z addrs) q-same C
 
-      E′ : Ends r (qOf n lens) xs (pOf n lens)
-      E′ = subst (λ (z : ℕ). Ends r z xs (pOf n lens)) s-is (subst (Ends r s xs) c-is E)
+    E′ : EndsSet r (qOf n lens) xs (pOf n lens)
+    E′ = subst (λ (z : ℕ). EndsSet r z xs (pOf n lens)) q-same (subst (EndsSet r (S .q) xs) p-same E)
 
-      L′ : getD xs (pOf n lens) 0 ≡ ending r (qOf n lens) (pOf n lens)
-      L′ = ap (λ (z : ℕ). getD xs z 0) (sym c-is) ∙ L ∙ ap₂ (ending r) s-is c-is
+    L′ : getD xs (pOf n lens) 0 ≡ ending r (qOf n lens) (pOf n lens)
+    L′ = ap (λ (z : ℕ). getD xs z 0) (sym p-same) ∙ L ∙ ap₂ (ending r) q-same p-same
 
-      pub base-fits : c + 1 ≤ length xs
-      base-fits = omega (arith, c-is, long)
+    pub base-fits : S .p + 1 ≤ length xs
+    base-fits = omega (arith, p-same, long)
 
-      stairs-is : toStairs (length lens * 374) 0 c ≡ toStairs (kOf lens) 0 (pOf n lens)
-      stairs-is = ap₂ (λ (x y : ℕ). toStairs x 0 y) (k-worked lens) c-is
+    stairs-same : toStairs (S .k) 0 (S .p) ≡ toStairs (kOf lens) 0 (pOf n lens)
+    stairs-same = ap₂ (λ (x y : ℕ). toStairs x 0 y) k-same p-same
 
-      meets-is : ofRows (n - length lens * 374) ((n - length lens * 374) / 374) 0 (rowsOf lens addrs) ≡ meets n lens addrs
-      unfolding meets
-      meets-is = ap₂ (λ (x y : ℕ). ofRows x y 0 (rowsOf lens addrs)) (p-worked n lens) (q-worked n lens)
+    meets-same : ofRows (S .p) (S .q) 0 (rowsOf lens addrs) ≡ meets n lens addrs
+    unfolding meets
+    meets-same = ap₂ (λ (x y : ℕ). ofRows x y 0 (rowsOf lens addrs)) p-same q-same
 
-      pub stairs-ready : Room c (toStairs (length lens * 374) 0 c) (parts (c + 1) xs)
-      stairs-ready =
-          subst (λ (es : List Edge). Room c es (parts (c + 1) xs)) (sym stairs-is)
-          (subst (λ (z : ℕ). Room z (toStairs (kOf lens) 0 (pOf n lens)) (parts (z + 1) xs)) (sym c-is) (room-stairs n lens addrs A r xs C′ long E′ L′))
+    pub stairs-ready : RoomForEdges (S .p) (toStairs (S .k) 0 (S .p)) (parts (S .p + 1) xs)
+    stairs-ready =
+        subst (λ (es : List Edge). RoomForEdges (S .p) es (parts (S .p + 1) xs)) (sym stairs-same)
+        (subst (λ (z : ℕ). RoomForEdges z (toStairs (kOf lens) 0 (pOf n lens)) (parts (z + 1) xs)) (sym p-same) (room-stairs n lens addrs A r xs C′ long E′ L′))
 
-      module _ (ys : List ℕ) (f : parts (c + 1) ys ≡ putAll (toStairs (length lens * 374) 0 c) (parts (c + 1) xs)) where
-        f′ : parts (pOf n lens + 1) ys ≡ putAll (toStairs (kOf lens) 0 (pOf n lens)) (parts (pOf n lens + 1) xs)
-        f′ =
-            subst (λ (z : ℕ). parts (z + 1) ys ≡ putAll (toStairs (kOf lens) 0 (pOf n lens)) (parts (z + 1) xs)) c-is
-            (f ∙ ap (λ (es : List Edge). putAll es (parts (c + 1) xs)) stairs-is)
+    module _ (ys : List ℕ) (f : parts (S .p + 1) ys ≡ putAll (toStairs (S .k) 0 (S .p)) (parts (S .p + 1) xs)) where
+      f′ : parts (pOf n lens + 1) ys ≡ putAll (toStairs (kOf lens) 0 (pOf n lens)) (parts (pOf n lens + 1) xs)
+      f′ =
+          subst (λ (z : ℕ). parts (z + 1) ys ≡ putAll (toStairs (kOf lens) 0 (pOf n lens)) (parts (z + 1) xs)) p-same
+          (f ∙ ap (λ (es : List Edge). putAll es (parts (S .p + 1) xs)) stairs-same)
 
-        pub meets-ready : Room (n - length lens * 374) (ofRows (n - length lens * 374) ((n - length lens * 374) / 374) 0 (rowsOf lens addrs)) (parts (c + 1) ys)
-        meets-ready =
-            subst (λ (es : List Edge). Room (n - length lens * 374) es (parts (c + 1) ys)) (sym meets-is)
-            (subst (λ (z : ℕ). Room z (meets n lens addrs) (parts (c + 1) ys)) (sym (p-worked n lens))
-            (subst (λ (z : ℕ). Room (pOf n lens) (meets n lens addrs) (parts (z + 1) ys)) (sym c-is)
-            (subst (Room (pOf n lens) (meets n lens addrs)) (sym f′) (room-meets n lens addrs A r xs C′ long E′ L′))))
+      pub meets-ready : RoomForEdges (S .p) (ofRows (S .p) (S .q) 0 (rowsOf lens addrs)) (parts (S .p + 1) ys)
+      meets-ready =
+          subst (λ (es : List Edge). RoomForEdges (S .p) es (parts (S .p + 1) ys)) (sym meets-same)
+          (subst (λ (z : ℕ). RoomForEdges z (meets n lens addrs) (parts (z + 1) ys)) (sym p-same)
+          (subst (RoomForEdges (pOf n lens) (meets n lens addrs)) (sym f′) (room-meets n lens addrs A r xs C′ long E′ L′)))
 
-        pub build-done : (zs : List ℕ) → parts (c + 1) zs ≡ putAll (ofRows (n - length lens * 374) ((n - length lens * 374) / 374) 0 (rowsOf lens addrs)) (parts (c + 1) ys)
-            → zs ≡ edgeLists n lens addrs
-        build-done zs g =
-            built n lens addrs A r xs C′ long E′ L′ zs
-            (subst (λ (z : ℕ). parts (z + 1) zs ≡ putAll (meets n lens addrs) (parts (z + 1) ys)) c-is (g ∙ ap (λ (es : List Edge). putAll es (parts (c + 1) ys)) meets-is)
-            ∙ ap (putAll (meets n lens addrs)) f′)
+      pub build-done : (zs : List ℕ) → parts (S .p + 1) zs ≡ putAll (ofRows (S .p) (S .q) 0 (rowsOf lens addrs)) (parts (S .p + 1) ys)
+          → zs ≡ edgeLists n lens addrs
+      build-done zs g =
+          built n lens addrs A r xs C′ long E′ L′ zs
+          (subst (λ (z : ℕ). parts (z + 1) zs ≡ putAll (meets n lens addrs) (parts (z + 1) ys)) p-same (g ∙ ap (λ (es : List Edge). putAll es (parts (S .p + 1) ys)) meets-same)
+          ∙ ap (putAll (meets n lens addrs)) f′)

@@ -8,8 +8,8 @@ use lib.ListN.{length, take, drop, getD, length-take, length-drop, take-append-d
 use lib.Seq.{drop-cons, drop-length, drop-drop, take-suc, take-length}
 use Rattle.ldpc_shape.specs.Shape.{rowsOf, total}
 use Rattle.ldpc_edges.specs.Code.{Edge, edge, met, ofBits, ofRows}
-use Rattle.ldpc_edges.specs.Inside.{met-inside, bits-inside, rows-inside}
-use Rattle.ldpc_lists.specs.Build.{Lists, parts, Ready, put, putAll, putAll-append, put-bits-length, put-at-length, Room, room-next, room-later, room-then}
+use Rattle.ldpc_edges.specs.Inside.{met-inside, bits-inside, rows-inside, rows-next}
+use Rattle.ldpc_lists.specs.Build.{Lists, parts, Ready, put, putAll, putAll-append, put-bits-length, put-at-length, RoomForEdges, room-next, room-later, room-then}
 
 pub shift-fits : (j q : ℕ) → j < 374 → q ≤ 120 → j * q ≤ 44880
 shift-fits j q h g = mul-le-mul {n₂ = 374} {m₂ = 120} (omega arith) g
@@ -47,13 +47,13 @@ met-next P q m j row i h g =
     ap (met P q m j) (drop-cons row (i - 1) 0 (omega arith)) ∙ ap (λ (z : ℕ). edge ((getD row (i - 1) 0 + j * q) % P) m ∷ met P q m j (drop z row)) e
 
 pub met-room : (P q m j : ℕ) (row : List ℕ) (i p : ℕ) (L st : Lists) → 0 < P → 0 < i → i ≤ length row → p ≡ (getD row (i - 1) 0 + j * q) % P
-    → Room P (met P q m j row) st → L ≡ putAll (met P q m j (drop i row)) st
+    → RoomForEdges P (met P q m j row) st → L ≡ putAll (met P q m j (drop i row)) st
     → Ready p L
 met-room P q m j row i p L st pos h g e r l =
     subst (λ (z : Lists). Ready p z) (sym l)
     (room-next P (suc m) (met P q m j (take (i - 1) row)) p m (met P q m j (drop i row)) st (met-inside P q (suc m) m j (drop i row) pos (omega arith))
     (subst (λ (z : ℕ). z < P) (sym e) (mod-lt _ pos))
-    (subst (λ (es : List Edge). Room P es st) split r))
+    (subst (λ (es : List Edge). RoomForEdges P es st) split r))
   where
     split : met P q m j row ≡ met P q m j (take (i - 1) row) ++ edge p m ∷ met P q m j (drop i row)
     split =
@@ -105,13 +105,13 @@ pub bits-start : (P q f : ℕ) (row : List ℕ) (L : Lists) → L ≡ putAll (of
 unfolding putAll ofBits
 bits-start P q f row L = refl
 
-pub bits-room : (P q f j m : ℕ) (row : List ℕ) (L st : Lists) → 0 < P → 0 < j → j ≤ 374 → m ≡ f + j → Room P (ofBits P q 374 f 0 row) st
-    → L ≡ putAll (ofBits P q (374 - j) (f + j) j row) st → Room P (met P q (m - 1) (j - 1) row) L
+pub bits-room : (P q f j m : ℕ) (row : List ℕ) (L st : Lists) → 0 < P → 0 < j → j ≤ 374 → m ≡ f + j → RoomForEdges P (ofBits P q 374 f 0 row) st
+    → L ≡ putAll (ofBits P q (374 - j) (f + j) j row) st → RoomForEdges P (met P q (m - 1) (j - 1) row) L
 bits-room P q f j m row L st pos h g e r l =
-    subst (Room P (met P q (m - 1) (j - 1) row)) (sym l)
+    subst (RoomForEdges P (met P q (m - 1) (j - 1) row)) (sym l)
     (room-then P (f + j + (374 - j)) (met P q (m - 1) (j - 1) row) (ofBits P q (374 - j) (f + j) j row) st (bits-inside P q _ (374 - j) (f + j) j row pos (omega arith))
     (room-later P (ofBits P q (j - 1) f 0 row) _ st
-    (subst (λ (es : List Edge). Room P es st)
+    (subst (λ (es : List Edge). RoomForEdges P es st)
     (bits-split P q f (j - 1) row (omega arith) ∙ ap (λ (es : List Edge). ofBits P q (j - 1) f 0 row ++ es) (bits-next P q f j m row h g e)) r)))
 
 pub bits-again : (P q f j m : ℕ) (row : List ℕ) (L L′ st : Lists) → 0 < j → j ≤ 374 → m ≡ f + j
@@ -163,18 +163,16 @@ pub before-all : (lens : List ℕ) → total lens ≡ before lens (length lens)
 unfolding before
 before-all lens = ap total (sym (take-length lens))
 
-rows-next : (P q : ℕ) (lens addrs : List ℕ) (g m from : ℕ) → 0 < g → g ≤ length lens → m ≡ 374 * g → from + getD lens (g - 1) 0 ≡ before lens g
+row-before : (P q : ℕ) (lens addrs : List ℕ) (g m from : ℕ) → 0 < g → g ≤ length lens → m ≡ 374 * g → from + getD lens (g - 1) 0 ≡ before lens g
     → ofRows P q (374 * (g - 1)) (rowsOf (drop (g - 1) lens) (drop from addrs))
     ≡ ofBits P q 374 (m - 374) 0 (take (getD lens (g - 1) 0) (drop from addrs)) ++ ofRows P q (374 * g) (rowsOf (drop g lens) (drop (before lens g) addrs))
-unfolding ofRows rowsOf
-rows-next P q lens addrs g m from h i e f =
-    let x : suc (g - 1) ≡ g = omega arith in
+row-before P q lens addrs g m from h i e f =
+    let x : g - 1 + 1 ≡ g = omega arith in
     let y : 374 * (g - 1) ≡ m - 374 = omega arith in
-    let z : m - 374 + 374 ≡ 374 * g = omega arith in
     let l : ℕ = getD lens (g - 1) 0 in
-    ap₂ (λ (u : ℕ) (ls : List ℕ). ofRows P q u (rowsOf ls (drop from addrs))) y (drop-cons lens (g - 1) 0 (omega arith) ∙ ap (λ (v : ℕ). l ∷ drop v lens) x)
-    ∙ ap₂ (λ (u : ℕ) (as′ : List ℕ). ofBits P q 374 (m - 374) 0 (take l (drop from addrs)) ++ ofRows P q u (rowsOf (drop g lens) as′)) z
-    (drop-drop l from addrs ∙ ap (λ (v : ℕ). drop v addrs) f)
+    rows-next P q lens addrs (g - 1) from (omega arith)
+    ∙ ap₂ (λ (u v : ℕ). ofBits P q 374 u 0 (take l (drop from addrs)) ++ ofRows P q (374 * v) (rowsOf (drop v lens) (drop (from + l) addrs))) y x
+    ∙ ap (λ (v : ℕ). ofBits P q 374 (m - 374) 0 (take l (drop from addrs)) ++ ofRows P q (374 * g) (rowsOf (drop g lens) (drop v addrs))) f
 
 pub rows-start : (P q : ℕ) (lens addrs : List ℕ) (end : ℕ) (L : Lists) → L ≡ putAll (ofRows P q (374 * length lens) (rowsOf (drop (length lens) lens) (drop end addrs))) L
 unfolding putAll ofRows rowsOf
@@ -188,12 +186,12 @@ module _ (P q : ℕ) (lens addrs : List ℕ) (g m end from : ℕ) (L st : Lists)
   from-is : from ≡ before lens (g - 1)
   from-is = let b = before-next lens g h i in omega arith
 
-  rows-room : 0 < P → Room P (ofRows P q 0 (rowsOf lens addrs)) st → Room P (ofBits P q 374 (m - 374) 0 (take (getD lens (g - 1) 0) (drop from addrs))) L
+  rows-room : 0 < P → RoomForEdges P (ofRows P q 0 (rowsOf lens addrs)) st → RoomForEdges P (ofBits P q 374 (m - 374) 0 (take (getD lens (g - 1) 0) (drop from addrs))) L
   rows-room pos r =
-      subst (Room P (ofBits P q 374 (m - 374) 0 (take (getD lens (g - 1) 0) (drop from addrs)))) (sym l′)
+      subst (RoomForEdges P (ofBits P q 374 (m - 374) 0 (take (getD lens (g - 1) 0) (drop from addrs)))) (sym l′)
       (room-then P _ (ofBits P q 374 (m - 374) 0 (take (getD lens (g - 1) 0) (drop from addrs))) rest st
       (rows-inside P q _ (374 * g) (rowsOf (drop g lens) (drop (before lens g) addrs)) pos (le-refl _))
-      (room-later P (ofRows P q 0 (rowsOf (take (g - 1) lens) addrs)) _ st (subst (λ (es : List Edge). Room P es st) split r)))
+      (room-later P (ofRows P q 0 (rowsOf (take (g - 1) lens) addrs)) _ st (subst (λ (es : List Edge). RoomForEdges P es st) split r)))
     where
       rest : List Edge
       rest = ofRows P q (374 * g) (rowsOf (drop g lens) (drop (before lens g) addrs))
@@ -204,13 +202,13 @@ module _ (P q : ℕ) (lens addrs : List ℕ) (g m end from : ℕ) (L st : Lists)
           let z : 0 + 374 * (g - 1) ≡ 374 * (g - 1) = omega arith in
           rows-split P q 0 (g - 1) lens addrs (omega arith)
           ∙ ap (λ (es : List Edge). ofRows P q 0 (rowsOf (take (g - 1) lens) addrs) ++ es)
-          (ap₂ (λ (u v : ℕ). ofRows P q u (rowsOf (drop (g - 1) lens) (drop v addrs))) z (sym from-is) ∙ rows-next P q lens addrs g m from h i e (k ∙ f))
+          (ap₂ (λ (u v : ℕ). ofRows P q u (rowsOf (drop (g - 1) lens) (drop v addrs))) z (sym from-is) ∙ row-before P q lens addrs g m from h i e (k ∙ f))
 
   pub rows-again : (L′ : Lists) → L′ ≡ putAll (ofBits P q 374 (m - 374) 0 (take (getD lens (g - 1) 0) (drop from addrs))) L
       → L′ ≡ putAll (ofRows P q (374 * (g - 1)) (rowsOf (drop (g - 1) lens) (drop from addrs))) st
   rows-again L′ w =
       w ∙ ap (putAll (ofBits P q 374 (m - 374) 0 (take (getD lens (g - 1) 0) (drop from addrs)))) l′ ∙ sym (putAll-append _ _ st)
-      ∙ ap (λ (es : List Edge). putAll es st) (sym (rows-next P q lens addrs g m from h i e (k ∙ f)))
+      ∙ ap (λ (es : List Edge). putAll es st) (sym (row-before P q lens addrs g m from h i e (k ∙ f)))
 
 module _ (P q : ℕ) (lens addrs : List ℕ) (g m end r : ℕ) (L st : Lists) (h : 0 < g) (i : g ≤ length lens) (e : m ≡ 374 * g) (f : end ≡ before lens g)
     (k : r ≡ getD lens (g - 1) 0) (l : L ≡ putAll (ofRows P q (374 * g) (rowsOf (drop g lens) (drop end addrs))) st) where
@@ -226,9 +224,9 @@ module _ (P q : ℕ) (lens addrs : List ℕ) (g m end r : ℕ) (L st : Lists) (h
   pub from-before : end - r ≡ before lens (g - 1)
   from-before = let b = before-next lens g h i in omega arith
 
-  pub part-room : 0 < P → Room P (ofRows P q 0 (rowsOf lens addrs)) st → Room P (ofBits P q 374 (m - 374) 0 (take (end - (end - r)) (drop (end - r) addrs))) L
+  pub part-room : 0 < P → RoomForEdges P (ofRows P q 0 (rowsOf lens addrs)) st → RoomForEdges P (ofBits P q 374 (m - 374) 0 (take (end - (end - r)) (drop (end - r) addrs))) L
   part-room pos room =
-      subst (λ (w : ℕ). Room P (ofBits P q 374 (m - 374) 0 (take w (drop (end - r) addrs))) L) (sym wide-is) (rows-room P q lens addrs g m end (end - r) L st h i e f joins l pos room)
+      subst (λ (w : ℕ). RoomForEdges P (ofBits P q 374 (m - 374) 0 (take w (drop (end - r) addrs))) L) (sym wide-is) (rows-room P q lens addrs g m end (end - r) L st h i e f joins l pos room)
 
   pub part-again : (L′ : Lists) → L′ ≡ putAll (ofBits P q 374 (m - 374) 0 (take (end - (end - r)) (drop (end - r) addrs))) L
       → L′ ≡ putAll (ofRows P q (374 * (g - 1)) (rowsOf (drop (g - 1) lens) (drop (end - r) addrs))) st

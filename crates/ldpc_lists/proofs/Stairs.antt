@@ -5,7 +5,7 @@ use Prim.Native.Nat.{ℕ, zero, suc, _+_, _-_, _≤_, _<_}
 use native.Mathlib.Omega.{arith}
 use Rattle.ldpc_edges.specs.Code.{Edge, edge, stairs}
 use Rattle.ldpc_edges.specs.Count.{toBits, toStairs, stairs-inside}
-use Rattle.ldpc_lists.specs.Build.{Lists, Ready, put, putAll, putAll-append, Room, room-next, room-later, room-then}
+use Rattle.ldpc_lists.specs.Build.{Lists, Ready, put, putAll, putAll-append, RoomForEdges, room-next, room-later, room-then}
 
 -- ---- one check
 stair-zero : (k c v : ℕ) → c ≡ 0 → v ≡ k + c → toBits c (stairs k c) ≡ edge c v ∷ []
@@ -21,17 +21,17 @@ stair-suc k (suc c) v e f =
     let h : k + suc c ≡ v = omega arith in
     ap₂ (λ (z y : ℕ). edge (suc c) z ∷ edge (suc c) y ∷ []) g h
 
-pub stair-first : (k c v : ℕ) (st : Lists) → v ≡ k + c → Room (suc c) (toBits c (stairs k c)) st → Dec (c ≡ 0) → Ready c st
+pub stair-first : (k c v : ℕ) (st : Lists) → v ≡ k + c → RoomForEdges (suc c) (toBits c (stairs k c)) st → Dec (c ≡ 0) → Ready c st
 unfolding putAll
-stair-first k c v st f r (yes e) = room-next (suc c) (suc v) [] c v [] st tt (omega arith) (subst (λ (es : List Edge). Room (suc c) es st) (stair-zero k c v e f) r)
-stair-first k c v st f r (no e) = room-next (suc c) (suc v) (edge c (v - 1) ∷ []) c v [] st tt (omega arith) (subst (λ (es : List Edge). Room (suc c) es st) (stair-suc k c v e f) r)
+stair-first k c v st f r (yes e) = room-next (suc c) (suc v) [] c v [] st tt (omega arith) (subst (λ (es : List Edge). RoomForEdges (suc c) es st) (stair-zero k c v e f) r)
+stair-first k c v st f r (no e) = room-next (suc c) (suc v) (edge c (v - 1) ∷ []) c v [] st tt (omega arith) (subst (λ (es : List Edge). RoomForEdges (suc c) es st) (stair-suc k c v e f) r)
 
-pub stair-second : (k c v : ℕ) (L st : Lists) → v ≡ k + c → (c ≡ 0 → ⊥) → Room (suc c) (toBits c (stairs k c)) st → L ≡ put c v st
+pub stair-second : (k c v : ℕ) (L st : Lists) → v ≡ k + c → (c ≡ 0 → ⊥) → RoomForEdges (suc c) (toBits c (stairs k c)) st → L ≡ put c v st
     → Ready c L
 unfolding putAll
 stair-second k c v L st f e r l =
     subst (λ (z : Lists). Ready c z) (sym l)
-    (room-next (suc c) (suc v) [] c (v - 1) (edge c v ∷ []) st (omega arith, omega arith, tt) (omega arith) (subst (λ (es : List Edge). Room (suc c) es st) (stair-suc k c v e f) r))
+    (room-next (suc c) (suc v) [] c (v - 1) (edge c v ∷ []) st (omega arith, omega arith, tt) (omega arith) (subst (λ (es : List Edge). RoomForEdges (suc c) es st) (stair-suc k c v e f) r))
 
 pub stair-one : (k c v : ℕ) (L st : Lists) → v ≡ k + c → c ≡ 0 → L ≡ put c v st → L ≡ putAll (toBits c (stairs k c)) st
 unfolding putAll
@@ -72,18 +72,18 @@ pub stairs-start : (k P : ℕ) (L : Lists) → L ≡ putAll (toStairs k P (P - P
 unfolding putAll toStairs
 stairs-start k P L = let e : 0 ≡ P - P = omega arith in ap (λ (z : ℕ). putAll (toStairs k P z) L) e
 
-narrow : (P c : ℕ) (es : List Edge) (st : Lists) → c < P → Room P es st → Room (suc c) es st
+narrow : (P c : ℕ) (es : List Edge) (st : Lists) → c < P → RoomForEdges P es st → RoomForEdges (suc c) es st
 narrow P c es st h r =
     record { long = omega (arith, r .long); fits = λ d g. r .fits d (omega arith); room = λ d g. r .room d (omega arith) }
 
-pub stairs-room : (k P c : ℕ) (L st : Lists) → 0 < c → c ≤ P → Room P (toStairs k 0 P) st → L ≡ putAll (toStairs k c (P - c)) st
-    → Room (suc (c - 1)) (toBits (c - 1) (stairs k (c - 1))) L
+pub stairs-room : (k P c : ℕ) (L st : Lists) → 0 < c → c ≤ P → RoomForEdges P (toStairs k 0 P) st → L ≡ putAll (toStairs k c (P - c)) st
+    → RoomForEdges (suc (c - 1)) (toBits (c - 1) (stairs k (c - 1))) L
 stairs-room k P c L st h g r l =
     narrow P (c - 1) _ L (omega arith)
-    (subst (Room P (toBits (c - 1) (stairs k (c - 1)))) (sym l)
+    (subst (RoomForEdges P (toBits (c - 1) (stairs k (c - 1)))) (sym l)
     (room-then P (k + P) (toBits (c - 1) (stairs k (c - 1))) (toStairs k c (P - c)) st (stairs-inside P k c (P - c) (omega arith))
     (room-later P (toStairs k 0 (c - 1)) _ st
-    (subst (λ (es : List Edge). Room P es st)
+    (subst (λ (es : List Edge). RoomForEdges P es st)
     (stairs-split k P (c - 1) (omega arith) ∙ ap (λ (es : List Edge). toStairs k 0 (c - 1) ++ es) (stairs-next k P c h g)) r))))
 
 pub stairs-again : (k P c : ℕ) (L L′ st : Lists) → 0 < c → c ≤ P → L ≡ putAll (toStairs k c (P - c)) st → L′ ≡ putAll (toBits (c - 1) (stairs k (c - 1))) L

@@ -1,17 +1,15 @@
 -- Filling the lists of all checks from their ends: each edge, the last first, is put before what its check has so far.
 use mathlib.Core.Path.{_≡_, refl, sym, ap, _∙_, subst}
 use mathlib.Core.Logic.{_≢_}
-use mathlib.Core.Bool.{cond}
 use mathlib.Core.List.{List, [], _∷_, _++_}
 use Prim.Native.Nat.{ℕ, zero, suc, _+_, _-_, _≤_, _<_}
 use native.Mathlib.Omega.{arith}
 use native.Mathlib.Decide.{ℕ-discrete, decLt}
-use borrow.Author.Tests.{eq-eqb, ne-eqb}
 use lib.ListN.{length, take, drop, getD, set, length-set}
 use lib.Seq.{getD-set-other, ext-getD, slice, length-slice, getD-take, getD-drop}
 use Rattle.laws.specs.Stores.{set-at}
 use Rattle.ldpc_edges.specs.Code.{Edge, edge, only}
-use Rattle.ldpc_edges.specs.Inside.{Inside, only-length}
+use Rattle.ldpc_edges.specs.Inside.{Inside, only-length, only-hit, only-miss}
 use Rattle.ldpc_edges.specs.Count.{start, start-le}
 
 -- the lists and their starts, which are cursors while they are filled
@@ -51,14 +49,6 @@ put-at-length [] st = refl
 put-at-length (edge p m ∷ es) st = length-set (putAll es st .at) p _ ∙ put-at-length es st
 
 -- ---- one more edge of check c
-only-hit : (p m c : ℕ) (es : List Edge) → p ≡ c → only c (edge p m ∷ es) ≡ m ∷ only c es
-unfolding only
-only-hit p m c es e = ap (λ b. cond b (m ∷ only c es) (only c es)) (eq-eqb p c e)
-
-only-miss : (p m c : ℕ) (es : List Edge) → (p ≡ c → ⊥) → only c (edge p m ∷ es) ≡ only c es
-unfolding only
-only-miss p m c es e = ap (λ b. cond b (m ∷ only c es) (only c es)) (ne-eqb p c e)
-
 only-tail : (p m c : ℕ) (es : List Edge) → length (only c es) ≤ length (only c (edge p m ∷ es))
 only-tail p m c es = go (ℕ-discrete p c)
   where
@@ -67,7 +57,7 @@ only-tail p m c es = go (ℕ-discrete p c)
     go (no e) = omega (arith, ap length (only-miss p m c es e))
 
 -- ---- room for the edges es: each cursor can go down once for each of them
-pub record Room (P : ℕ) (es : List Edge) (st : Lists) : Type 0 where
+pub record RoomForEdges (P : ℕ) (es : List Edge) (st : Lists) : Type 0 where
   pub long : P < length (st .at)
   pub fits : (c : ℕ) → c < P → getD (st .at) c 0 ≤ length (st .bits)
   pub room : (c : ℕ) → c < P → length (only c es) ≤ getD (st .at) c 0
@@ -93,14 +83,14 @@ put-at P k (edge p m ∷ es) st I l r c h =
         let a = getD-set-other (putAll es st .at) p c new 0 (λ f. e (sym f)) in
         omega (arith, ap length (only-miss p m c es e))
 
-room-at : (P k : ℕ) (es : List Edge) (st : Lists) → Inside P k es → Room P es st → (c : ℕ) → c < P
+room-at : (P k : ℕ) (es : List Edge) (st : Lists) → Inside P k es → RoomForEdges P es st → (c : ℕ) → c < P
     → getD (putAll es st .at) c 0 + length (only c es) ≡ getD (st .at) c 0
 room-at P k es st I r = put-at P k es st I (r .long) (r .room)
 
-pub room-later : (P : ℕ) (xs ys : List Edge) (st : Lists) → Room P (xs ++ ys) st → Room P ys st
+pub room-later : (P : ℕ) (xs ys : List Edge) (st : Lists) → RoomForEdges P (xs ++ ys) st → RoomForEdges P ys st
 room-later P xs ys st r = record { long = r .long; fits = r .fits; room = λ c h. omega (arith, r .room c h, only-length c xs ys) }
 
-pub room-then : (P k : ℕ) (xs ys : List Edge) (st : Lists) → Inside P k ys → Room P (xs ++ ys) st → Room P xs (putAll ys st)
+pub room-then : (P k : ℕ) (xs ys : List Edge) (st : Lists) → Inside P k ys → RoomForEdges P (xs ++ ys) st → RoomForEdges P xs (putAll ys st)
 room-then P k xs ys st I r =
     record {
       long = omega (arith, r .long, put-at-length ys st);
@@ -112,7 +102,7 @@ room-then P k xs ys st I r =
     at = room-at P k ys st I (room-later P xs ys st r)
 
 -- ---- filled with the edges es of all
-pub record Filled (P : ℕ) (all es : List Edge) (st : Lists) : Type 0 where
+pub record HoldsEdges (P : ℕ) (all es : List Edge) (st : Lists) : Type 0 where
   pub long : length (st .at) ≡ suc P
   pub wide : length (st .bits) ≡ start all P
   pub last : getD (st .at) P 0 ≡ start all P
@@ -121,7 +111,7 @@ pub record Filled (P : ℕ) (all es : List Edge) (st : Lists) : Type 0 where
 
 -- one more
 fill-one : (P : ℕ) (all es : List Edge) (p m : ℕ) (st : Lists) → p < P → ((c : ℕ) → c < P → length (only c (edge p m ∷ es)) ≤ length (only c all))
-    → Filled P all es st → Filled P all (edge p m ∷ es) (put p m st)
+    → HoldsEdges P all es st → HoldsEdges P all (edge p m ∷ es) (put p m st)
 unfolding put start
 fill-one P all es p m st hp fit F =
     record {
@@ -181,7 +171,7 @@ fill-one P all es p m st hp fit F =
         apart l (no g) f = let j : p < c = omega arith in omega (arith, F .from c h, room, above, fit-c, start-le all (suc p) c j)
 
 pub fill : (P k : ℕ) (all es : List Edge) (st : Lists) → Inside P k es → ((c : ℕ) → c < P → length (only c es) ≤ length (only c all))
-    → Filled P all [] st → Filled P all es (putAll es st)
+    → HoldsEdges P all [] st → HoldsEdges P all es (putAll es st)
 unfolding putAll
 fill P k all [] st I fit F = F
 fill P k all (edge p m ∷ es) st I fit F =
@@ -189,7 +179,7 @@ fill P k all (edge p m ∷ es) st I fit F =
 
 -- the cursors at the ends: nothing is filled yet
 pub empty : (P : ℕ) (all : List Edge) (st : Lists) → length (st .at) ≡ suc P → length (st .bits) ≡ start all P → getD (st .at) P 0 ≡ start all P
-    → ((c : ℕ) → c < P → getD (st .at) c 0 ≡ start all (suc c)) → Filled P all [] st
+    → ((c : ℕ) → c < P → getD (st .at) c 0 ≡ start all (suc c)) → HoldsEdges P all [] st
 unfolding only
 empty P all st l w e f = record { long = l; wide = w; last = e; from = λ c h. omega (arith, f c h); has = λ c i h g. absurd (omega arith) }
 
@@ -200,7 +190,7 @@ pub record Listed (P : ℕ) (all : List Edge) (st : Lists) : Type 0 where
   pub begins : (c : ℕ) → c ≤ P → getD (st .at) c 0 ≡ start all c
   pub lists : (c : ℕ) → c < P → slice (getD (st .at) c 0) (getD (st .at) (suc c) 0) (st .bits) ≡ only c all
 
-pub listed : (P : ℕ) (all : List Edge) (st : Lists) → Filled P all all st → Listed P all st
+pub listed : (P : ℕ) (all : List Edge) (st : Lists) → HoldsEdges P all all st → Listed P all st
 unfolding start
 listed P all st F = record { long = F .long; wide = F .wide; begins = begins; lists = lists }
   where
@@ -229,11 +219,11 @@ listed P all st F = record { long = F .long; wide = F .wide; begins = begins; li
 
 -- ---- for the loops
 -- the state before edge e of the edges xs ++ e ∷ ys has room for e
-pub room-next : (P k : ℕ) (xs : List Edge) (p m : ℕ) (ys : List Edge) (st : Lists) → Inside P k ys → p < P → Room P (xs ++ edge p m ∷ ys) st
+pub room-next : (P k : ℕ) (xs : List Edge) (p m : ℕ) (ys : List Edge) (st : Lists) → Inside P k ys → p < P → RoomForEdges P (xs ++ edge p m ∷ ys) st
     → Ready p (putAll ys st)
 unfolding only
 room-next P k xs p m ys st I h r =
     (omega (arith, one .long), omega (arith, one .room p h, ap length (only-hit p m p [] refl)), one .fits p h)
   where
-    one : Room P (edge p m ∷ []) (putAll ys st)
+    one : RoomForEdges P (edge p m ∷ []) (putAll ys st)
     one = room-then P k (edge p m ∷ []) ys st I (room-later P xs (edge p m ∷ ys) st r)

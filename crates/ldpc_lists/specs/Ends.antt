@@ -27,11 +27,11 @@ ending-le r q pos F zero = omega arith
 ending-le r q pos F (suc c) = let ih = ending-le r q pos F c in omega (arith, F (c % q) (mod-lt c pos), stairs-le (eqb c 0))
 
 -- the cursors below i are set
-pub record Ends (r : List ℕ) (q : ℕ) (at : List ℕ) (i : ℕ) : Type 0 where
+pub record EndsSet (r : List ℕ) (q : ℕ) (at : List ℕ) (i : ℕ) : Type 0 where
   pub set-to : (c : ℕ) → c < i → getD at c 0 ≡ ending r q (suc c)
 
-pub ends-again : (r : List ℕ) (q : ℕ) (at : List ℕ) (i e s : ℕ) → i < length at → s ≡ cond (eqb i 0) 1 2 → e ≡ ending r q i → Ends r q at i
-    → Ends r q (set at i (e + getD r (i % q) 0 + s)) (i + 1)
+pub ends-again : (r : List ℕ) (q : ℕ) (at : List ℕ) (i e s : ℕ) → i < length at → s ≡ cond (eqb i 0) 1 2 → e ≡ ending r q i → EndsSet r q at i
+    → EndsSet r q (set at i (e + getD r (i % q) 0 + s)) (i + 1)
 unfolding ending
 ends-again r q at i e s h f g E = record { set-to = grown 0 (λ c x. x ≡ ending r q c + (getD r (c % q) 0 + cond (eqb c 0) 1 2)) at i _ h (E .set-to) (omega arith) }
 
@@ -39,10 +39,10 @@ pub ending-next : (r : List ℕ) (q i e s : ℕ) → s ≡ cond (eqb i 0) 1 2 �
 unfolding ending
 ending-next r q i e s f g = sym (ap (ending r q) (add-one i) ∙ omega arith)
 
-pub ends-last : (r : List ℕ) (q : ℕ) (at : List ℕ) (i v : ℕ) → Ends r q at i → Ends r q (set at i v) i
+pub ends-last : (r : List ℕ) (q : ℕ) (at : List ℕ) (i v : ℕ) → EndsSet r q at i → EndsSet r q (set at i v) i
 ends-last r q at i v E = record { set-to = λ c h. getD-set-other at i c v 0 (λ e. omega arith) ∙ E .set-to c h }
 
-pub ends-start : (r : List ℕ) (q : ℕ) (at : List ℕ) → Ends r q at 0
+pub ends-start : (r : List ℕ) (q : ℕ) (at : List ℕ) → EndsSet r q at 0
 ends-start r q at = record { set-to = λ c h. absurd (omega arith) }
 
 pub ending-start : (r : List ℕ) (q : ℕ) → 0 ≡ ending r q 0

@@ -1,15 +1,17 @@
 // The lists of all checks in one lent slice: row_start (P + 1 numbers), then rows (E bits).
 // The slice is filled from the lists' ends: each start is first its list's end and goes down by one for each bit.
+use ldpc_shape::GROUP_U32;
+use ldpc_shape::MAX_Q;
 ghost use mathlib.Core.Path.{_≡_};
 ghost use mathlib.Core.Bool.{cond};
 ghost use Prim.Native.Nat.{suc, _+_, _*_, _%_, _<_, _≤_};
 ghost use lib.Dec.{eqb};
 ghost use lib.ListN.{length, getD};
-ghost use Rattle.ldpc_shape.specs.Shape.{pOf, eOf, rowsOf, total, refusalOf};
+ghost use Rattle.ldpc_shape.specs.Shape.{pOf, eOf, rowsOf, total, codeRefusal};
 ghost use Rattle.ldpc_edges.specs.Code.{met, ofBits, ofRows, stairs, edgeLists};
 ghost use Rattle.ldpc_edges.specs.Count.{toBits, toStairs};
-ghost use Rattle.ldpc_lists.specs.Build.{parts, Ready, put, putAll, Room};
-ghost use Rattle.ldpc_lists.specs.Ends.{Few, Ends, ending};
+ghost use Rattle.ldpc_lists.specs.Build.{parts, Ready, put, putAll, RoomForEdges};
+ghost use Rattle.ldpc_lists.specs.Ends.{Few, EndsSet, ending};
 
 // Bit m before what check p has so far; rows begin at `base`.
 fn put_one(lists: &mut [u32], base: usize, p: usize, m: u32)
@@ -24,7 +26,7 @@ fn put_one(lists: &mut [u32], base: usize, p: usize, m: u32)
 
 // The edges of bit m, the j-th of its row.
 fn put_met(lists: &mut [u32], base: usize, row: &[u16], checks: u32, q: u32, m: u32, j: u32)
-    requires { ⌜ (base ≤ length (now lists)) × (0 < checks) × (j < 374) × (q ≤ 120) × Room checks (met checks q m j (now row)) (parts base (now lists)) ⌝ }
+    requires { ⌜ (base ≤ length (now lists)) × (0 < checks) × (j < 374) × (q ≤ 120) × RoomForEdges checks (met checks q m j (now row)) (parts base (now lists)) ⌝ }
     ensures { λ _. ⌜ parts base (now (lists .exit)) ≡ putAll (met checks q m j (now (row .entry))) (parts base (now (lists .entry))) ⌝ }
 {
     let s = j * q;
@@ -51,12 +53,12 @@ fn put_row(lists: &mut [u32], base: usize, row: &[u16], checks: u32, q: u32, fir
         × (0 < checks)
         × (q ≤ 120)
         × (first ≤ 44880)
-        × Room checks (ofBits checks q 374 first 0 (now row)) (parts base (now lists))
+        × RoomForEdges checks (ofBits checks q 374 first 0 (now row)) (parts base (now lists))
         ⌝ }
     ensures { λ _. ⌜ parts base (now (lists .exit)) ≡ putAll (ofBits checks q 374 first 0 (now (row .entry))) (parts base (now (lists .entry))) ⌝ }
 {
-    let mut j: u32 = 374;
-    let mut m = first + 374;
+    let mut j: u32 = GROUP_U32;
+    let mut m = first + GROUP_U32;
     while 0 < j {
         j -= 1;
         m -= 1;
@@ -81,7 +83,7 @@ fn put_rows(
         × (k ≡ 374 * length (now lens))
         × (k ≤ 44880)
         × (total (now lens) ≡ length (now addrs))
-        × Room checks (ofRows checks q 0 (rowsOf (now lens) (now addrs))) (parts base (now lists))
+        × RoomForEdges checks (ofRows checks q 0 (rowsOf (now lens) (now addrs))) (parts base (now lists))
         ⌝ }
     ensures { λ _. ⌜ parts base (now (lists .exit)) ≡ putAll (ofRows checks q 0 (rowsOf (now (lens .entry)) (now (addrs .entry)))) (parts base (now (lists .entry))) ⌝ }
 {
@@ -90,7 +92,7 @@ fn put_rows(
     let mut m = k;
     while 0 < g {
         g -= 1;
-        m -= 374;
+        m -= GROUP_U32;
         let l = ldpc_shape::wide(lens[g]);
         let from = end - l;
         put_row(lists, base, &addrs[from..end], checks, q, m);
@@ -100,7 +102,7 @@ fn put_rows(
 
 // The parity bits of check c; v is k + c.
 fn put_stair(lists: &mut [u32], base: usize, k: u32, c: usize, v: u32)
-    requires { ⌜ (base ≤ length (now lists)) × (v ≡ k + c) × Room (suc c) (toBits c (stairs k c)) (parts base (now lists)) ⌝ }
+    requires { ⌜ (base ≤ length (now lists)) × (v ≡ k + c) × RoomForEdges (suc c) (toBits c (stairs k c)) (parts base (now lists)) ⌝ }
     ensures { λ _. ⌜ parts base (now (lists .exit)) ≡ putAll (toBits c (stairs k c)) (parts base (now (lists .entry))) ⌝ }
 {
     put_one(lists, base, c, v);
@@ -112,7 +114,7 @@ fn put_stair(lists: &mut [u32], base: usize, k: u32, c: usize, v: u32)
 
 // The parity bits of all checks; n is k + checks.
 fn put_stairs(lists: &mut [u32], base: usize, k: u32, checks: usize, n: u32)
-    requires { ⌜ (base ≤ length (now lists)) × (n ≡ k + checks) × Room checks (toStairs k 0 checks) (parts base (now lists)) ⌝ }
+    requires { ⌜ (base ≤ length (now lists)) × (n ≡ k + checks) × RoomForEdges checks (toStairs k 0 checks) (parts base (now lists)) ⌝ }
     ensures { λ _. ⌜ parts base (now (lists .exit)) ≡ putAll (toStairs k 0 checks) (parts base (now (lists .entry))) ⌝ }
 {
     let mut c = checks;
@@ -135,9 +137,9 @@ fn stair(c: usize) -> u32
 }
 
 // Each start at the end of its check's list.
-fn ends(lists: &mut [u32], counts: &[u32; 120], q: usize, checks: usize)
+fn ends(lists: &mut [u32], counts: &[u32; MAX_Q], q: usize, checks: usize)
     requires { ⌜ (0 < q) × (q ≤ 120) × (checks ≤ 44880) × (checks < length (now lists)) × Few (now counts) q ⌝ }
-    ensures { λ _. ⌜ Ends (now (counts .entry)) q (now (lists .exit)) checks × (getD (now (lists .exit)) checks 0 ≡ ending (now (counts .entry)) q checks) ⌝ }
+    ensures { λ _. ⌜ EndsSet (now (counts .entry)) q (now (lists .exit)) checks × (getD (now (lists .exit)) checks 0 ≡ ending (now (counts .entry)) q checks) ⌝ }
 {
     let mut e: u32 = 0;
     let mut i: usize = 0;
@@ -152,16 +154,17 @@ fn ends(lists: &mut [u32], counts: &[u32; 120], q: usize, checks: usize)
 
 // The lists of all checks of an accepted code, in a slice of E + P + 1 numbers.
 pub fn build(n: u32, lens: &[u32], addrs: &[u16], lists: &mut [u32])
-    requires { ⌜ (refusalOf n (now lens) (now addrs) ≡ 0) × (length (now lists) ≡ suc (pOf n (now lens)) + eOf n (now lens) (now addrs)) ⌝ }
+    requires { ⌜ (codeRefusal n (now lens) (now addrs) ≡ 0) × (length (now lists) ≡ suc (pOf n (now lens)) + eOf n (now lens) (now addrs)) ⌝ }
     ensures { λ _. ⌜ now (lists .exit) ≡ edgeLists n (now (lens .entry)) (now (addrs .entry)) ⌝ }
 {
-    let k = (lens.len() as u32) * 374;
-    let p = n - k;
-    let q = p / 374;
-    let checks = ldpc_shape::wide(p);
+    let sizes = ldpc_shape::sizes_of(n, lens, addrs);
+    let k = sizes.k as u32;
+    let p = sizes.p as u32;
+    let q = sizes.q as u32;
+    let checks = sizes.p;
     let base = checks + 1;
     let r = ldpc_shape::counts(addrs, q);
-    ends(lists, &r, ldpc_shape::wide(q), checks);
+    ends(lists, &r, sizes.q, checks);
     put_stairs(lists, base, k, checks, n);
     put_rows(lists, base, lens, addrs, p, q, k);
 }

@@ -10,12 +10,13 @@ use borrow.Author.Tests.{eqb-true, eq-eqb, ne-eqb, ltb-false, not-false, lt-ltb,
 use lib.Dec.{eqb, ltb, leb}
 use lib.ListN.{length, take, drop, getD, set, replicate, length-take}
 use lib.Seq.{drop-cons, drop-length, getD-set-other, take-suc, take-length}
-use Rattle.laws.specs.Lists.{or-left, or-right, zeros-at}
+use Rattle.laws.specs.Lists.{zeros-at}
+use Rattle.laws.specs.Choice.{or-left, or-right}
 use Rattle.laws.specs.Stores.{set-at}
-use Rattle.ldpc_shape.specs.Shape.{qOf, total, anyOver, countMod, countsMod, badLength, refusalOf}
-use Rattle.ldpc_shape.specs.Accepted.{total-le}
+use Rattle.ldpc_shape.specs.Shape.{qOf, total, anyOver, countMod, countsMod, badLength, codeRefusal}
+use Rattle.ldpc_shape.specs.Accepted.{total-drop, total-le}
 use Rattle.ldpc_shape.specs.Worked.{q-beside}
-use Rattle.ldpc_shape.specs.Counts.{Counted, Counts-of, tops, tops-counts}
+use Rattle.ldpc_shape.specs.Counts.{CountsBelow, Counts-of, tops, tops-counts}
 
 -- ---- counting
 count-append : (q l : ℕ) (xs : List ℕ) (a : ℕ) → countMod q l (xs ++ a ∷ []) ≡ cond (eqb (a % q) l) (suc (countMod q l xs)) (countMod q l xs)
@@ -45,7 +46,7 @@ unfolding countMod
 counted-start q addrs = record { below = λ l h. zeros-at 120 l; behind = λ l h. zeros-at 120 l }
 
 one-more : (q : ℕ) (addrs r : List ℕ) (i p : ℕ) → i < length addrs → p ≡ getD addrs i 0 % q → p < length r → p < q
-    → Counted r q (take i addrs) → Counted (set r p (getD r p 0 + 1)) q (take (i + 1) addrs)
+    → CountsBelow r q (take i addrs) → CountsBelow (set r p (getD r p 0 + 1)) q (take (i + 1) addrs)
 one-more q addrs r i p h e g hq C l hl =
     go (ℕ-discrete p l)
     ∙ sym (ap (λ (z : ℕ). countMod q l (take z addrs)) (add-one i) ∙ ap (countMod q l) (take-suc addrs i 0 h) ∙ count-append q l (take i addrs) (getD addrs i 0))
@@ -67,7 +68,7 @@ counted-again q addrs r i p h e g hq C =
       behind = λ l hl. getD-set-other r p l (getD r p 0 + 1) 0 (λ w. omega arith) ∙ C .behind l hl;
     }
 
-pub counted-room : (q : ℕ) (addrs r : List ℕ) (i p : ℕ) → p < q → i ≤ length addrs → length addrs ≤ 15360 → Counted r q (take i addrs) → getD r p 0 ≤ 15360
+pub counted-room : (q : ℕ) (addrs r : List ℕ) (i p : ℕ) → p < q → i ≤ length addrs → length addrs ≤ 15360 → CountsBelow r q (take i addrs) → getD r p 0 ≤ 15360
 counted-room q addrs r i p h g k C = omega (arith, C p h, count-le q p (take i addrs), length-take i addrs)
 
 pub counted-end : (q : ℕ) (addrs r : List ℕ) (i : ℕ) → length addrs ≤ i → i ≤ length addrs → Counts-of r q (take i addrs) → Counts-of r q addrs
@@ -95,11 +96,7 @@ over-end m lens i h g inv =
 
 -- ---- the sum of the lengths
 pub sum-again : (lens : List ℕ) (i s : ℕ) → i < length lens → s + total (drop i lens) ≡ total lens → s + getD lens i 0 + total (drop (i + 1) lens) ≡ total lens
-unfolding total
-sum-again lens i s h inv =
-    let a = ap total (drop-cons lens i 0 h) in
-    let b = ap (λ (z : ℕ). total (drop z lens)) (add-one i) in
-    omega arith
+sum-again lens i s h inv = omega (arith, total-drop lens i h)
 
 pub sum-end : (lens : List ℕ) (i s : ℕ) → length lens ≤ i → i ≤ length lens → s + total (drop i lens) ≡ total lens → s ≡ total lens
 unfolding total
@@ -139,49 +136,49 @@ unfolding badLength
 small n ok = ltb-false 44880 n (or-right (not (eqb (n % 374) 0)) _ (or-right (eqb n 0) _ (sym ok)))
 
 module _ (n : ℕ) (lens addrs : List ℕ) where
-  pub refuse-length : true ≡ badLength n → 2 ≡ refusalOf n lens addrs
-  unfolding refusalOf
+  pub refuse-length : true ≡ badLength n → 2 ≡ codeRefusal n lens addrs
+  unfolding codeRefusal
   refuse-length e =
       ap (λ b. cond b 2 (cond (leb n (374 * length lens)) 3 (cond (anyOver 128 lens) 4
       (cond (not (eqb (total lens) (length addrs))) 5 (cond (anyOver 126 (countsMod (qOf n lens) addrs (qOf n lens))) 6 0))))) e
 
   module _ (ok : false ≡ badLength n) where
-    first : refusalOf n lens addrs ≡ cond (leb n (374 * length lens)) 3 (cond (anyOver 128 lens) 4
+    first : codeRefusal n lens addrs ≡ cond (leb n (374 * length lens)) 3 (cond (anyOver 128 lens) 4
         (cond (not (eqb (total lens) (length addrs))) 5 (cond (anyOver 126 (countsMod (qOf n lens) addrs (qOf n lens))) 6 0)))
-    unfolding refusalOf
+    unfolding codeRefusal
     first =
         ap (λ b. cond b 2 (cond (leb n (374 * length lens)) 3 (cond (anyOver 128 lens) 4
         (cond (not (eqb (total lens) (length addrs))) 5 (cond (anyOver 126 (countsMod (qOf n lens) addrs (qOf n lens))) 6 0))))) (sym ok)
 
-    pub refuse-rows : n / 374 ≤ length lens → 3 ≡ refusalOf n lens addrs
+    pub refuse-rows : n / 374 ≤ length lens → 3 ≡ codeRefusal n lens addrs
     refuse-rows h = let a : n ≤ 374 * length lens = omega (arith, whole n ok) in sym (first ∙ simp (le-leb n (374 * length lens) a))
 
     module _ (rows : length lens < n / 374) where
       fewer : 374 * length lens < n
       fewer = omega (arith, whole n ok)
 
-      pub refuse-over : true ≡ anyOver 128 lens → 4 ≡ refusalOf n lens addrs
+      pub refuse-over : true ≡ anyOver 128 lens → 4 ≡ codeRefusal n lens addrs
       refuse-over e = sym (first ∙ simp (lt-leb n (374 * length lens) fewer, ← e))
 
       module _ (short : false ≡ anyOver 128 lens) where
-        pub refuse-sum : (total lens ≡ length addrs → ⊥) → 5 ≡ refusalOf n lens addrs
+        pub refuse-sum : (total lens ≡ length addrs → ⊥) → 5 ≡ codeRefusal n lens addrs
         refuse-sum e = sym (first ∙ simp (lt-leb n (374 * length lens) fewer, ← short, ne-eqb (total lens) (length addrs) e))
 
-        module _ (adds : total lens ≡ length addrs) (q : ℕ) (r : List ℕ) (p : q ≡ n / 374 - length lens) (C : Counted r q addrs) where
+        module _ (adds : total lens ≡ length addrs) (q : ℕ) (r : List ℕ) (p : q ≡ n / 374 - length lens) (C : CountsBelow r q addrs) where
           q-is : q ≡ qOf n lens
           q-is = p ∙ q-beside n lens (whole n ok)
 
           counts-over : anyOver 126 (tops r q) ≡ anyOver 126 (countsMod (qOf n lens) addrs (qOf n lens))
           counts-over = ap (anyOver 126) (tops-counts r q addrs C q (omega arith)) ∙ ap (λ (z : ℕ). anyOver 126 (countsMod z addrs z)) q-is
 
-          middle : refusalOf n lens addrs ≡ cond (anyOver 126 (countsMod (qOf n lens) addrs (qOf n lens))) 6 0
+          middle : codeRefusal n lens addrs ≡ cond (anyOver 126 (countsMod (qOf n lens) addrs (qOf n lens))) 6 0
           middle = first ∙ simp (lt-leb n (374 * length lens) fewer, ← short, eq-eqb (total lens) (length addrs) adds)
 
-          last : refusalOf n lens addrs ≡ cond (anyOver 126 (tops r q)) 6 0
+          last : codeRefusal n lens addrs ≡ cond (anyOver 126 (tops r q)) 6 0
           last = middle ∙ ap (λ b. cond b 6 0) (sym counts-over)
 
-          pub refuse-many : true ≡ anyOver 126 (tops r q) → 6 ≡ refusalOf n lens addrs
+          pub refuse-many : true ≡ anyOver 126 (tops r q) → 6 ≡ codeRefusal n lens addrs
           refuse-many e = sym (last ∙ ap (λ b. cond b 6 0) (sym e))
 
-          pub refuse-none : false ≡ anyOver 126 (tops r q) → 0 ≡ refusalOf n lens addrs
+          pub refuse-none : false ≡ anyOver 126 (tops r q) → 0 ≡ codeRefusal n lens addrs
           refuse-none e = sym (last ∙ ap (λ b. cond b 6 0) (sym e))

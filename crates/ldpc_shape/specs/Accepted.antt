@@ -1,5 +1,5 @@
 -- What it says of a code that no refusal applies.
-use mathlib.Core.Path.{_≡_, refl, sym, ap, subst}
+use mathlib.Core.Path.{_≡_, refl, sym, ap, _∙_, subst}
 use mathlib.Core.Bool.{Bool, true, false, cond, not, _||_}
 use mathlib.Core.List.{List, [], _∷_}
 use Prim.Native.Nat.{ℕ, zero, suc, _+_, _*_, _%_, _≤_, _<_}
@@ -10,8 +10,9 @@ use borrow.Author.Tests.{eqb-true, ltb-false, leb-false}
 use lib.Dec.{eqb, ltb, leb}
 use lib.ListN.{length, drop, getD}
 use lib.Seq.{drop-cons}
-use Rattle.laws.specs.Lists.{or-left, or-right}
-use Rattle.ldpc_shape.specs.Shape.{kOf, pOf, qOf, total, anyOver, countMod, countsMod, badLength, refusalOf}
+use Rattle.laws.specs.Choice.{or-left, or-right}
+use Rattle.ldpc_shape.specs.declared.Sizes.{Sizes}
+use Rattle.ldpc_shape.specs.Shape.{kOf, pOf, qOf, eOf, sizesOf, total, anyOver, countMod, countsMod, badLength, codeRefusal}
 
 pub record Accepted (n : ℕ) (lens addrs : List ℕ) : Type 0 where
   pub whole : n % 374 ≡ 0
@@ -21,8 +22,8 @@ pub record Accepted (n : ℕ) (lens addrs : List ℕ) : Type 0 where
   pub adds : total lens ≡ length addrs
   pub few : anyOver 126 (countsMod (qOf n lens) addrs (qOf n lens)) ≡ false
 
-pub accepted : (n : ℕ) (lens addrs : List ℕ) → refusalOf n lens addrs ≡ 0 → Accepted n lens addrs
-unfolding refusalOf badLength
+pub accepted : (n : ℕ) (lens addrs : List ℕ) → codeRefusal n lens addrs ≡ 0 → Accepted n lens addrs
+unfolding codeRefusal badLength
 accepted n lens addrs h =
     go (eqb n 0) (eqb (n % 374) 0) (ltb 44880 n) (leb n (374 * length lens)) (anyOver 128 lens) (eqb (total lens) (length addrs))
     (anyOver 126 (countsMod (qOf n lens) addrs (qOf n lens))) h refl refl refl refl refl refl
@@ -41,14 +42,15 @@ accepted n lens addrs h =
     go false true false false false true false z pb pc pd pe pf pg =
         record { whole = eqb-true _ 0 pb; small = ltb-false _ _ pc; rows = leb-false _ _ pd; short = pe; adds = eqb-true _ _ pf; few = pg }
 
+-- the first of the lengths from row g on
+pub total-drop : (lens : List ℕ) (g : ℕ) → g < length lens → total (drop g lens) ≡ getD lens g 0 + total (drop (g + 1) lens)
+unfolding total
+total-drop lens g h = ap total (drop-cons lens g 0 h) ∙ ap (λ (z : ℕ). getD lens g 0 + total (drop z lens)) (sym (add-one g))
+
 -- the addresses of row g, which begin at `from`, end inside the list, and those of the next rows follow
 module _ (lens addrs : List ℕ) (g from : ℕ) (h : g < length lens) where
   pub rows-end-fits : (r : ℕ) → r ≡ getD lens g 0 → from + total (drop g lens) ≡ length addrs → (from + r ≤ length addrs) × (from + r + total (drop (g + 1) lens) ≡ length addrs)
-  unfolding total
-  rows-end-fits r e f =
-      let a = ap total (drop-cons lens g 0 h) in
-      let b = ap (λ (z : ℕ). total (drop z lens)) (add-one g) in
-      (omega arith, omega arith)
+  rows-end-fits r e f = let a = total-drop lens g h in (omega arith, omega arith)
 
 -- no number above the limit: the sum is at most the limit times how many there are
 pub total-le : (m : ℕ) (xs : List ℕ) → anyOver m xs ≡ false → total xs ≤ length xs * m
@@ -105,3 +107,42 @@ module _ (n : ℕ) (lens addrs : List ℕ) (A : Accepted n lens addrs) where
 
   pub few : (l : ℕ) → l < qOf n lens → countMod (qOf n lens) l addrs ≤ 126
   few = few-le 126 (qOf n lens) addrs (qOf n lens) (A .few)
+
+  pub e-pos : 0 < eOf n lens addrs
+  unfolding eOf
+  e-pos = omega (arith, p-pos)
+
+  pub e-le : eOf n lens addrs ≤ 6000000
+  unfolding eOf
+  e-le = omega (arith, addrs-le, p-le)
+
+-- what the numbers of an accepted code are to each other, and their bounds
+pub record Bounded (s : Sizes) : Type 0 where
+  pub n-is : s .n ≡ s .k + s .p
+  pub p-is : s .p ≡ 374 * s .q
+  pub n-le : s .n ≤ 44880
+  pub q-pos : 0 < s .q
+  pub q-le : s .q ≤ 120
+  pub p-pos : 0 < s .p
+  pub p-le : s .p ≤ s .n
+  pub e-pos : 0 < s .e
+  pub e-le : s .e ≤ 6000000
+
+pub bounded : (n : ℕ) (lens addrs : List ℕ) → codeRefusal n lens addrs ≡ 0 → Bounded (sizesOf n lens addrs)
+bounded n lens addrs e =
+    let A = accepted n lens addrs e in
+    record {
+      n-is = sym (n-is n lens addrs A);
+      p-is = p-is n lens addrs A;
+      n-le = A .small;
+      q-pos = q-pos n lens addrs A;
+      q-le = q-le n lens addrs A;
+      p-pos = p-pos n lens addrs A;
+      p-le = omega (arith, n-is n lens addrs A);
+      e-pos = e-pos n lens addrs A;
+      e-le = e-le n lens addrs A;
+    }
+
+-- the same of sizes as a program has them
+pub sizes-bounded : (s : Sizes) (n : ℕ) (lens addrs : List ℕ) → s ≡ sizesOf n lens addrs → codeRefusal n lens addrs ≡ 0 → Bounded s
+sizes-bounded s n lens addrs d e = subst Bounded (sym d) (bounded n lens addrs e)

@@ -4,6 +4,7 @@ use mathlib.Core.List.{List, [], _∷_}
 use Prim.Native.Nat.{ℕ, zero, suc, _+_, _-_, _*_, _/_, _%_}
 use lib.Dec.{ltb, leb, eqb}
 use lib.ListN.{length, take, drop}
+use Rattle.ldpc_shape.specs.declared.Sizes.{Sizes}
 
 -- k = 374 times rows
 unfoldable pub kOf : List ℕ → ℕ
@@ -20,6 +21,10 @@ qOf n lens = pOf n lens / 374
 -- E = 374A + 2P - 1, with A addresses
 unfoldable pub eOf : ℕ → List ℕ → List ℕ → ℕ
 eOf n lens addrs = 374 * length addrs + 2 * pOf n lens - 1
+
+-- the code's numbers together
+abbrev pub sizesOf : ℕ → List ℕ → List ℕ → Sizes
+sizesOf n lens addrs = record { n = n; k = kOf lens; p = pOf n lens; q = qOf n lens; e = eOf n lens addrs }
 
 -- the rows, each with its addresses
 unfoldable pub rowsOf : List ℕ → List ℕ → List (List ℕ)
@@ -52,8 +57,8 @@ badLength n = eqb n 0 || (not (eqb (n % 374) 0) || ltb 44880 n)
 
 -- The first of 2 to 6 that applies, 0 for none. 3: "374 times the row count is n or more". 4: "a row has more than 128 addresses".
 -- 5: "row lengths don't add up to the address list's length". 6: "more than 126 addresses are equal modulo q".
-unfoldable pub refusalOf : ℕ → List ℕ → List ℕ → ℕ
-refusalOf n lens addrs =
+unfoldable pub codeRefusal : ℕ → List ℕ → List ℕ → ℕ
+codeRefusal n lens addrs =
     cond (badLength n) 2
     (cond (leb n (374 * length lens)) 3
     (cond (anyOver 128 lens) 4

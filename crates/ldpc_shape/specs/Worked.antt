@@ -1,12 +1,12 @@
 -- The numbers of a code as programs work them out.
-use mathlib.Core.Path.{_≡_, sym, ap, _∙_}
+use mathlib.Core.Path.{_≡_, ap, _∙_}
 use mathlib.Core.List.{List}
 use Prim.Native.Nat.{ℕ, suc, _+_, _-_, _*_, _/_, _%_, _≤_, _<_}
 use native.Mathlib.Nat.{mul-comm}
 use native.Mathlib.Omega.{arith}
 use lib.ListN.{length}
-use Rattle.ldpc_shape.specs.Shape.{kOf, pOf, qOf, eOf, refusalOf}
-use Rattle.ldpc_shape.specs.Accepted.{Accepted, accepted, p-is, n-is, rows-le, addrs-le}
+use Rattle.ldpc_shape.specs.Shape.{kOf, pOf, qOf, eOf, codeRefusal}
+use Rattle.ldpc_shape.specs.Accepted.{accepted, n-is, rows-le, addrs-le}
 
 pub k-worked : (lens : List ℕ) → length lens * 374 ≡ kOf lens
 unfolding kOf
@@ -33,10 +33,7 @@ pub q-beside : (n : ℕ) (lens : List ℕ) → n % 374 ≡ 0 → n / 374 - lengt
 unfolding qOf pOf kOf
 q-beside n lens whole = omega (arith, whole)
 
-pub p-beside : (n : ℕ) (lens addrs : List ℕ) → Accepted n lens addrs → pOf n lens ≡ 374 * (n / 374 - length lens)
-p-beside n lens addrs A = p-is n lens addrs A ∙ ap (λ (z : ℕ). 374 * z) (sym (q-beside n lens (A .whole)))
-
 -- an accepted code's numbers are small
-pub fits : (n : ℕ) (lens addrs : List ℕ) → refusalOf n lens addrs ≡ 0
+pub fits : (n : ℕ) (lens addrs : List ℕ) → codeRefusal n lens addrs ≡ 0
     → (length lens ≤ 119) × (length addrs ≤ 15360) × (n ≤ 44880) × (length lens * 374 < n) × (kOf lens + pOf n lens ≡ n)
 fits n lens addrs e = let A = accepted n lens addrs e in (rows-le n lens addrs A, addrs-le n lens addrs A, A .small, omega (arith, A .rows), n-is n lens addrs A)

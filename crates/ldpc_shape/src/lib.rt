@@ -3,8 +3,25 @@ ghost use mathlib.Core.Path.{_≡_};
 ghost use mathlib.Core.Bool.{false};
 ghost use Prim.Native.Nat.{_%_, _<_, _≤_};
 ghost use lib.ListN.{length};
-ghost use Rattle.ldpc_shape.specs.Shape.{kOf, pOf, eOf, total, anyOver, badLength, refusalOf};
+ghost use Rattle.ldpc_shape.specs.Shape.{pOf, eOf, sizesOf, total, anyOver, badLength, codeRefusal};
 ghost use Rattle.ldpc_shape.specs.Counts.{Counts-of, tops};
+
+// The bits of a row, and the checks of each residue modulo q.
+pub const GROUP: usize = 374;
+
+pub const GROUP_U32: u32 = GROUP as u32;
+
+// The most that q can be, 44,880 / 374.
+pub const MAX_Q: usize = 120;
+
+// The numbers of a code: its length, information bits, checks, P / 374 and edges.
+pub struct Sizes {
+    pub n: usize,
+    pub k: usize,
+    pub p: usize,
+    pub q: usize,
+    pub e: usize,
+}
 
 pub fn wide(x: u32) -> usize
     ensures { λ r. ⌜ r ≡ x ⌝ }
@@ -27,7 +44,7 @@ fn bad_length(n: u32) -> bool
     if n == 0 {
         return true;
     }
-    if n % 374 != 0 {
+    if n % GROUP_U32 != 0 {
         return true;
     }
     44880 < n
@@ -62,11 +79,11 @@ fn sum_of(lens: &[u32]) -> usize
 }
 
 // How many addresses are l modulo q, for each l below q; zeros from q on.
-pub fn counts(addrs: &[u16], q: u32) -> [u32; 120]
+pub fn counts(addrs: &[u16], q: u32) -> [u32; MAX_Q]
     requires { ⌜ (0 < q) × (q ≤ 120) × (length (now addrs) ≤ 15360) ⌝ }
     ensures { λ r. ⌜ Counts-of r q (now (addrs .entry)) ⌝ }
 {
-    let mut r = [0u32; 120];
+    let mut r = [0u32; MAX_Q];
     let mut i: usize = 0;
     while i < addrs.len() {
         let l = residue(addrs[i], q);
@@ -77,7 +94,7 @@ pub fn counts(addrs: &[u16], q: u32) -> [u32; 120]
 }
 
 // Whether one of the first q counts is above 126.
-fn any_many(counts: &[u32; 120], q: u32) -> bool
+fn any_many(counts: &[u32; MAX_Q], q: u32) -> bool
     requires { ⌜ q ≤ 120 ⌝ }
     ensures { λ r. ⌜ r ≡ anyOver 126 (tops (now (counts .entry)) q) ⌝ }
 {
@@ -93,12 +110,12 @@ fn any_many(counts: &[u32; 120], q: u32) -> bool
 
 // The first of the refusals 2 to 6 that applies, 0 for none.
 pub fn refusal(n: u32, lens: &[u32], addrs: &[u16]) -> u32
-    ensures { λ r. ⌜ r ≡ refusalOf n (now (lens .entry)) (now (addrs .entry)) ⌝ }
+    ensures { λ r. ⌜ r ≡ codeRefusal n (now (lens .entry)) (now (addrs .entry)) ⌝ }
 {
     if bad_length(n) {
         return 2;
     }
-    if wide(n / 374) <= lens.len() {
+    if wide(n / GROUP_U32) <= lens.len() {
         return 3;
     }
     if any_long(lens) {
@@ -107,7 +124,7 @@ pub fn refusal(n: u32, lens: &[u32], addrs: &[u16]) -> u32
     if sum_of(lens) != addrs.len() {
         return 5;
     }
-    let q = n / 374 - (lens.len() as u32);
+    let q = n / GROUP_U32 - (lens.len() as u32);
     let r = counts(addrs, q);
     if any_many(&r, q) {
         return 6;
@@ -115,26 +132,37 @@ pub fn refusal(n: u32, lens: &[u32], addrs: &[u16]) -> u32
     0
 }
 
-// k, of a code with fewer than 120 rows.
-pub fn info_bits(lens: &[u32]) -> usize
-    requires { ⌜ length (now lens) ≤ 119 ⌝ }
-    ensures { λ r. ⌜ r ≡ kOf (now (lens .entry)) ⌝ }
+// The numbers of an accepted code.
+pub fn sizes_of(n: u32, lens: &[u32], addrs: &[u16]) -> Sizes
+    requires { ⌜ codeRefusal n (now lens) (now addrs) ≡ 0 ⌝ }
+    ensures { λ r. ⌜ r ≡ sizesOf n (now (lens .entry)) (now (addrs .entry)) ⌝ }
 {
-    lens.len() * 374
+    let length = wide(n);
+    let k = GROUP * lens.len();
+    let p = length - k;
+    Sizes {
+        n: length,
+        k: k,
+        p: p,
+        q: p / GROUP,
+        e: GROUP * addrs.len() + 2 * p - 1,
+    }
 }
 
 // P, of an accepted code.
 pub fn checks(n: u32, lens: &[u32], addrs: &[u16]) -> usize
-    requires { ⌜ refusalOf n (now lens) (now addrs) ≡ 0 ⌝ }
+    requires { ⌜ codeRefusal n (now lens) (now addrs) ≡ 0 ⌝ }
     ensures { λ r. ⌜ r ≡ pOf n (now (lens .entry)) ⌝ }
 {
-    wide(n) - info_bits(lens)
+    let sizes = sizes_of(n, lens, addrs);
+    sizes.p
 }
 
 // E, of an accepted code.
 pub fn edges(n: u32, lens: &[u32], addrs: &[u16]) -> usize
-    requires { ⌜ refusalOf n (now lens) (now addrs) ≡ 0 ⌝ }
+    requires { ⌜ codeRefusal n (now lens) (now addrs) ≡ 0 ⌝ }
     ensures { λ r. ⌜ r ≡ eOf n (now (lens .entry)) (now (addrs .entry)) ⌝ }
 {
-    374 * addrs.len() + 2 * checks(n, lens, addrs) - 1
+    let sizes = sizes_of(n, lens, addrs);
+    sizes.e
 }

@@ -9,13 +9,14 @@ use native.Mathlib.Decide.{ℕ-discrete, decLe}
 use native.Mathlib.Numerals.{add-one}
 use lib.ListN.{length, take, drop, set, length-append, length-take, length-drop}
 use lib.Seq.{take-suc-set, take-all, drop-drop}
-use Rattle.lane_math.specs.Check.{Word}
-use Rattle.lane_math.specs.Iteration.{hard}
+use Rattle.iteration.specs.Check.{Word}
+use Rattle.iteration.specs.Iteration.{hard}
 use Rattle.bch_remainder.specs.Word.{remainderOf}
 use Rattle.bch.specs.Decode.{register, leftBy, leftOf, flipped}
 use Rattle.bch.specs.Flips.{flipped-length}
 use Rattle.bch.specs.Answers.{outIf, wordRefusal, wordOut, decodedOf}
 use Rattle.bch.specs.declared.Decoded.{Decoded}
+use Rattle.decoder_plan.specs.declared.Part.{Part}
 use Rattle.outcome.specs.Outcome.{bitsFrom, bitsOf, corrected, bchResult, bchOf, isFinished, isLost, lostOf, keptOf}
 
 -- ---- hard decisions
@@ -74,29 +75,34 @@ word-length w = go (ℕ-discrete (wordRefusal (length w)) 0)
     go (yes h) = ap length (if-pos (ℕ-discrete (wordRefusal (length w)) 0) h (leftOf w) w) ∙ left-length w
     go (no h) = ap length (if-neg (ℕ-discrete (wordRefusal (length w)) 0) h (leftOf w) w)
 
-pub corrected-length : (first size : ℕ) (b : List ℕ) → length (corrected first size b) ≡ length b
+pub corrected-length : (part : Part) (b : List ℕ) → length (corrected part b) ≡ length b
 unfolding corrected
-corrected-length first size b =
+corrected-length part b =
+    let first = part .first in
+    let size = part .length in
     length-append (take first b) (wordOut (take size (drop first b)) ++ drop (first + size) b)
     ∙ ap (λ (z : ℕ). length (take first b) + z) (length-append (wordOut (take size (drop first b))) (drop (first + size) b))
     ∙ ap (λ (z : ℕ). length (take first b) + (z + length (drop (first + size) b))) (word-length (take size (drop first b)))
     ∙ omega (arith, length-take first b, length-drop first b, length-take size (drop first b), length-drop (first + size) b)
 
 -- the part that comes back from BCH, in the whole
-pub corrected-whole : (first size : ℕ) (b part : List ℕ) → part ≡ wordOut (take (first + size - first) (drop first b))
-    → take first b ++ (part ++ drop (first + size - first) (drop first b)) ≡ corrected first size b
+pub corrected-whole : (part : Part) (b back : List ℕ) → back ≡ wordOut (take (part .first + part .length - part .first) (drop (part .first) b))
+    → take (part .first) b ++ (back ++ drop (part .first + part .length - part .first) (drop (part .first) b)) ≡ corrected part b
 unfolding corrected
-corrected-whole first size b part e =
+corrected-whole part b back e =
+    let first = part .first in
+    let size = part .length in
     let m : first + size - first ≡ size = omega arith in
     ap (λ (l : List ℕ). take first b ++ (l ++ drop (first + size - first) (drop first b))) e
     ∙ ap (λ (k : ℕ). take first b ++ (wordOut (take k (drop first b)) ++ drop k (drop first b))) m
     ∙ ap (λ (l : List ℕ). take first b ++ (wordOut (take size (drop first b)) ++ l)) (drop-drop size first b)
 
-pub result-whole : (first size : ℕ) (b : List ℕ) (answer : Decoded) → answer ≡ decodedOf (take (first + size - first) (drop first b)) → bchResult answer ≡ bchOf first size b
+pub result-whole : (part : Part) (b : List ℕ) (answer : Decoded) → answer ≡ decodedOf (take (part .first + part .length - part .first) (drop (part .first) b))
+    → bchResult answer ≡ bchOf part b
 unfolding bchOf
-result-whole first size b answer e =
-    let m : first + size - first ≡ size = omega arith in
-    ap bchResult (e ∙ ap (λ (k : ℕ). decodedOf (take k (drop first b))) m)
+result-whole part b answer e =
+    let m : part .first + part .length - part .first ≡ part .length = omega arith in
+    ap bchResult (e ∙ ap (λ (k : ℕ). decodedOf (take k (drop (part .first) b))) m)
 
 -- ---- a finished word is kept or lost, and no other is either
 pub kept-or-lost : (state bch : ℕ) → keptOf state bch + lostOf state bch ≡ cond (isFinished state) 1 0

@@ -6,10 +6,10 @@ use Prim.Native.Nat.{ℕ, zero, suc, _+_}
 use lib.Dec.{eqb}
 use lib.IntN.{ℤ, pos}
 use lib.ListN.{getD, take, drop}
-use Rattle.lane_math.specs.Check.{Word}
-use Rattle.lane_math.specs.Iteration.{Code, hard, unsatisfiedCount}
-use Rattle.simd.specs.Words.{within}
+use Rattle.iteration.specs.Check.{Word, within}
+use Rattle.iteration.specs.Iteration.{Code, hard, unsatisfiedCount}
 use Rattle.schedule.specs.Alone.{after, ends}
+use Rattle.decoder_plan.specs.declared.Part.{Part}
 use Rattle.bch.specs.Answers.{decodedOf, wordOut}
 use Rattle.bch.specs.declared.Decoded.{Decoded}
 use Rattle.bch.specs.declared.Decoded.the-variants.{Corrected, Uncorrectable, Refused}
@@ -34,10 +34,13 @@ unfoldable pub metOf : Code → ℕ → Word → Bool
 metOf code p x = eqb (unmetOf code p x) 0
 
 -- "A finished word's BCH part, `first` and `length`, is then corrected inside the output."
-unfoldable pub corrected : ℕ → ℕ → List ℕ → List ℕ
-corrected first size b = take first b ++ (wordOut (take size (drop first b)) ++ drop (first + size) b)
+abbrev pub partOf : Part → List ℕ → List ℕ
+partOf part b = take (part .length) (drop (part .first) b)
 
--- "BCH result (corrected count, or lost)": lost is 4,294,967,295. A run's part is never refused (Part: `answered`)
+unfoldable pub corrected : Part → List ℕ → List ℕ
+corrected part b = take (part .first) b ++ (wordOut (partOf part b) ++ drop (part .first + part .length) b)
+
+-- "BCH result (corrected count, or lost)": lost is 4,294,967,295. A run's part is never refused (Corrected: `answered`)
 unfoldable pub lost : ℕ
 lost = 4294967295
 
@@ -46,8 +49,8 @@ bchResult (Corrected k) = k
 bchResult Uncorrectable = lost
 bchResult (Refused k) = lost
 
-unfoldable pub bchOf : ℕ → ℕ → List ℕ → ℕ
-bchOf first size b = bchResult (decodedOf (take size (drop first b)))
+unfoldable pub bchOf : Part → List ℕ → ℕ
+bchOf part b = bchResult (decodedOf (partOf part b))
 
 -- a finished word's state: "2 met, 3 unmet"
 abbrev pub stateOf : Bool → ℕ
@@ -77,18 +80,18 @@ pub record Outcome : Type 0 where
   pub bch : ℕ
 
 -- the outcome of a word that ends with the values x after i iterations
-unfoldable pub outcomeOf : Code → ℕ → ℕ → ℕ → ℕ → Word → ℕ → Outcome
-outcomeOf code n p first size x i =
+unfoldable pub outcomeOf : Code → ℕ → ℕ → Part → Word → ℕ → Outcome
+outcomeOf code n p part x i =
     record {
-      bits = corrected first size (bitsOf n x);
+      bits = corrected part (bitsOf n x);
       state = stateOf (metOf code p x);
       iterations = i;
       unsatisfied = unmetOf code p x;
-      bch = bchOf first size (bitsOf n x);
+      bch = bchOf part (bitsOf n x);
     }
 
 -- Its outcome alone: from its soft values, the code and the settings. Lane count, round limit and other words cannot occur here.
-unfoldable pub alone : Code → ℕ → ℕ → (Word → Word) → ℕ → ℕ → ℕ → List ℤ → Outcome
-alone code n p iterate limit first size soft =
-    let e = ends (begin n soft) iterate (metOf code p) limit in
-    outcomeOf code n p first size (after (begin n soft) iterate e) e
+unfoldable pub alone : Code → ℕ → ℕ → (Word → Word) → ℕ → Part → List ℤ → Outcome
+alone code n p iterate iteration-limit part soft =
+    let e = ends (begin n soft) iterate (metOf code p) iteration-limit in
+    outcomeOf code n p part (after (begin n soft) iterate e) e

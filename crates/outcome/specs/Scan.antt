@@ -6,9 +6,10 @@ use native.Mathlib.Omega.{arith}
 use native.Mathlib.Decide.{decLt}
 use borrow.Author.Tests.{eqb-true, eqb-false, eq-eqb, ne-eqb}
 use lib.Dec.{eqb}
-use Rattle.lane_math.specs.Check.{Word}
-use Rattle.lane_math.specs.Iteration.{Code, unsatisfiedCount}
-use Rattle.fixed_code.specs.Count.{unmetAt, Counted, unmet-le, unmet-step, unmet-few, counted-again}
+use Rattle.iteration.specs.Check.{Word}
+use Rattle.iteration.specs.Iteration.{Code, unsatisfiedCount}
+use Rattle.iteration.specs.CountLaws.{unmet-le, unmet-step, unmet-few, counted-again}
+use Rattle.iteration.specs.Count.{unmetAt, Counted}
 use Rattle.outcome.specs.Outcome.{unmetOf, metOf}
 
 module _ (code : Code) (x : Word) where

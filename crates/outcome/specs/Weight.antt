@@ -10,18 +10,19 @@ use borrow.Author.Tests.{eq-eqb}
 use lib.IntN.{ℤ}
 use lib.ListN.{getD, length, drop}
 use lib.Seq.{getD-take, getD-drop}
-use Rattle.laws.specs.Signed.{negative}
-use Rattle.lane_math.specs.Check.{Word}
-use Rattle.lane_math.specs.Iteration.{Code, hard, negatives, unsatisfied, unsatisfiedCount}
-use Rattle.lane_memory.specs.Room.{var}
-use Rattle.ldpc_shape.specs.Shape.{kOf, pOf, refusalOf}
+use Rattle.laws.specs.Definitions.{negative}
+use Rattle.iteration.specs.Check.{Word}
+use Rattle.iteration.specs.Iteration.{Code, hard, negatives, unsatisfied, unsatisfiedCount}
+use Rattle.iteration.specs.Lists.{var, rowsIn, codeIn}
+use Rattle.ldpc_shape.specs.Shape.{kOf, pOf, codeRefusal}
 use Rattle.ldpc_shape.specs.Accepted.{accepted}
 use Rattle.ldpc_edges.specs.Code.{check, edgeLists, encode, ones, unmet, unmets, weight}
 use Rattle.ldpc_edges.specs.Encoder.{encode-weight}
 use Rattle.ldpc_edges.specs.Layout.{Laid, laid}
-use Rattle.fixed_code.specs.Lists.{rowsIn, codeIn, start-in, degree-in}
-use Rattle.fixed_code.specs.Code.{codeOf, code-in}
-use Rattle.fixed_code.specs.Count.{unmetAt}
+use Rattle.iteration.specs.ListsLaws.{start-in, degree-in}
+use Rattle.iteration.specs.CodeLaws.{code-in}
+use Rattle.iteration.specs.Code.{codeOf}
+use Rattle.iteration.specs.Count.{unmetAt}
 use Rattle.outcome.specs.Outcome.{bitsFrom, bitsOf, unmetOf, metOf}
 
 -- ---- a byte of the hard decisions is its value's
@@ -61,7 +62,7 @@ ones-are n x v s (b ∷ bs) at below =
     let i = ones-are n x v (suc s) bs (λ k q. let e : suc s + k ≡ s + suc k = omega arith in ap v e ∙ at (suc k) (omega arith)) (λ k q. below (suc k) (omega arith)) in
     ap₂ (λ (p q : ℕ). p + q) (bit-at n x b (below 0 (omega arith)) ∙ ap (λ (k : ℕ). hard (x .L k)) (sym h)) i ∙ sym (front v s (length bs) (x .L))
 
-module _ (n : ℕ) (lens addrs : List ℕ) (A : refusalOf n lens addrs ≡ 0) (x : Word) where
+module _ (n : ℕ) (lens addrs : List ℕ) (A : codeRefusal n lens addrs ≡ 0) (x : Word) where
   abbrev p : ℕ
   p = pOf n lens
 

@@ -1,17 +1,15 @@
 // One word of a run: its outcome from its values. What its soft values meet before any iteration, its bits, and its BCH part corrected.
 use bch::Decoded;
+use decoder_plan::Part;
 ghost use mathlib.Core.Path.{_≡_};
 ghost use Prim.Native.Nat.{_+_, _<_, _≤_};
 ghost use lib.Dec.{eqb};
 ghost use lib.ListN.{length};
-ghost use Rattle.ldpc_shape.specs.Shape.{pOf};
-ghost use Rattle.lane_math.specs.Iteration.{negatives};
-ghost use Rattle.lane_memory.specs.Room.{var};
-ghost use Rattle.fixed_code.specs.Lists.{Lists, codeIn};
-ghost use Rattle.fixed_code.specs.Code.{codeOf};
-ghost use Rattle.fixed_code.specs.Count.{unmetAt, Counted};
+ghost use Rattle.iteration.specs.Iteration.{negatives};
+ghost use Rattle.iteration.specs.Lists.{var, Lists, codeIn};
+ghost use Rattle.iteration.specs.Count.{unmetAt, Counted};
 ghost use Rattle.outcome.specs.Outcome.{begin, bitsOf, metOf, corrected, bchResult, bchOf, stateOf, isFinished, keptOf, lostOf};
-ghost use Rattle.outcome.specs.Index.{Edges, values, Lent};
+ghost use Rattle.outcome.specs.Soft.{Edges, values, Lent};
 
 // How many checks a word leaves unsatisfied, and one of them (0 if there is none).
 pub struct Unmet {
@@ -27,7 +25,7 @@ fn negative(rows: &[u32], s: usize, d: usize, soft: &[i8]) -> usize
     let mut count: usize = 0;
     let mut k: usize = 0;
     while k < d {
-        let v = lane_memory::variable(rows, s + k);
+        let v = fixed_code::variable(rows, s + k);
         count += lane_math::bit(soft[v]) as usize;
         k += 1;
     }
@@ -35,25 +33,24 @@ fn negative(rows: &[u32], s: usize, d: usize, soft: &[i8]) -> usize
 }
 
 // Whether check c of p is unsatisfied: an odd number of its variables' values are negative.
-fn odd(index: &[u32], p: usize, c: usize, soft: &[i8]) -> bool
-    requires { ⌜ (c < p) × Lists (length (now soft)) p (now index) ⌝ }
-    ensures { λ r. ⌜ r ≡ eqb (unmetAt (codeIn p (now (index .entry))) (values (now (soft .entry))) c) 1 ⌝ }
+fn odd(lists: &[u32], p: usize, c: usize, soft: &[i8]) -> bool
+    requires { ⌜ (c < p) × Lists (length (now soft)) p (now lists) ⌝ }
+    ensures { λ r. ⌜ r ≡ eqb (unmetAt (codeIn p (now (lists .entry))) (values (now (soft .entry))) c) 1 ⌝ }
 {
-    let s = fixed_code::start(index, c);
-    let d = fixed_code::degree(index, soft.len(), p, c);
+    let s = fixed_code::start(lists, c);
+    let d = fixed_code::degree(lists, soft.len(), p, c);
     let base = p + 1;
-    negative(&index[base..], s, d, soft) % 2 == 1
+    negative(&lists[base..], s, d, soft) % 2 == 1
 }
 
 // Whether a word's soft values meet every check. The scan ends at the first unsatisfied one.
-pub fn soft_met(n: u32, lens: &[u32], addrs: &[u16], index: &[u32], soft: &[i8]) -> bool
-    requires { ⌜ Lent n (now lens) (now addrs) (now index) (now soft) ⌝ }
-    ensures { λ r. ⌜ r ≡ metOf (codeOf n (now (lens .entry)) (now (addrs .entry))) (pOf n (now (lens .entry))) (begin n (now (soft .entry))) ⌝ }
+pub fn soft_met(p: usize, lists: &[u32], soft: &[i8]) -> bool
+    requires { ⌜ Lent p (now lists) (now soft) ⌝ }
+    ensures { λ r. ⌜ r ≡ metOf (codeIn p (now (lists .entry))) p (begin (length (now (soft .entry))) (now (soft .entry))) ⌝ }
 {
-    let p = ldpc_shape::checks(n, lens, addrs);
     let mut c = 0;
     while c < p {
-        if odd(index, p, c, soft) {
+        if odd(lists, p, c, soft) {
             return false;
         }
         c += 1;
@@ -62,16 +59,15 @@ pub fn soft_met(n: u32, lens: &[u32], addrs: &[u16], index: &[u32], soft: &[i8])
 }
 
 // How many checks a word's soft values leave unsatisfied, and one of them.
-pub fn soft_unmet(n: u32, lens: &[u32], addrs: &[u16], index: &[u32], soft: &[i8]) -> Unmet
-    requires { ⌜ Lent n (now lens) (now addrs) (now index) (now soft) ⌝ }
-    ensures { λ r. ⌜ Counted (codeOf n (now (lens .entry)) (now (addrs .entry))) (pOf n (now (lens .entry))) (begin n (now (soft .entry))) (r .count) (r .check) ⌝ }
+pub fn soft_unmet(p: usize, lists: &[u32], soft: &[i8]) -> Unmet
+    requires { ⌜ Lent p (now lists) (now soft) ⌝ }
+    ensures { λ r. ⌜ Counted (codeIn p (now (lists .entry))) p (begin (length (now (soft .entry))) (now (soft .entry))) (r .count) (r .check) ⌝ }
 {
-    let p = ldpc_shape::checks(n, lens, addrs);
     let mut count: u32 = 0;
     let mut check: usize = 0;
     let mut c: usize = 0;
     while c < p {
-        if odd(index, p, c, soft) {
+        if odd(lists, p, c, soft) {
             count += 1;
             check = c;
         }
@@ -95,23 +91,28 @@ pub fn soft_bits(n: usize, soft: &[i8], out: &mut [u8])
     }
 }
 
+// The BCH result of a lost word.
+pub const LOST: u32 = 4294967295;
+
 // The number that stands for BCH's answer.
 fn result_of(answer: Decoded) -> u32
     ensures { λ r. ⌜ r ≡ bchResult answer ⌝ }
 {
     match answer {
         Decoded::Corrected(k) => k,
-        Decoded::Uncorrectable => 4294967295,
-        Decoded::Refused(_) => 4294967295,
+        Decoded::Uncorrectable => LOST,
+        Decoded::Refused(_) => LOST,
     }
 }
 
-// A word's BCH part, `size` bits from `first` on, corrected inside it.
-pub fn correct(word: &mut [u8], first: usize, size: usize) -> u32
-    requires { ⌜ first + size ≤ length (now word) ⌝ }
-    ensures result { λ r. ⌜ r ≡ bchOf first size (now (word .entry)) ⌝ }
-    ensures bits { λ r. ⌜ now (word .exit) ≡ corrected first size (now (word .entry)) ⌝ }
+// A word's BCH part corrected inside it. BCH's result.
+pub fn correct(word: &mut [u8], part: Part) -> u32
+    requires { ⌜ part .first + part .length ≤ length (now word) ⌝ }
+    ensures result { λ r. ⌜ r ≡ bchOf part (now (word .entry)) ⌝ }
+    ensures bits { λ r. ⌜ now (word .exit) ≡ corrected part (now (word .entry)) ⌝ }
 {
+    let first = part.first as usize;
+    let size = part.length as usize;
     let end = first + size;
     let answer = bch::decode(&mut word[first..end]);
     result_of(answer)
@@ -138,7 +139,7 @@ pub fn kept_of(state: u32, bch: u32) -> u32
     ensures { λ r. ⌜ r ≡ keptOf state bch ⌝ }
 {
     if is_finished(state) {
-        if bch == 4294967295 { 0 } else { 1 }
+        if bch == LOST { 0 } else { 1 }
     } else {
         0
     }
@@ -149,7 +150,7 @@ pub fn lost_of(state: u32, bch: u32) -> u32
     ensures { λ r. ⌜ r ≡ lostOf state bch ⌝ }
 {
     if is_finished(state) {
-        if bch == 4294967295 { 1 } else { 0 }
+        if bch == LOST { 1 } else { 0 }
     } else {
         0
     }

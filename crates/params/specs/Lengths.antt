@@ -1,4 +1,4 @@
--- The lengths of the code with rate r / 120.
+-- The lengths of the code with rate r / 120. A difference that would be below 0 is 0, so that they have a value at every r.
 use mathlib.Core.List.{List, [], _∷_}
 use Prim.Native.Nat.{ℕ, _-_, _*_}
 

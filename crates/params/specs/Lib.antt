@@ -1,2 +1,3 @@
--- The lengths.
+-- The lengths, and that they are a code's.
 pub mod Lengths
+pub mod Codes

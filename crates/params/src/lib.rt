@@ -1,13 +1,12 @@
 // Lengths of ISDB-S3 (ARIB STD-B44 v2.1 sections 3.2 to 3.4): the code, the slot, the frame, and the eleven rates r / 120.
 ghost use mathlib.Core.Path.{_≡_};
-ghost use Prim.Native.Nat.{_<_, _≤_};
 ghost use lib.ListN.{getD};
 ghost use Rattle.params.specs.Lengths.{rates, kOf, pOf, qOf, dataOf};
 
 // LDPC code length.
 pub const N_LDPC: u32 = 44880;
 // Information bits to a row of the address table.
-pub const GROUP: u32 = 374;
+pub const GROUP: u32 = ldpc_shape::GROUP_U32;
 // Slot header bits.
 pub const HEADER_BITS: u32 = 176;
 // BCH parity bits.
@@ -50,42 +49,46 @@ fn wide(x: u8) -> u32
     x as u32
 }
 
-// The i-th rate's numerator.
-pub fn rate(i: usize) -> u32
-    requires { ⌜ i < 11 ⌝ }
+// The i-th rate's numerator; 0 from the twelfth on, of which there is none.
+pub fn rate(i: usize) -> u8
     ensures { λ r. ⌜ r ≡ getD rates i 0 ⌝ }
 {
-    wide(RATES[i])
+    if i < 11 {
+        return RATES[i];
+    }
+    0
 }
 
 // LDPC information bits, 374 r.
-pub fn k_ldpc(r: u32) -> u32
-    requires { ⌜ r ≤ 120 ⌝ }
+pub fn k_ldpc(r: u8) -> u32
     ensures { λ x. ⌜ x ≡ kOf r ⌝ }
 {
-    GROUP * r
+    GROUP * wide(r)
 }
 
-// Parity checks, n - k.
-pub fn checks(r: u32) -> u32
-    requires { ⌜ r ≤ 120 ⌝ }
+// Parity checks, n - k; none where r is above 120.
+pub fn checks(r: u8) -> u32
     ensures { λ x. ⌜ x ≡ pOf r ⌝ }
 {
+    if 120 < r {
+        return 0;
+    }
     N_LDPC - k_ldpc(r)
 }
 
 // q of the parity addressing, 120 - r.
-pub fn q(r: u32) -> u32
-    requires { ⌜ r ≤ 120 ⌝ }
+pub fn q(r: u8) -> u32
     ensures { λ x. ⌜ x ≡ qOf r ⌝ }
 {
     checks(r) / GROUP
 }
 
-// Main data bits to a slot, k - 176 - 192 - 6.
-pub fn data_bits(r: u32) -> u32
-    requires { ⌜ (0 < r) × (r ≤ 120) ⌝ }
+// Main data bits to a slot, k - 176 - 192 - 6; none where r is 0.
+pub fn data_bits(r: u8) -> u32
     ensures { λ x. ⌜ x ≡ dataOf r ⌝ }
 {
+    if r == 0 {
+        return 0;
+    }
     k_ldpc(r) - HEADER_BITS - BCH_PARITY_BITS - STUFF_BITS
 }

@@ -5,19 +5,13 @@ fn show(x: u32) {
 }
 
 fn line(i: usize) {
-    if i < 11 {
-        let r = params::rate(i);
-        if 0 < r {
-            if r <= 120 {
-                io::print_decimal(1, r as u64);
-                show(params::k_ldpc(r));
-                show(params::checks(r));
-                show(params::q(r));
-                show(params::data_bits(r));
-                io::write_all(1, b"\n");
-            }
-        }
-    }
+    let r = params::rate(i);
+    io::print_decimal(1, r as u64);
+    show(params::k_ldpc(r));
+    show(params::checks(r));
+    show(params::q(r));
+    show(params::data_bits(r));
+    io::write_all(1, b"\n");
 }
 
 fn rates() {

@@ -1,10 +1,7 @@
 -- "One f32 product, rounded to the nearest whole number with halves away from zero, clamped to ±127. A NaN gives 0."
-use mathlib.Core.Path.{_≡_}
 use mathlib.Core.Bool.{Bool, true, false, cond}
 use mathlib.Core.List.{List, map, _++_}
-use Prim.Native.Nat.{ℕ, zero, suc, _+_, _*_, _/_, _%_, _<_, _≤_, min}
-use native.Mathlib.Nat.{div-add-mod', mod-lt}
-use native.Mathlib.Omega.{arith}
+use Prim.Native.Nat.{ℕ, zero, suc, _+_, _*_, _/_, min}
 use lib.Dec.{eqb, ltb}
 use lib.IntN.{ℤ, pos, negℤ}
 use lib.Ieee.{Float, nan, inf, fin, up, down, binary32, mul}
@@ -33,8 +30,8 @@ abbrev pub softOf : Float → Float → ℤ
 softOf scale x = softValue (mul binary32 x scale)
 
 -- "13. A lent output or work slice is too short": here where the output is shorter than the input. 0 where nothing is refused
-abbrev pub refusalOf : List Float → List ℤ → ℕ
-refusalOf llr out = cond (ltb (length out) (length llr)) 13 0
+abbrev pub quantiseRefusal : List Float → List ℤ → ℕ
+quantiseRefusal llr out = cond (ltb (length out) (length llr)) 13 0
 
 -- the scope's number of each answer, 0 where nothing is refused
 abbrev pub quantisedNumber : Quantised → ℕ
@@ -52,12 +49,4 @@ writtenOf llr scale out = map (softOf scale) llr ++ drop (length llr) out
 
 -- the output at exit: a refusal changes nothing
 abbrev pub outputOf : List Float → Float → List ℤ → List ℤ
-outputOf llr scale out = cond (eqb (refusalOf llr out) 0) (writtenOf llr scale out) out
-
--- what `nearest` means: it is within a half of num / den, and of two whole numbers at a half it is the upper one
-pub nearest-within : (num den : ℕ) → 0 < den → (nearest num den * den * 2 ≤ num * 2 + den) × (num * 2 < nearest num den * den * 2 + den)
-nearest-within num den h =
-    let whole : (num * 2 + den) / (den * 2) * (den * 2) + (num * 2 + den) % (den * 2) ≡ num * 2 + den = div-add-mod' (num * 2 + den) (den * 2) in
-    let d : 0 < den * 2 = omega arith in
-    let rest : (num * 2 + den) % (den * 2) < den * 2 = mod-lt (num * 2 + den) d in
-    (omega arith, omega arith)
+outputOf llr scale out = cond (eqb (quantiseRefusal llr out) 0) (writtenOf llr scale out) out

@@ -3,7 +3,7 @@
 ghost use mathlib.Core.Path.{_≡_};
 ghost use Prim.Native.Nat.{_<_, _≤_};
 ghost use lib.ListN.{length};
-ghost use Rattle.quantise.specs.Soft.{softOf, refusalOf, quantisedNumber, answerOf, writtenOf, outputOf};
+ghost use Rattle.quantise.specs.Soft.{softOf, quantiseRefusal, quantisedNumber, answerOf, writtenOf, outputOf};
 ghost use Rattle.quantise.specs.Bits.{sizeOf};
 
 pub enum Quantised {
@@ -15,9 +15,9 @@ pub enum Quantised {
 
 // The soft values of `llr` times `scale`, into the front of `out`; the rest of `out` stays.
 pub fn quantise(llr: &[f32], scale: f32, out: &mut [i8]) -> Quantised
-    ensures answer { λ r. ⌜ r ≡ answerOf (refusalOf (now (llr .entry)) (now (out .entry))) ⌝ }
+    ensures answer { λ r. ⌜ r ≡ answerOf (quantiseRefusal (now (llr .entry)) (now (out .entry))) ⌝ }
     ensures output { λ r. ⌜ now (out .exit) ≡ outputOf (now (llr .entry)) scale (now (out .entry)) ⌝ }
-    ensures number { λ r. ⌜ quantisedNumber r ≡ refusalOf (now (llr .entry)) (now (out .entry)) ⌝ }
+    ensures number { λ r. ⌜ quantisedNumber r ≡ quantiseRefusal (now (llr .entry)) (now (out .entry)) ⌝ }
 {
     if out.len() < llr.len() {
         return Quantised::Refused(13);

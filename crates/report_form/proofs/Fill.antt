@@ -9,13 +9,13 @@ use native.Mathlib.Omega.{arith}
 use lib.IntN.{ℤ}
 use lib.ListN.{length, drop, getD, set, replicate, length-set, length-replicate}
 use lib.Seq.{sets, length-sets}
-use Rattle.laws.specs.Decimal.{Stops, signed}
-use Rattle.report_form.specs.Description.{Pair, Word, Ascending, All, each}
+use Rattle.laws.specs.Decimal.{Stops}
+use Rattle.laws.specs.Definitions.{signed}
+use Rattle.report_form.specs.Description.{Pair, Word, Ascending, All, each, stored, softWord, softWords}
 use Rattle.report_form.specs.Form.{Reads, must-find, lead, one-byte}
-use Rattle.report_form.specs.Forms.{smalls, pairForm, pairFrom, pairText, PairWithin, pairs-fine, wordForm, LineWithin, lines-fine}
-use Rattle.report_form.specs.Reading.{stored, softWord, softWords}
+use Rattle.report_form.specs.Forms.{smalls, pairForm, pairFrom, pairText, pairs-fine, wordForm, LineWithin, lines-fine}
 use Rattle.report_form.specs.Accepted.{soft-word-length}
-use Rattle.report_form.specs.Places.{PairsAt, PairsHere, WordAt, WordHere, WordsAt, WordsHere, Filled}
+use Rattle.report_form.specs.Places.{PairsAt, PairsHere, WordAt, WordHere, WordsAt, WordsHere, ReadAndStored}
 use Rattle.report_form.proofs.Bytes.{head-at, byte-here}
 use Rattle.laws.specs.Stores.{sets-append, replicate-snoc, set-sets}
 
@@ -59,43 +59,11 @@ pub record PairsLeft (n base : ℕ) (rest : List ℕ) (goal : List ℤ) (now : L
   pub here : now ≡ each pairText left ++ 10 ∷ rest
   pub stores : stored base left l ≡ goal
 
--- the next pair of those
-pub record NextPair (n base : ℕ) (rest : List ℕ) (goal : List ℤ) (now : List ℕ) (count : ℕ) (l : List ℤ) : Type 0 where
-  pub pair : Pair
-  pub more : List Pair
-  pub below : pair .position < n
-  pub within : PairWithin pair
-  pub rising : Ascending n (suc (pair .position)) more
-  pub short : n ≤ 1122
-  pub few : suc (count + length more) ≤ 64
-  pub here : now ≡ pairText pair ++ (each pairText more ++ 10 ∷ rest)
-  pub follow : Stops (each pairText more ++ 10 ∷ rest)
-  pub stores : stored base more (set l (base + pair .position) (pair .value)) ≡ goal
-
 stop : (ps : List Pair) (rest : List ℕ) → Stops (each pairText ps ++ 10 ∷ rest)
 stop [] rest = refl
 stop (p ∷ ps) rest = refl
 
 module _ {n base : ℕ} {rest : List ℕ} {goal : List ℤ} where
-  next-pair : {now : List ℕ} {count : ℕ} {l : List ℤ} → PairsLeft n base rest goal now count l → getD now 0 0 ≡ 9 → NextPair n base rest goal now count l
-  next-pair {now} {count} {l} p h = go (p .left) (p .rising) (p .few) (p .here) (p .stores)
-    where
-      go : (left : List Pair) → Ascending n (p .least) left → count + length left ≤ 64 → now ≡ each pairText left ++ 10 ∷ rest → stored base left l ≡ goal → NextPair n base rest goal now count l
-      go [] r f e s = absurd (omega (arith, ap (λ (x : List ℕ). getD x 0 0) e, h))
-      go (q ∷ more) r f e s =
-          record {
-            pair = q;
-            more = more;
-            below = r .1;
-            within = pairs-fine n (p .least) (q ∷ more) (p .short) r .0;
-            rising = r .3;
-            short = p .short;
-            few = omega arith;
-            here = e ∙ append-assoc (pairText q) (each pairText more) (10 ∷ rest);
-            follow = stop more rest;
-            stores = s;
-          }
-
   pub no-pair : {now : List ℕ} {count : ℕ} {l : List ℤ} → PairsLeft n base rest goal now count l → (64 ≤ count) ⊎ (getD now 0 0 ≡ 9 → ⊥) → (now ≡ 10 ∷ rest) × (l ≡ goal)
   no-pair {now} {count} {l} p h = go (p .left) (p .few) (p .here) (p .stores) h
     where
@@ -105,21 +73,26 @@ module _ {n base : ℕ} {rest : List ℕ} {goal : List ℤ} where
       go (q ∷ more) f e s (inr other) = absurd (other (ap (λ (x : List ℕ). getD x 0 0) e))
 
   -- a pair read is the next one
-  found-pair : {now next : List ℕ} {count position : ℕ} {l : List ℤ} {value : ℤ} {right : Bool} → NextPair n base rest goal now count l
+  found-pair : {now next : List ℕ} {count position : ℕ} {l : List ℤ} {value : ℤ} {right : Bool} → PairsLeft n base rest goal now count l → getD now 0 0 ≡ 9
       → Reads pairForm (λ p. p ≡ pairFrom position value) true right now next → (position < n) × PairsLeft n base rest goal next (count + 1) (set l (base + position) value)
-  found-pair {now} {next} {count} {position} {l} {value} x h =
-      let (e, u) = must-find h (x .pair) (each pairText (x .more) ++ 10 ∷ rest) (x .within) (x .follow) (x .here) in (
-        subst (λ (p : Pair). p .position < n) e (x .below),
-        record {
-          left = x .more;
-          least = suc (x .pair .position);
-          rising = x .rising;
-          short = x .short;
-          few = omega (arith, x .few);
-          here = u;
-          stores = ap (λ (p : Pair). stored base (x .more) (set l (base + p .position) (p .value))) (sym e) ∙ x .stores;
-        },
-      )
+  found-pair {now} {next} {count} {position} {l} {value} p h reads = go (p .left) (p .rising) (p .few) (p .here) (p .stores)
+    where
+      go : (left : List Pair) → Ascending n (p .least) left → count + length left ≤ 64 → now ≡ each pairText left ++ 10 ∷ rest → stored base left l ≡ goal
+          → (position < n) × PairsLeft n base rest goal next (count + 1) (set l (base + position) value)
+      go [] r f e s = absurd (omega (arith, ap (λ (x : List ℕ). getD x 0 0) e, h))
+      go (q ∷ more) r f e s =
+          let (is, u) = must-find reads q (each pairText more ++ 10 ∷ rest) (pairs-fine n (p .least) (q ∷ more) (p .short) r .0) (stop more rest) (e ∙ append-assoc (pairText q) (each pairText more) (10 ∷ rest)) in (
+            subst (λ (x : Pair). x .position < n) is (r .1),
+            record {
+              left = more;
+              least = suc (q .position);
+              rising = r .3;
+              short = p .short;
+              few = omega arith;
+              here = u;
+              stores = ap (λ (x : Pair). stored base more (set l (base + x .position) (x .value))) (sym is) ∙ s;
+            },
+          )
 
 -- for whatever pairs stand at the start, those that are left
 pub record Filling (n base : ℕ) (t : List ℕ) (l : List ℤ) (now : List ℕ) (count : ℕ) (l′ : List ℤ) : Type 0 where
@@ -139,15 +112,15 @@ pub filling-again : (n base : ℕ) (t : List ℕ) (l : List ℤ) (now : List ℕ
 filling-again n base t l now count l′ position value f h r =
     record {
       same = length-set l′ (base + position) value ∙ f .same;
-      left = λ ps rest a. found-pair (next-pair (f .left ps rest a) h) r .1;
+      left = λ ps rest a. found-pair (f .left ps rest a) h r .1;
     }
 
 -- where there are pairs, the position read is below n
 pub filling-below : (n base : ℕ) (t : List ℕ) (l : List ℤ) (now : List ℕ) (count : ℕ) (l′ : List ℤ) (position : ℕ) (value : ℤ) {right : Bool} {next : List ℕ}
     → Filling n base t l now count l′ → getD now 0 0 ≡ 9 → Reads pairForm (λ p. p ≡ pairFrom position value) true right now next → PairsHere n t → position < n
-filling-below n base t l now count l′ position value f h r x = found-pair (next-pair (f .left (x .pairs) (x .rest) (x .at-place)) h) r .0
+filling-below n base t l now count l′ position value f h r x = found-pair (f .left (x .pairs) (x .rest) (x .at-place)) h r .0
 
-pub filled-here : (text : List ℕ) (i : ℕ) (rest : List ℕ) {l goal : List ℤ} → (drop i text ≡ 10 ∷ rest) × (l ≡ goal) → Filled (drop (i + 1) text) rest l goal
+pub filled-here : (text : List ℕ) (i : ℕ) (rest : List ℕ) {l goal : List ℤ} → (drop i text ≡ 10 ∷ rest) × (l ≡ goal) → ReadAndStored (drop (i + 1) text) rest l goal
 filled-here text i rest h =
     let b : getD text i 0 ≡ 10 = sym (head-at text i) ∙ ap (λ (l : List ℕ). getD l 0 0) (h .0) in
     let e : 10 ∷ drop (i + 1) text ≡ 10 ∷ rest = sym (byte-here text i 10 (omega arith) b) ∙ h .0 in
@@ -185,8 +158,8 @@ word-pairs-here n text at x h = record { pairs = x .word .pairs; rest = x .rest;
 
 pub word-filled : (n : ℕ) (text : List ℕ) (at base : ℕ) (l : List ℤ) {l₁ l₂ : List ℤ} {value : ℤ} {right : Bool} {next behind : List ℕ} → base + n ≤ length l
     → Reads (lead 9 smalls) (λ v. v ≡ value) true right (drop (at + 1) text) next → l₁ ≡ sets l base (replicate n value)
-    → ((ps : List Pair) (rest : List ℕ) → PairsAt n next ps rest → Filled behind rest l₂ (stored base ps l₁)) → (w : Word) (rest : List ℕ) → WordAt n (drop at text) w rest
-    → Filled behind rest l₂ (sets l base (softWord n w))
+    → ((ps : List Pair) (rest : List ℕ) → PairsAt n next ps rest → ReadAndStored behind rest l₂ (stored base ps l₁)) → (w : Word) (rest : List ℕ) → WordAt n (drop at text) w rest
+    → ReadAndStored behind rest l₂ (sets l base (softWord n w))
 word-filled n text at base l {value = value} room h d p w rest a =
     let (e, x) = word-default n text at w rest a h in
     let f = p (w .pairs) rest x in
@@ -234,7 +207,7 @@ module _ {n : ℕ} {goal : List ℤ} where
       go (w ∷ more) f e s (inr other) = absurd (other (ap (λ (x : List ℕ). getD x 0 0) e))
 
   word-left : {now next : List ℕ} {count base : ℕ} {l l′ : List ℤ} → NextWord n goal now count base l
-      → ((w : Word) (rest : List ℕ) → WordAt n now w rest → Filled next rest l′ (sets l base (softWord n w))) → WordsLeft n goal next (count + 1) (base + n) l′
+      → ((w : Word) (rest : List ℕ) → WordAt n now w rest → ReadAndStored next rest l′ (sets l base (softWord n w))) → WordsLeft n goal next (count + 1) (base + n) l′
   word-left {base = base} {l} {l′} x f =
       let g = f (x .word) (each (wordForm n .write) (x .more)) (x .at-place) in
       record {
@@ -262,7 +235,7 @@ words-filling-start n t l =
     }
 
 pub words-filling-again : (n : ℕ) (t : List ℕ) (l : List ℤ) (now : List ℕ) (count base : ℕ) (l′ : List ℤ) {next : List ℕ} {l″ : List ℤ} → FillingWords n t l now count base l′
-    → n ≤ 1122 → getD now 0 0 ≡ 87 → length l″ ≡ length l′ → ((w : Word) (rest : List ℕ) → WordAt n now w rest → Filled next rest l″ (sets l′ base (softWord n w)))
+    → n ≤ 1122 → getD now 0 0 ≡ 87 → length l″ ≡ length l′ → ((w : Word) (rest : List ℕ) → WordAt n now w rest → ReadAndStored next rest l″ (sets l′ base (softWord n w)))
     → FillingWords n t l next (count + 1) (base + n) l″
 words-filling-again n t l now count base l′ f short h k g =
     record {

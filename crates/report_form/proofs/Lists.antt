@@ -9,6 +9,7 @@ use borrow.Author.Tests.{ltb-true, ltb-false, eqb-true, eqb-false}
 use lib.Dec.{ltb, eqb}
 use lib.ListN.{length, drop, getD, length-append}
 use Rattle.report_form.specs.Description.{All}
+use Rattle.report_form.specs.Form.{Items, ListEnds}
 use Rattle.report_form.proofs.Bytes.{head-at}
 
 and-false-or : (a b : Bool) → (a && b) ≡ false → (a ≡ false) ⊎ (b ≡ false)
@@ -19,16 +20,6 @@ goes-yes : {r : Bool} (count most b mark : ℕ) → r ≡ (ltb count most && eqb
 goes-yes count most b mark e h =
     let (p, q) = and-eq-true-iff (ltb count most) (eqb b mark) .0 (sym e ∙ h) in
     (ltb-true count most p, eqb-true b mark q)
-
-goes-no : {r : Bool} (count most b mark : ℕ) → r ≡ (ltb count most && eqb b mark) → r ≡ false → (most ≤ count) ⊎ (b ≡ mark → ⊥)
-goes-no count most b mark e h = go (and-false-or (ltb count most) (eqb b mark) (sym e ∙ h))
-  where
-    go : (ltb count most ≡ false) ⊎ (eqb b mark ≡ false) → (most ≤ count) ⊎ (b ≡ mark → ⊥)
-    go (inl p) = inl (ltb-false count most p)
-    go (inr q) = inr (eqb-false b mark q)
-
-pub too-many : {A : Type 0} (most : ℕ) (xs : List A) (x : A) (more : List A) → length (xs ++ x ∷ more) ≤ most → most ≤ length xs → ⊥
-too-many most xs x more h l = omega (arith, length-append xs (x ∷ more))
 
 pub length-snoc : {A : Type 0} (xs : List A) (x : A) → length (xs ++ x ∷ []) ≡ suc (length xs)
 length-snoc xs x = omega (arith, length-append xs (x ∷ []))
@@ -41,12 +32,18 @@ pub goes-room : {r : Bool} (text : List ℕ) (count most i mark : ℕ) → r ≡
 goes-room text count most i mark e h = goes-yes count most (getD text i 0) mark e h .0
 
 pub goes-end : {r : Bool} (text : List ℕ) (count most i mark : ℕ) → r ≡ (ltb count most && eqb (getD text i 0) mark) → r ≡ false → (most ≤ count) ⊎ (getD (drop i text) 0 0 ≡ mark → ⊥)
-goes-end text count most i mark e h = go (goes-no count most (getD text i 0) mark e h)
+goes-end text count most i mark e h = go (and-false-or (ltb count most) (eqb (getD text i 0) mark) (sym e ∙ h))
   where
-    go : (most ≤ count) ⊎ (getD text i 0 ≡ mark → ⊥) → (most ≤ count) ⊎ (getD (drop i text) 0 0 ≡ mark → ⊥)
-    go (inl full) = inl full
-    go (inr other) = inr (λ q. other (sym (head-at text i) ∙ q))
+    go : (ltb count most ≡ false) ⊎ (eqb (getD text i 0) mark ≡ false) → (most ≤ count) ⊎ (getD (drop i text) 0 0 ≡ mark → ⊥)
+    go (inl p) = inl (ltb-false count most p)
+    go (inr q) = inr (λ g. eqb-false (getD text i 0) mark q (sym (head-at text i) ∙ g))
 
 pub all-snoc : {A : Type 0} (P : A → Type 0) (xs : List A) (x : A) → All P xs → P x → All P (xs ++ x ∷ [])
 all-snoc P [] x h p = (p, tt)
 all-snoc P (y ∷ ys) x h p = (h .0, all-snoc P ys x (h .1) p)
+
+-- a list that is counted ends where it is full, or where no mark is
+pub list-ends : {A : Type 0} (I : Items A) (Fine : List A → Type 0) (fine : (xs : List A) → Fine xs → All (I .form .Within) xs) (Says : List A → Type 0) (most count : ℕ)
+    → ((xs : List A) → Fine xs → length xs ≤ most) → ((xs : List A) → Says xs → length xs ≡ count) → (now : List ℕ) → (most ≤ count) ⊎ (getD now 0 0 ≡ I .mark → ⊥) → ListEnds I Fine fine Says now
+list-ends I Fine fine Says most count few is now (inl full) xs s = inr (λ x more w. omega (arith, length-append xs (x ∷ more), few (xs ++ x ∷ more) w, is xs s, full))
+list-ends I Fine fine Says most count few is now (inr other) xs s = inl other

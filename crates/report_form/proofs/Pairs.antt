@@ -9,9 +9,9 @@ use native.Mathlib.Omega.{arith}
 use lib.IntN.{ℤ}
 use lib.ListN.{length, getD}
 use Rattle.report_form.specs.Description.{Pair, Small, Ascending}
-use Rattle.report_form.specs.Form.{Found, Missing, Reads, reads-any, byte, Ongoing, Hopeless, Ends, going-start, going-more, going-missing, going-wrong, chain-reads, chain-missing}
+use Rattle.report_form.specs.Form.{Found, Missing, Reads, reads-any, byte, Ongoing, Hopeless, going-start, going-more, going-missing, going-wrong, chain-reads, chain-missing}
 use Rattle.report_form.specs.Forms.{pairForm, pairFrom, pairs, PairsWithin, pairs-within, pairs-apart, pair-chain}
-use Rattle.report_form.proofs.Lists.{too-many, length-snoc}
+use Rattle.report_form.proofs.Lists.{list-ends, length-snoc}
 
 -- the least position that may come behind pairs
 abbrev pub leastOf : ℕ → List Pair → ℕ
@@ -74,14 +74,10 @@ module _ (n : ℕ) where
       go more r (inl l) = omega (arith, r .0, o .says .least-is, ap (λ (p : Pair). p .position) (f .says))
       go more r (inr l) = omega (arith, r .1, ap (λ (p : Pair). p .position) (f .says))
 
-  pairs-end : (least count : ℕ) (now : List ℕ) → (64 ≤ count) ⊎ (getD now 0 0 ≡ 9 → ⊥) → Ends pairs (PairsWithin n) (pairs-within n) (PairsSo least count) now
-  pairs-end least count now (inl full) xs s = inr (λ x more w. too-many 64 xs x more (w .few) (omega (arith, s .count-is)))
-  pairs-end least count now (inr other) xs s = inl other
-
   pub pairs-hopeless : {l : Bool} {t u : List ℕ} → NoPairs t → Reads (pair-chain n) (λ _. Unit) l false t u
   pairs-hopeless h = chain-missing pairs (PairsWithin n) (pairs-within n) (byte 10) (λ b r _ _. pairs-apart n r) h
 
   pub pairs-read : (least count : ℕ) {l l′ : Bool} {t now next : List ℕ} → PairsSoFar least count t now → (64 ≤ count) ⊎ (getD now 0 0 ≡ 9 → ⊥)
       → Reads (byte 10) (λ _. Unit) l l′ now next → Reads (pair-chain n) (λ _. Unit) l l′ t next
   pairs-read least count {now = now} o e h =
-      reads-any (chain-reads pairs (PairsWithin n) (pairs-within n) (byte 10) (λ b r _ _. pairs-apart n r) o (pairs-end least count now e) h)
+      reads-any (chain-reads pairs (PairsWithin n) (pairs-within n) (byte 10) (λ b r _ _. pairs-apart n r) o (list-ends pairs (PairsWithin n) (pairs-within n) (PairsSo least count) 64 count (λ _ w. w .few) (λ _ s. s .count-is) now e) h)

@@ -1,8 +1,8 @@
 -- A row's addresses and the rows, read one by one and laid into arrays.
 use mathlib.Core.Path.{_≡_, refl, sym, ap, ap₂, _∙_}
 use mathlib.Core.Bool.{Bool, false}
-use mathlib.Core.Logic.{_⊎_, inl, inr}
-use mathlib.Core.List.{List, [], _∷_, _++_, map, append-assoc, append-nil}
+use mathlib.Core.Logic.{_⊎_}
+use mathlib.Core.List.{List, [], _∷_, _++_, map, append-assoc, append-nil, map-append}
 use Prim.Native.Nat.{ℕ, suc, _+_, _*_, _≤_, _<_}
 use native.Mathlib.Nat.{zero-add}
 use native.Mathlib.Numerals.{add-one}
@@ -11,10 +11,10 @@ use lib.ListN.{length, getD, set, replicate, length-append, length-map}
 use lib.Seq.{sets}
 use Rattle.report_form.specs.Description.{RowWithin, flat}
 use Rattle.report_form.specs.Accepted.{flat-few}
-use Rattle.report_form.specs.Form.{Found, Missing, Reads, byte, lead, lead-reads, via-reads, Ongoing, Ends, Listed, listed, not-listed, going-start, going-more, going-missing, chain-reads, chain-missing}
-use Rattle.report_form.specs.Forms.{numbers, addresses, newline-apart, row-chain, rowForm, rows, RowsWithin, rows-within, RowsSo}
+use Rattle.report_form.specs.Form.{Found, Missing, Reads, byte, lead, lead-reads, via-reads, Ongoing, Listed, listed, not-listed, going-start, going-more, going-missing, chain-reads, chain-missing}
+use Rattle.report_form.specs.Forms.{rowFields, numbers, addresses, newline-apart, row-chain, rowForm, rows, RowsWithin, rows-within, RowsSo}
 use Rattle.laws.specs.Stores.{sets-append}
-use Rattle.report_form.proofs.Lists.{too-many, length-snoc, all-snoc}
+use Rattle.report_form.proofs.Lists.{list-ends, length-snoc, all-snoc}
 
 -- ---- a row
 
@@ -49,13 +49,9 @@ row-again into from count value places {t} {now} {next} o f c =
         ∙ ap₂ (λ (k : ℕ) (a : ℕ). set (sets into from row) (from + k) a) (sym n) (sym e)
         ∙ sym (sets-append into from row (v ∷ []))
 
-row-ends : (into : List ℕ) (from count : ℕ) (places now : List ℕ) → (4 ≤ count) ⊎ (getD now 0 0 ≡ 9 → ⊥) → Ends addresses RowWithin (λ xs w. w .addresses) (RowSo into from count places) now
-row-ends into from count places now (inl full) xs s = inr (λ x more w. too-many 4 xs x more (w .few) (omega (arith, s .count-is)))
-row-ends into from count places now (inr other) xs s = inl other
-
 row-form : {S : List ℕ × Unit → Type 0} {S′ : List ℕ → Type 0} {l l′ l″ : Bool} {t u v : List ℕ} → ((x : List ℕ × Unit) → S x → S′ (x .0)) → Reads (byte 82) (λ _. Unit) l l′ t u
     → Reads row-chain S l′ l″ u v → Reads rowForm S′ l l″ t v
-row-form s h g = via-reads (lead 82 row-chain) (λ row. (row, tt)) (λ x. x .0) (λ _. refl) (λ _. refl) RowWithin (λ _ w. (w, tt)) (λ _ w. w .0) s (lead-reads 82 row-chain h g)
+row-form s h g = via-reads (lead 82 row-chain) rowFields s (lead-reads 82 row-chain h g)
 
 pub row-none : {S : List ℕ → Type 0} (into : List ℕ) (from count : ℕ) (places : List ℕ) {l l′ : Bool} {t u now v : List ℕ} → Reads (byte 82) (λ _. Unit) l l′ t u
     → RowSoFar into from count places u now → getD now 0 0 ≡ 9 → Missing (lead 9 (numbers 65535)) now → Reads rowForm S l false t v
@@ -69,17 +65,13 @@ pub row-read : (into : List ℕ) (from count : ℕ) (places : List ℕ) {l l′ 
     → Reads rowForm (λ row. (length row ≡ count) × (places ≡ sets into from row)) l l″ t v
 row-read into from count places {now = now} h o e g =
     row-form (λ x s. (s .0 .count-is, s .0 .places-are)) h
-    (chain-reads addresses RowWithin (λ xs w. w .addresses) (byte 10) (λ b r _ _. newline-apart r) o (row-ends into from count places now e) g)
+    (chain-reads addresses RowWithin (λ xs w. w .addresses) (byte 10) (λ b r _ _. newline-apart r) o (list-ends addresses RowWithin (λ xs w. w .addresses) (RowSo into from count places) 4 count (λ _ w. w .few) (λ _ s. s .count-is) now e) g)
 
 -- ---- the rows
 
 flat-snoc : (rs : List (List ℕ)) (r : List ℕ) → flat (rs ++ r ∷ []) ≡ flat rs ++ r
 flat-snoc [] r = append-nil r
 flat-snoc (q ∷ rs) r = ap (λ (l : List ℕ). q ++ l) (flat-snoc rs r) ∙ sym (append-assoc q (flat rs) r)
-
-map-snoc : (rs : List (List ℕ)) (r : List ℕ) → map length (rs ++ r ∷ []) ≡ map length rs ++ length r ∷ []
-map-snoc [] r = refl
-map-snoc (q ∷ rs) r = ap (λ (l : List ℕ). length q ∷ l) (map-snoc rs r)
 
 abbrev pub RowsSoFar : ℕ → List ℕ → ℕ → List ℕ → List ℕ → List ℕ → Type 0
 RowsSoFar count lengths total places t now = Ongoing rows RowsWithin rows-within (RowsSo count lengths total places) t now
@@ -115,7 +107,7 @@ rows-again count lengths total places size places′ {t} {now} {next} o f c =
         ap (λ (l : List ℕ). set l count size) p
         ∙ ap₂ (λ (i a : ℕ). set (sets (replicate 3 0) 0 (map length rs)) i a) k (sym e)
         ∙ sym (sets-append (replicate 3 0) 0 (map length rs) (length r ∷ []))
-        ∙ ap (λ (l : List ℕ). sets (replicate 3 0) 0 l) (sym (map-snoc rs r))
+        ∙ ap (λ (l : List ℕ). sets (replicate 3 0) 0 l) (sym (map-append length rs (r ∷ [])))
 
     places-stored : (rs : List (List ℕ)) (r : List ℕ) → length (flat rs) ≡ total → places ≡ sets (replicate 12 0) 0 (flat rs) → places′ ≡ sets places total r
         → places′ ≡ sets (replicate 12 0) 0 (flat (rs ++ r ∷ []))
@@ -131,11 +123,6 @@ pub rows-none : {Says : List (List ℕ) → Type 0} (count : ℕ) (lengths : Lis
 rows-none count lengths total places {t = t} {now} o e m =
     not-listed rows RowsWithin rows-within (going-missing rows RowsWithin rows-within (RowsSo count lengths total places) t now o e m)
 
-rows-ends : (count : ℕ) (lengths : List ℕ) (total : ℕ) (places : List ℕ) (now : List ℕ) → (3 ≤ count) ⊎ (getD now 0 0 ≡ 82 → ⊥)
-    → Ends rows RowsWithin rows-within (RowsSo count lengths total places) now
-rows-ends count lengths total places now (inl full) xs s = inr (λ x more w. too-many 3 xs x more (w .three) (omega (arith, s .count-is)))
-rows-ends count lengths total places now (inr other) xs s = inl other
-
 pub rows-read : (count : ℕ) (lengths : List ℕ) (total : ℕ) (places : List ℕ) {l : Bool} {t now : List ℕ} → RowsSoFar count lengths total places t now
     → (3 ≤ count) ⊎ (getD now 0 0 ≡ 82 → ⊥) → Listed rows RowsWithin rows-within (RowsSo count lengths total places) l l t now
-rows-read count lengths total places {now = now} o e = listed rows RowsWithin rows-within o (rows-ends count lengths total places now e)
+rows-read count lengths total places {now = now} o e = listed rows RowsWithin rows-within o (list-ends rows RowsWithin rows-within (RowsSo count lengths total places) 3 count (λ _ w. w .three) (λ _ s. s .count-is) now e)

@@ -1,5 +1,5 @@
 -- A number with its sign, read by way of a number without.
-use mathlib.Core.Path.{_≡_, sym, ap, _∙_, subst}
+use mathlib.Core.Path.{_≡_, refl, sym, ap, _∙_, subst}
 use mathlib.Core.Bool.{Bool, cond}
 use mathlib.Core.List.{List, _∷_, _++_}
 use Prim.Native.Nat.{ℕ, zero, suc, _-_, _≤_, _<_}
@@ -11,10 +11,10 @@ use lib.ListN.{getD}
 use mir.Syntax.{w8, w32}
 use mir.Val.{SFits, toZ, ofZ}
 use mir.ValLaws.{toZ-pos, toZ-ofZ}
-use Rattle.laws.specs.Decimal.{decimal, signed, decimal-leads}
+use Rattle.laws.specs.Definitions.{decimal, signed}
 use Rattle.report_form.specs.Description.{Small}
 use Rattle.report_form.specs.Form.{Found, Missing}
-use Rattle.report_form.specs.Forms.{numbers, smalls}
+use Rattle.report_form.specs.Forms.{numbers, not-decimal, smalls}
 
 pub plus-found : (t u : List ℕ) (value : ℕ) (z : ℤ) → pos value ≡ z → Found (numbers 127) (λ v. v ≡ value) t u → Found smalls (λ v. v ≡ z) t u
 unfolding signed
@@ -28,13 +28,6 @@ plus-missing t h m = record { none = go }
     go : (z : ℤ) (r : List ℕ) → Small z → smalls .Follow r → t ≡ signed z ++ r → ⊥
     go (pos v) r w f e = m .none v r w f e
     go (negsuc v) r w f e = h (ap (λ (l : List ℕ). getD l 0 0) e)
-
-no-minus : (t : List ℕ) (v : ℕ) (r : List ℕ) → 45 ∷ t ≡ decimal v ++ r → ⊥
-no-minus t v r e =
-    let l = decimal-leads v in
-    let h : 45 ∷ t ≡ l .first ∷ (l .others ++ r) = e ∙ ap (λ (x : List ℕ). x ++ r) (l .is) in
-    let f : 45 ≡ l .first = cc in
-    omega (arith, l .low)
 
 pub minus-found : (t u : List ℕ) (value : ℕ) (z : ℤ) → (value ≡ 0 → ⊥) → negsuc (value - 1) ≡ z → Found (numbers 128) (λ v. v ≡ value) t u → Found smalls (λ v. v ≡ z) (45 ∷ t) u
 unfolding signed
@@ -53,7 +46,7 @@ unfolding signed
 minus-missing t m = record { none = go }
   where
     go : (z : ℤ) (r : List ℕ) → Small z → smalls .Follow r → 45 ∷ t ≡ signed z ++ r → ⊥
-    go (pos v) r w f e = no-minus t v r e
+    go (pos v) r w f e = not-decimal (45 ∷ t) v r refl e
     go (negsuc v) r w f e = let q : t ≡ decimal (suc v) ++ r = cc in m .none (suc v) r (omega arith) f q
 
 -- there is no -0
@@ -62,7 +55,7 @@ unfolding signed
 minus-zero t u value z f = record { none = go }
   where
     go : (y : ℤ) (r : List ℕ) → Small y → smalls .Follow r → 45 ∷ t ≡ signed y ++ r → ⊥
-    go (pos v) r w g e = no-minus t v r e
+    go (pos v) r w g e = not-decimal (45 ∷ t) v r refl e
     go (negsuc v) r w g e =
         let q : t ≡ decimal (suc v) ++ r = cc in
         let p = numbers 128 .unique (suc v) (f .it) r u (omega arith) (f .within) g (f .after) (sym q ∙ f .here) in

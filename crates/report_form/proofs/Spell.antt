@@ -1,16 +1,16 @@
 -- Digits read one by one: the number that they spell so far.
-use mathlib.Core.Path.{_≡_, refl, sym, ap, ap₂, _∙_, subst}
-use mathlib.Core.Bool.{true, false, _&&_}
+use mathlib.Core.Path.{_≡_, refl, sym, ap, _∙_, subst}
+use mathlib.Core.Bool.{true, false}
 use mathlib.Core.List.{List, [], _∷_, _++_, append-assoc}
 use Prim.Native.Nat.{ℕ, _+_, _-_, _*_, _≤_, _<_}
 use native.Mathlib.Omega.{arith}
-use borrow.Author.Tests.{le-leb}
 use lib.Dec.{T, leb, leb→le}
 use lib.Ieee.Fits.{and-l, and-r}
 use lib.ListN.{drop, getD}
-use Rattle.laws.specs.Decimal.{decimal, digit, decimal-small, decimal-snoc, decimal-digits, decimal-prefix, decimal-leads, span-prefix}
+use Rattle.laws.specs.Decimal.{digit, decimal-small, decimal-snoc, decimal-digits, decimal-prefix, decimal-leads, span-prefix}
+use Rattle.laws.specs.Definitions.{decimal}
 use Rattle.report_form.specs.Form.{Found, Missing}
-use Rattle.report_form.specs.Forms.{numbers}
+use Rattle.report_form.specs.Forms.{numbers, not-decimal}
 use Rattle.report_form.proofs.Bytes.{head-at, byte-here}
 
 pub digit-bounds : (b : ℕ) → digit b ≡ true → (48 ≤ b) × (b ≤ 57)
@@ -89,13 +89,4 @@ zero-missing t at most e h =
 
 -- a number begins with a digit
 pub digit-missing : (t : List ℕ) (at most : ℕ) → digit (getD t at 0) ≡ false → Missing (numbers most) (drop at t)
-digit-missing t at most h =
-    record {
-      none = λ x r w f g.
-          let l = decimal-leads x in
-          let p : getD (drop at t) 0 0 ≡ l .first = ap (λ (xs : List ℕ). getD xs 0 0) (g ∙ ap (λ (xs : List ℕ). xs ++ r) (l .is)) in
-          subst T (sym (digit-yes (l .first) (l .low) (l .high)) ∙ ap digit (sym p ∙ head-at t at) ∙ h) tt;
-    }
-  where
-    digit-yes : (b : ℕ) → 48 ≤ b → b ≤ 57 → digit b ≡ true
-    digit-yes b lo hi = ap₂ _&&_ (le-leb 48 b lo) (le-leb b 57 hi)
+digit-missing t at most h = record { none = λ x r w f g. not-decimal (drop at t) x r (ap digit (head-at t at) ∙ h) g }

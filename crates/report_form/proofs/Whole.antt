@@ -8,11 +8,11 @@ use native.Mathlib.Omega.{arith}
 use lib.IntN.{ℤ}
 use lib.ListN.{length, drop, replicate, length-replicate, length-map}
 use lib.Seq.{sets, sets-eq}
-use Rattle.report_form.specs.Description.{Settings, Word, Description, Within, each, render, flat}
-use Rattle.report_form.specs.Form.{Found, Missing, Reads, missing-there, byte, lead, lead-reads, seq-reads, Ongoing, Listed, listed-reads}
+use Rattle.report_form.specs.Description.{Settings, Word, Description, Within, each, render, flat, softWords}
+use Rattle.report_form.specs.Form.{Found, Missing, Reads, byte, lead, lead-reads, seq-reads, Ongoing, Listed, listed-reads}
 use Rattle.report_form.specs.Forms.{numbers, rows, RowsWithin, rows-within, RowsSo, settingsForm, SettingsSo, settingsThen, settings-apart, wordForm, wordsForm, Body, bodyForm, headForm}
 use Rattle.report_form.specs.Unique.{bodyOf, descriptionOf, body-within, description-within, render-is, render-injective}
-use Rattle.report_form.specs.Reading.{padded, readingOf, softWords, overlaid, OneDescription}
+use Rattle.report_form.specs.Reading.{padded, readingOf, overlaid, OneDescription}
 use Rattle.report_form.specs.Accepted.{flat-few, soft-words-length}
 use Rattle.report_form.specs.Places.{WordsAt, WordsHere}
 use Rattle.report_form.specs.declared.Reading.{Reading}
@@ -27,7 +27,7 @@ head-bound n f = subst (λ (k : ℕ). k ≤ 1122) (f .says .0) (f .within .0)
 -- no first line
 pub no-head : {S : ℕ × Unit → Type 0} {l : Bool} {t u : List ℕ} → Reads headForm S true l t u → l ≡ false → (d : Description) → Within d → render d ≡ t → ⊥
 no-head h e d w q =
-    missing-there h e .none (d .n, tt) (bodyForm (d .n) .write (bodyOf d) ++ []) (w .n, tt) tt (sym q ∙ render-is d)
+    h .missing refl e .none (d .n, tt) (bodyForm (d .n) .write (bodyOf d) ++ []) (w .n, tt) tt (sym q ∙ render-is d)
 
 pub body-reads : {S : List (List ℕ) → Type 0} {S′ : Settings → Type 0} {S″ : List Word × Unit → Type 0} (n : ℕ) {l l′ l″ l‴ : Bool} {t u v w : List ℕ}
     → Listed rows RowsWithin rows-within S l l′ t u → Reads settingsForm S′ l′ l″ u v → Reads (wordsForm n) S″ l″ l‴ v w
@@ -102,18 +102,18 @@ soft-room n ws h l = omega (arith, soft-words-length n ws, mul-le-mul-right n l)
 joined : (n : ℕ) (a r s w : List ℕ) → a ++ (r ++ (s ++ ((w ++ []) ++ []))) ≡ a ++ ((r ++ (s ++ (w ++ []))) ++ [])
 joined n a r s w = simp (append-assoc, append-nil)
 
-module _ (n count : ℕ) (lengths : List ℕ) (total : ℕ) (places : List ℕ) (lanes iterations : ℕ) (offset : ℤ) (steps : Bool) (step rounds first bits k : ℕ) {t u v w x : List ℕ}
-    (h : Found headForm (λ y. (y .0 ≡ n) × Unit) t u) (o : Ongoing rows RowsWithin rows-within (RowsSo count lengths total places) u v) (g : Found settingsForm (SettingsSo lanes iterations offset steps step rounds first bits) v w) (f : Found (wordsForm n) (λ y. length (y .0) ≡ k) w x) where
-  told : Description
-  told = descriptionOf n (o .done, (g .it, f .it))
+module _ (n count : ℕ) (lengths : List ℕ) (total : ℕ) (places : List ℕ) (lanes iteration-limit : ℕ) (offset : ℤ) (steps : Bool) (step round-limit part-first part-length k : ℕ) {t u v w x : List ℕ}
+    (h : Found headForm (λ y. (y .0 ≡ n) × Unit) t u) (o : Ongoing rows RowsWithin rows-within (RowsSo count lengths total places) u v) (g : Found settingsForm (SettingsSo lanes iteration-limit offset steps step round-limit part-first part-length) v w) (f : Found (wordsForm n) (λ y. length (y .0) ≡ k) w x) where
+  described : Description
+  described = descriptionOf n (o .done, (g .it, f .it))
 
-  told-within : Within told
-  unfolding told
-  told-within = description-within n (o .done, (g .it, f .it)) (head-bound n h) (o .ok, (g .within, f .within))
+  described-within : Within described
+  unfolding described
+  described-within = description-within n (o .done, (g .it, f .it)) (head-bound n h) (o .ok, (g .within, f .within))
 
-  told-writes : render told ≡ t
-  unfolding told
-  told-writes = sym (
+  described-writes : render described ≡ t
+  unfolding described
+  described-writes = sym (
       h .here
       ∙ ap₂ (λ (i : ℕ) (l : List ℕ). headForm .write (i, tt) ++ l) (h .says .0) (o .here
       ∙ ap (λ (l : List ℕ). each (rows .form .write) (o .done) ++ l) (g .here
@@ -131,19 +131,19 @@ module _ (n count : ℕ) (lengths : List ℕ) (total : ℕ) (places : List ℕ) 
         total = total;
         addresses = places;
         lanes = lanes;
-        iterations = iterations;
+        «iteration_limit» = iteration-limit;
         offset = offset;
         layered = steps;
         step = step;
-        rounds = rounds;
-        first = first;
-        bits = bits;
+        «round_limit» = round-limit;
+        «part_first» = part-first;
+        «part_length» = part-length;
         words = k;
       }
 
-  told-answer : read-is ≡ readingOf told
-  unfolding told
-  told-answer =
+  described-answer : read-is ≡ readingOf described
+  unfolding described
+  described-answer =
       let p = rows-padded (o .done) (o .ok) (o .says) in
       let s = g .says in
       λ i.
@@ -155,29 +155,29 @@ module _ (n count : ℕ) (lengths : List ℕ) (total : ℕ) (places : List ℕ) 
         total = sym (o .says .total-is) i;
         addresses = p .1 i;
         lanes = sym (s .lanes-is) i;
-        iterations = sym (s .iterations-is) i;
+        «iteration_limit» = sym (s .iteration-limit-is) i;
         offset = sym (s .offset-is) i;
         layered = sym (s .order-is .layered-is) i;
         step = sym (s .order-is .step-is) i;
-        rounds = sym (s .rounds-is) i;
-        first = sym (s .first-is) i;
-        bits = sym (s .bits-is) i;
+        «round_limit» = sym (s .round-limit-is) i;
+        «part_first» = sym (s .part-first-is) i;
+        «part_length» = sym (s .part-length-is) i;
         words = sym (f .says) i;
       }
 
   pub one-description : (l l′ : List ℤ) → 17952 ≤ length l → l′ ≡ sets l 0 (softWords n (f .it .0)) → OneDescription t l read-is l′
-  unfolding told
+  unfolding described
   one-description l l′ room e =
       record {
-        description = told;
-        within = told-within;
-        writes = told-writes;
-        only = λ d w′ q. render-injective d told w′ told-within (q ∙ sym told-writes);
-        answer = told-answer;
+        description = described;
+        within = described-within;
+        writes = described-writes;
+        only = λ d w′ q. render-injective d described w′ described-within (q ∙ sym described-writes);
+        answer = described-answer;
         values = e ∙ laid-over (softWords n (f .it .0)) l (omega (arith, soft-room n (f .it .0) (head-bound n h) (f .within .0 .sixteen)));
       }
 
-pub settings-as : {lanes iterations : ℕ} {offset offset′ : ℤ} {steps : Bool} {step rounds first bits : ℕ} {t u : List ℕ}
-    → Found settingsForm (SettingsSo lanes iterations offset steps step rounds first bits) t u → offset ≡ offset′
-    → Found settingsForm (SettingsSo lanes iterations offset′ steps step rounds first bits) t u
-settings-as {lanes} {iterations} {steps = steps} {step} {rounds} {first} {bits} {t} {u} f e = subst (λ (z : ℤ). Found settingsForm (SettingsSo lanes iterations z steps step rounds first bits) t u) e f
+pub settings-as : {lanes iteration-limit : ℕ} {offset offset′ : ℤ} {steps : Bool} {step round-limit part-first part-length : ℕ} {t u : List ℕ}
+    → Found settingsForm (SettingsSo lanes iteration-limit offset steps step round-limit part-first part-length) t u → offset ≡ offset′
+    → Found settingsForm (SettingsSo lanes iteration-limit offset′ steps step round-limit part-first part-length) t u
+settings-as {lanes} {iteration-limit} {steps = steps} {step} {round-limit} {part-first} {part-length} {t} {u} f e = subst (λ (z : ℤ). Found settingsForm (SettingsSo lanes iteration-limit z steps step round-limit part-first part-length) t u) e f

@@ -1,7 +1,7 @@
 -- The words' lines, read one by one.
 use mathlib.Core.Path.{_≡_, refl, sym, ap, _∙_}
 use mathlib.Core.Bool.{Bool, false}
-use mathlib.Core.Logic.{_⊎_, inl, inr}
+use mathlib.Core.Logic.{_⊎_}
 use mathlib.Core.List.{List, [], _∷_}
 use Prim.Native.Nat.{ℕ, suc, _+_, _≤_, _<_}
 use native.Mathlib.Numerals.{add-one}
@@ -9,9 +9,9 @@ use native.Mathlib.Omega.{arith}
 use lib.ListN.{length, drop, getD, drop-of-length-le}
 use lib.Seq.{drop-cons}
 use Rattle.report_form.specs.Description.{Word, WordWithin}
-use Rattle.report_form.specs.Form.{Found, Missing, Reads, reads-both, reads-none, reads-one, end, Ongoing, Ends, going-start, going-more, going-missing, chain-reads, chain-missing}
+use Rattle.report_form.specs.Form.{Found, Missing, Reads, reads-both, reads-none, reads-one, end, Ongoing, going-start, going-more, going-missing, chain-reads, chain-missing}
 use Rattle.report_form.specs.Forms.{wordForm, words, WordsWithin, words-within, end-apart, wordsForm}
-use Rattle.report_form.proofs.Lists.{too-many, length-snoc, all-snoc}
+use Rattle.report_form.proofs.Lists.{list-ends, length-snoc, all-snoc}
 
 pub record WordsSo (count : ℕ) (ws : List Word) : Type 0 where
   pub count-is : length ws ≡ count
@@ -39,14 +39,10 @@ module _ (n : ℕ) where
       chain-missing (words n) (WordsWithin n) (words-within n) end (λ b r _ e. end-apart n r e)
       (going-missing (words n) (WordsWithin n) (words-within n) (WordsSo count) t now o h m)
 
-  ends : (count : ℕ) (now : List ℕ) → (16 ≤ count) ⊎ (getD now 0 0 ≡ 87 → ⊥) → Ends (words n) (WordsWithin n) (words-within n) (WordsSo count) now
-  ends count now (inl full) xs s = inr (λ x more w. too-many 16 xs x more (w .sixteen) (omega (arith, s .count-is)))
-  ends count now (inr other) xs s = inl other
-
   pub words-read : (count : ℕ) {l l′ : Bool} {t now next : List ℕ} → WordsSoFar count t now → (16 ≤ count) ⊎ (getD now 0 0 ≡ 87 → ⊥) → Reads end (λ _. Unit) l l′ now next
       → Reads (wordsForm n) (λ w. length (w .0) ≡ count) l l′ t next
   words-read count {now = now} o e h =
-      reads-both (chain-reads (words n) (WordsWithin n) (words-within n) end (λ b r _ e. end-apart n r e) o (ends count now e) h)
+      reads-both (chain-reads (words n) (WordsWithin n) (words-within n) end (λ b r _ e. end-apart n r e) o (list-ends (words n) (WordsWithin n) (words-within n) (WordsSo count) 16 count (λ _ w. w .sixteen) (λ _ s. s .count-is) now e) h)
       (λ f. record { it = f .it; says = f .says .0 .count-is; within = f .within; here = f .here; after = f .after })
       (λ m. m)
 

@@ -7,8 +7,8 @@ use native.Mathlib.Omega.{arith}
 use lib.IntN.{ℤ}
 use lib.ListN.{length, take, drop, set, replicate, length-append, length-replicate, length-map, length-set}
 use lib.Seq.{take-append-seam}
-use Rattle.report_form.specs.Description.{Pair, Word, Description, All, RowWithin, Within, flat}
-use Rattle.report_form.specs.Reading.{padded, stored, softWord, softWords, readingOf, NoDescription, OneDescription, RightReading}
+use Rattle.report_form.specs.Description.{Pair, Word, Description, All, RowWithin, Within, flat, stored, softWord, softWords}
+use Rattle.report_form.specs.Reading.{padded, readingOf, NoDescription, OneDescription, RightReading}
 use Rattle.report_form.specs.declared.Reading.{Reading}
 
 module _ {text : List ℕ} {words : List ℤ} {r : Reading} {words′ : List ℤ} where

@@ -1,25 +1,26 @@
--- What the report is told, and how it is written: the scope's "Report text". A text of the form is the rendering of a description within the limits.
+-- What a text asks the report for, and how it is written: the scope's "Report text". A text of the form is the rendering of a description within
+-- the limits. Definitions only; Unique and Longest have the laws.
 use mathlib.Core.Bool.{Bool, true, false}
 use mathlib.Core.List.{List, [], _∷_, _++_, map}
-use Prim.Native.Nat.{ℕ, suc, _≤_, _<_}
+use Prim.Native.Nat.{ℕ, suc, _+_, _≤_, _<_}
 use lib.IntN.{ℤ, pos, negsuc}
-use lib.ListN.{length}
-use Rattle.laws.specs.Decimal.{decimal, signed}
+use lib.ListN.{length, set, replicate}
+use Rattle.laws.specs.Definitions.{decimal, signed}
 
 -- "`S` or step": sequential, or layered with a step
 pub data Schedule : Type 0 where
   sequential : Schedule
   layered : ℕ → Schedule
 
--- "lanes, iterations, offset, `S` or step, round limit, first, length": iterations is the iteration limit, rounds the round limit, and bits the BCH part's length
+-- "lanes, iterations, offset, `S` or step, round limit, first, length": iterations is the iteration limit, first and length are the BCH part's
 pub record Settings : Type 0 where
   pub lanes : ℕ
-  pub iterations : ℕ
+  pub iteration-limit : ℕ
   pub offset : ℤ
   pub schedule : Schedule
-  pub rounds : ℕ
-  pub first : ℕ
-  pub bits : ℕ
+  pub round-limit : ℕ
+  pub part-first : ℕ
+  pub part-length : ℕ
 
 -- a position and the soft value there
 pub record Pair : Type 0 where
@@ -84,12 +85,12 @@ ScheduleWithin (layered step) = Wide step
 -- "4 lanes", "offset signed 8, the rest unsigned 32"
 pub record SettingsWithin (s : Settings) : Type 0 where
   pub lanes : s .lanes ≤ 4
-  pub iterations : Wide (s .iterations)
+  pub iteration-limit : Wide (s .iteration-limit)
   pub offset : Small (s .offset)
   pub schedule : ScheduleWithin (s .schedule)
-  pub rounds : Wide (s .rounds)
-  pub first : Wide (s .first)
-  pub bits : Wide (s .bits)
+  pub round-limit : Wide (s .round-limit)
+  pub part-first : Wide (s .part-first)
+  pub part-length : Wide (s .part-length)
 
 -- "up to 64 pairs", values signed 8
 pub record WordWithin (n : ℕ) (w : Word) : Type 0 where
@@ -129,12 +130,12 @@ abbrev pub settingsLine : Settings → List ℕ
 settingsLine s =
     line (80 ∷ [])
     (decimal (s .lanes)
-    ∷ decimal (s .iterations)
+    ∷ decimal (s .iteration-limit)
     ∷ signed (s .offset)
     ∷ scheduleText (s .schedule)
-    ∷ decimal (s .rounds)
-    ∷ decimal (s .first)
-    ∷ decimal (s .bits)
+    ∷ decimal (s .round-limit)
+    ∷ decimal (s .part-first)
+    ∷ decimal (s .part-length)
     ∷ [])
 
 abbrev pub pairFields : List Pair → List (List ℕ)
@@ -148,3 +149,17 @@ wordLine w = line (87 ∷ []) (signed (w .default) ∷ pairFields (w .pairs))
 -- "`N` n"; "One N, any R, one P, any W, in that order"
 unfoldable pub render : Description → List ℕ
 render d = line (78 ∷ []) (decimal (d .n) ∷ []) ++ each rowLine (d .rows) ++ settingsLine (d .settings) ++ each wordLine (d .words)
+
+-- pairs stored in a list from a place on
+abbrev pub stored : ℕ → List Pair → List ℤ → List ℤ
+stored base [] xs = xs
+stored base (p ∷ ps) xs = stored base ps (set xs (base + p .position) (p .value))
+
+-- a word's soft values: the default everywhere but at the positions of its pairs
+abbrev pub softWord : ℕ → Word → List ℤ
+softWord n w = stored 0 (w .pairs) (replicate n (w .default))
+
+-- the soft values of all words, one after another
+abbrev pub softWords : ℕ → List Word → List ℤ
+softWords n [] = []
+softWords n (w ∷ ws) = softWord n w ++ softWords n ws

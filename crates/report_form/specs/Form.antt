@@ -27,97 +27,50 @@ pub record Found {A : Type 0} (F : Form A) (Says : A → Type 0) (t rest : List 
 pub record Missing {A : Type 0} (F : Form A) (t : List ℕ) : Type 0 where
   pub none : (a : A) (rest : List ℕ) → F .Within a → F .Follow rest → t ≡ F .write a ++ rest → ⊥
 
--- what a reader answers at t. Where the text was wrong before, it stays wrong; otherwise it is right exactly if t begins with one of the form
-abbrev pub Answer : {A : Type 0} → Form A → (A → Type 0) → Bool → Bool → List ℕ → List ℕ → Type 0
-Answer F Says false right t rest = right ≡ false
-Answer F Says true true t rest = Found F Says t rest
-Answer F Says true false t rest = Missing F t
-
+-- what a reader answers at t, l whether the text was right before it and l′ whether it is behind it: where the text was wrong before, it stays
+-- wrong; otherwise it is right exactly if t begins with one of the form
 pub record Reads {A : Type 0} (F : Form A) (Says : A → Type 0) (l l′ : Bool) (t rest : List ℕ) : Type 0 where
-  pub answer : Answer F Says l l′ t rest
+  pub right : l′ ≡ true → l ≡ true
+  pub found : l′ ≡ true → Found F Says t rest
+  pub missing : l ≡ true → l′ ≡ false → Missing F t
 
 pub right-wrong : true ≡ false → ⊥
 right-wrong e = subst T e tt
 
-before : {A : Type 0} (F : Form A) (S : A → Type 0) (l l′ : Bool) (t u : List ℕ) → Answer F S l l′ t u → l′ ≡ true → l ≡ true
-before F S false l′ t u h e = absurd (right-wrong (sym e ∙ h))
-before F S true l′ t u h e = refl
-
-not-there : {A : Type 0} (F : Form A) (S : A → Type 0) (l′ : Bool) (t u : List ℕ) → Answer F S true l′ t u → l′ ≡ false → Missing F t
-not-there F S true t u h e = absurd (right-wrong e)
-not-there F S false t u h e = h
-
-none-here : {A : Type 0} (F : Form A) (S : A → Type 0) (l : Bool) (t u : List ℕ) → Missing F t → Answer F S l false t u
-none-here F S false t u m = refl
-none-here F S true t u m = m
+not-both {ℓ} : {P : Type ℓ} {b : Bool} → b ≡ true → b ≡ false → P
+not-both r w = absurd (right-wrong (sym r ∙ w))
 
 module _ {A : Type 0} {F : Form A} {S : A → Type 0} where
-  pub reads-right : {l l′ : Bool} {t u : List ℕ} → l ≡ true → Answer F S true l′ t u → Reads F S l l′ t u
-  reads-right {l} {l′} {t} {u} e h = record { answer = subst (λ (b : Bool). Answer F S b l′ t u) (sym e) h }
+  pub reads-right : {l : Bool} {t u : List ℕ} → l ≡ true → Found F S t u → Reads F S l true t u
+  reads-right e f = record { right = λ _. e; found = λ _. f; missing = λ _ w. not-both refl w }
 
   pub reads-wrong : {l : Bool} {t u : List ℕ} → l ≡ false → Reads F S l false t u
-  reads-wrong {l} {t} {u} e = record { answer = subst (λ (b : Bool). Answer F S b false t u) (sym e) refl }
+  reads-wrong e = record { right = λ r. not-both r refl; found = λ r. not-both r refl; missing = λ r _. not-both r e }
 
   pub reads-none : {l : Bool} {t u : List ℕ} → Missing F t → Reads F S l false t u
-  reads-none {l} {t} {u} m = record { answer = none-here F S l t u m }
-
-  one-here : (l : Bool) (t u : List ℕ) → Found F S t u → Answer F S l l t u
-  one-here false t u f = refl
-  one-here true t u f = f
+  reads-none m = record { right = λ r. not-both r refl; found = λ r. not-both r refl; missing = λ _ _. m }
 
   pub reads-one : {l : Bool} {t u : List ℕ} → Found F S t u → Reads F S l l t u
-  reads-one {l} {t} {u} f = record { answer = one-here l t u f }
+  reads-one f = record { right = λ r. r; found = λ _. f; missing = λ r w. not-both r w }
 
-  there : (l l′ : Bool) (t u : List ℕ) → Answer F S l l′ t u → l′ ≡ true → Found F S t u
-  there false l′ t u h e = absurd (right-wrong (sym e ∙ h))
-  there true true t u h e = h
-  there true false t u h e = absurd (right-wrong (sym e))
-
-  pub found-there : {l l′ : Bool} {t u : List ℕ} → Reads F S l l′ t u → l′ ≡ true → Found F S t u
-  found-there {l} {l′} {t} {u} h e = there l l′ t u (h .answer) e
-
-  -- where the text is right now, it was right before
-  pub right-before : {l l′ : Bool} {t u : List ℕ} → Reads F S l l′ t u → l′ ≡ true → l ≡ true
-  right-before {l} {l′} {t} {u} h e = before F S l l′ t u (h .answer) e
-
-  pub missing-there : {l′ : Bool} {t u : List ℕ} → Reads F S true l′ t u → l′ ≡ false → Missing F t
-  missing-there {l′} {t} {u} h e = not-there F S l′ t u (h .answer) e
+  -- a reader that is asked only where the text is right
+  pub reads-there : {l l′ : Bool} {t u : List ℕ} → l ≡ true → Reads F S true l′ t u → Reads F S l l′ t u
+  reads-there e h = record { right = λ _. e; found = h .found; missing = λ _ w. h .missing refl w }
 
 -- what one reader found, or did not find, says what another does
-module _ {A B : Type 0} (F : Form A) (S : A → Type 0) (G : Form B) (S′ : B → Type 0) where
-  by-found : (l l′ : Bool) (t u v w : List ℕ) → Answer F S l l′ t u → l′ ≡ true → (Found F S t u → Found G S′ v w) → Answer G S′ l true v w
-  by-found false l′ t u v w h e f = absurd (right-wrong (sym e ∙ h))
-  by-found true true t u v w h e f = f h
-  by-found true false t u v w h e f = absurd (right-wrong (sym e))
-
-  by-missing : (l l′ : Bool) (t u v w : List ℕ) → Answer F S l l′ t u → l′ ≡ false → (Missing F t → Missing G v) → Answer G S′ l false v w
-  by-missing false l′ t u v w h e f = refl
-  by-missing true true t u v w h e f = absurd (right-wrong e)
-  by-missing true false t u v w h e f = f h
-
-  by-spoiled : (l l′ : Bool) (t u v w : List ℕ) → Answer F S l l′ t u → l′ ≡ true → (Found F S t u → Missing G v) → Answer G S′ l false v w
-  by-spoiled false l′ t u v w h e f = refl
-  by-spoiled true true t u v w h e f = f h
-  by-spoiled true false t u v w h e f = absurd (right-wrong (sym e))
-
-  by-both : (l l′ : Bool) (t u v w : List ℕ) → Answer F S l l′ t u → (Found F S t u → Found G S′ v w) → (Missing F t → Missing G v) → Answer G S′ l l′ v w
-  by-both false l′ t u v w h f m = h
-  by-both true true t u v w h f m = f h
-  by-both true false t u v w h f m = m h
-
 module _ {A B : Type 0} {F : Form A} {S : A → Type 0} {G : Form B} {S′ : B → Type 0} {l l′ : Bool} {t u v w : List ℕ} (h : Reads F S l l′ t u) where
   pub reads-found : l′ ≡ true → (Found F S t u → Found G S′ v w) → Reads G S′ l true v w
-  reads-found e f = record { answer = by-found F S G S′ l l′ t u v w (h .answer) e f }
+  reads-found e f = reads-right (h .right e) (f (h .found e))
 
   pub reads-missing : l′ ≡ false → (Missing F t → Missing G v) → Reads G S′ l false v w
-  reads-missing e f = record { answer = by-missing F S G S′ l l′ t u v w (h .answer) e f }
+  reads-missing e m = record { right = λ r. not-both r refl; found = λ r. not-both r refl; missing = λ r _. m (h .missing r e) }
 
   -- what was found, where another form has none
   pub reads-spoiled : l′ ≡ true → (Found F S t u → Missing G v) → Reads G S′ l false v w
-  reads-spoiled e f = record { answer = by-spoiled F S G S′ l l′ t u v w (h .answer) e f }
+  reads-spoiled e f = reads-none (f (h .found e))
 
   pub reads-both : (Found F S t u → Found G S′ v w) → (Missing F t → Missing G v) → Reads G S′ l l′ v w
-  reads-both f m = record { answer = by-both F S G S′ l l′ t u v w (h .answer) f m }
+  reads-both f m = record { right = h .right; found = λ r. f (h .found r); missing = λ r w. m (h .missing r w) }
 
 pub reads-as : {A : Type 0} {F : Form A} {a b : A} {l l′ : Bool} {t u : List ℕ} → Reads F (λ x. x ≡ a) l l′ t u → a ≡ b → Reads F (λ x. x ≡ b) l l′ t u
 reads-as h e = reads-both h (λ f. record { it = f .it; says = f .says ∙ e; within = f .within; here = f .here; after = f .after }) (λ m. m)
@@ -131,14 +84,15 @@ pub reads-any : {A : Type 0} {F : Form A} {S : A → Type 0} {l l′ : Bool} {t 
 reads-any h = reads-both h (λ f. record { it = f .it; says = tt; within = f .within; here = f .here; after = f .after }) (λ m. m)
 
 -- where a text begins with one, a reader finds that one
-find : {A : Type 0} (F : Form A) (S : A → Type 0) (l : Bool) (t u : List ℕ) (a : A) (r : List ℕ) → Answer F S true l t u → F .Within a → F .Follow r → t ≡ F .write a ++ r → S a × (u ≡ r)
-find F S true t u a r h w f e =
-    let (p, q) = F .unique (h .it) a u r (h .within) w (h .after) f (sym (h .here) ∙ e) in
-    (subst S p (h .says), q)
-find F S false t u a r h w f e = absurd (h .none a r w f e)
-
 pub must-find : {A : Type 0} {F : Form A} {S : A → Type 0} {l : Bool} {t u : List ℕ} → Reads F S true l t u → (a : A) (r : List ℕ) → F .Within a → F .Follow r → t ≡ F .write a ++ r → S a × (u ≡ r)
-must-find {F = F} {S} {l} {t} {u} h a r w f e = find F S l t u a r (h .answer) w f e
+must-find {F = F} {S} {l} {t} {u} h a r w f e = go l refl
+  where
+    go : (b : Bool) → l ≡ b → S a × (u ≡ r)
+    go true p =
+        let x = h .found p in
+        let (y, q) = F .unique (x .it) a u r (x .within) w (x .after) f (sym (x .here) ∙ e) in
+        (subst S y (x .says), q)
+    go false p = absurd (h .missing refl p .none a r w f e)
 
 -- one byte
 pub one-byte : (b : ℕ) (r s : List ℕ) → b ∷ r ≡ b ∷ s → r ≡ s
@@ -183,48 +137,65 @@ module _ {A B : Type 0} (F : Form A) (G : Form B) (joins : (b : B) (r : List ℕ
         unique = seq-unique;
       }
 
-  seq-answer : (S : A → Type 0) (S′ : B → Type 0) (l l′ l″ : Bool) (t u v : List ℕ) → Answer F S l l′ t u → Answer G S′ l′ l″ u v → Answer seq (λ x. S (x .0) × S′ (x .1)) l l″ t v
-  seq-answer S S′ false false l″ t u v h g = g
-  seq-answer S S′ false true l″ t u v h g = absurd (right-wrong h)
-  seq-answer S S′ true true true t u v h g =
-      record {
-        it = (h .it, g .it);
-        says = (h .says, g .says);
-        within = (h .within, g .within);
-        here = h .here ∙ ap (λ (x : List ℕ). F .write (h .it) ++ x) (g .here) ∙ sym (append-assoc (F .write (h .it)) (G .write (g .it)) v);
-        after = g .after;
-      }
-  seq-answer S S′ true true false t u v h g =
-      record {
-        none = λ x r w f e.
-            let e′ : F .write (h .it) ++ u ≡ F .write (x .0) ++ (G .write (x .1) ++ r) = sym (h .here) ∙ e ∙ append-assoc (F .write (x .0)) (G .write (x .1)) r in
-            let q = F .unique (h .it) (x .0) u _ (h .within) (w .0) (h .after) (joins (x .1) r (w .1) f) e′ in
-            g .none (x .1) r (w .1) f (q .1);
-      }
-  seq-answer S S′ true false true t u v h g = absurd (right-wrong g)
-  seq-answer S S′ true false false t u v h g =
-      record {
-        none = λ x r w f e. h .none (x .0) (G .write (x .1) ++ r) (w .0) (joins (x .1) r (w .1) f) (e ∙ append-assoc (F .write (x .0)) (G .write (x .1)) r);
-      }
-
   pub seq-reads : {S : A → Type 0} {S′ : B → Type 0} {l l′ l″ : Bool} {t u v : List ℕ} → Reads F S l l′ t u → Reads G S′ l′ l″ u v → Reads seq (λ x. S (x .0) × S′ (x .1)) l l″ t v
-  seq-reads {S} {S′} {l} {l′} {l″} {t} {u} {v} h g = record { answer = seq-answer S S′ l l′ l″ t u v (h .answer) (g .answer) }
+  seq-reads {S} {S′} {l} {l′} {l″} {t} {u} {v} h g =
+      record { right = λ z. h .right (g .right z); found = λ z. both (h .found (g .right z)) (g .found z); missing = λ r z. go l′ refl r z }
+    where
+      both : Found F S t u → Found G S′ u v → Found seq (λ x. S (x .0) × S′ (x .1)) t v
+      both a b =
+          record {
+            it = (a .it, b .it);
+            says = (a .says, b .says);
+            within = (a .within, b .within);
+            here = a .here ∙ ap (λ (x : List ℕ). F .write (a .it) ++ x) (b .here) ∙ sym (append-assoc (F .write (a .it)) (G .write (b .it)) v);
+            after = b .after;
+          }
 
-module _ {A B : Type 0} (F : Form A) (to : B → A) (from : A → B) (from-to : (b : B) → from (to b) ≡ b) (to-from : (a : A) → to (from a) ≡ a) (W : B → Type 0) (to-within : (b : B) → W b → F .Within (to b)) (from-within : (a : A) → F .Within a → W (from a)) where
-  -- the same texts, of other values and with the limits said otherwise
-  pub via-unique : (a b : B) (r s : List ℕ) → W a → W b → F .Follow r → F .Follow s → F .write (to a) ++ r ≡ F .write (to b) ++ s → (a ≡ b) × (r ≡ s)
+      go : (b : Bool) → l′ ≡ b → l ≡ true → l″ ≡ false → Missing seq t
+      go true p r z =
+          let a = h .found p in
+          record {
+            none = λ x r w f e.
+                let e′ : F .write (a .it) ++ u ≡ F .write (x .0) ++ (G .write (x .1) ++ r) = sym (a .here) ∙ e ∙ append-assoc (F .write (x .0)) (G .write (x .1)) r in
+                let q = F .unique (a .it) (x .0) u _ (a .within) (w .0) (a .after) (joins (x .1) r (w .1) f) e′ in
+                g .missing p z .none (x .1) r (w .1) f (q .1);
+          }
+      go false p r z =
+          record {
+            none = λ x r′ w f e. h .missing r p .none (x .0) (G .write (x .1) ++ r′) (w .0) (joins (x .1) r′ (w .1) f) (e ∙ append-assoc (F .write (x .0)) (G .write (x .1)) r′);
+          }
+
+-- values of another type that stand for the form's own, with the limits said otherwise
+pub record StandFor {A : Type 0} (F : Form A) (B : Type 0) : Type 1 where
+  pub to : B → A
+  pub from : A → B
+  pub from-to : (b : B) → from (to b) ≡ b
+  pub to-from : (a : A) → to (from a) ≡ a
+  pub Within : B → Type 0
+  pub to-within : (b : B) → Within b → F .Within (to b)
+  pub from-within : (a : A) → F .Within a → Within (from a)
+
+module _ {A B : Type 0} (F : Form A) (m : StandFor F B) where
+  -- the same texts, of those values
+  pub via-unique : (a b : B) (r s : List ℕ) → m .Within a → m .Within b → F .Follow r → F .Follow s → F .write (m .to a) ++ r ≡ F .write (m .to b) ++ s → (a ≡ b) × (r ≡ s)
   via-unique a b r s ha hb hr hs e =
-      let (p, q) = F .unique (to a) (to b) r s (to-within a ha) (to-within b hb) hr hs e in
-      (sym (from-to a) ∙ ap from p ∙ from-to b, q)
+      let (p, q) = F .unique (m .to a) (m .to b) r s (m .to-within a ha) (m .to-within b hb) hr hs e in
+      (sym (m .from-to a) ∙ ap (m .from) p ∙ m .from-to b, q)
 
   abbrev pub via : Form B
-  via = record { write = λ b. F .write (to b); Within = W; Follow = F .Follow; unique = via-unique }
+  via = record { write = λ b. F .write (m .to b); Within = m .Within; Follow = F .Follow; unique = via-unique }
 
-  pub via-reads : {S : A → Type 0} {S′ : B → Type 0} {l l′ : Bool} {t u : List ℕ} → ((a : A) → S a → S′ (from a)) → Reads F S l l′ t u → Reads via S′ l l′ t u
+  pub via-reads : {S : A → Type 0} {S′ : B → Type 0} {l l′ : Bool} {t u : List ℕ} → ((a : A) → S a → S′ (m .from a)) → Reads F S l l′ t u → Reads via S′ l l′ t u
   via-reads {S} {S′} {l} {l′} {t} {u} s h =
       reads-both h
-      (λ f. record { it = from (f .it); says = s (f .it) (f .says); within = from-within (f .it) (f .within); here = f .here ∙ ap (λ (x : A). F .write x ++ u) (sym (to-from (f .it))); after = f .after })
-      (λ m. record { none = λ b r w f e. m .none (to b) r (to-within b w) f e })
+      (λ f. record {
+        it = m .from (f .it);
+        says = s (f .it) (f .says);
+        within = m .from-within (f .it) (f .within);
+        here = f .here ∙ ap (λ (x : A). F .write x ++ u) (sym (m .to-from (f .it)));
+        after = f .after;
+      })
+      (λ n. record { none = λ b r w f e. n .none (m .to b) r (m .to-within b w) f e })
 
 -- a byte before one
 module _ {A : Type 0} (b : ℕ) (F : Form A) where
@@ -296,11 +267,7 @@ module _ {A : Type 0} (I : Items A) (Fine : List A → Type 0) (fine : (xs : Lis
   pub record Hopeless (t : List ℕ) : Type 0 where
     pub none : (xs : List A) (u : List ℕ) → Fine xs → Apart u → t ≡ each (I .form .write) xs ++ u → ⊥
 
-  abbrev pub Going : (List A → Type 0) → Bool → List ℕ → List ℕ → Type 0
-  Going Says true t now = Ongoing Says t now
-  Going Says false t now = Hopeless t
-
-  pub going-start : (Says : List A → Type 0) (t : List ℕ) → Fine [] → Says [] → Going Says true t t
+  pub going-start : (Says : List A → Type 0) (t : List ℕ) → Fine [] → Says [] → Ongoing Says t t
   going-start Says t f s = record { done = []; says = s; ok = f; here = refl; behind = tt }
 
   behind-snoc : (xs : List A) (x : A) (u : List ℕ) → I .form .Follow u → Behind (xs ++ x ∷ []) u
@@ -375,39 +342,20 @@ module _ {A : Type 0} (I : Items A) (Fine : List A → Type 0) (fine : (xs : Lis
       }
 
   -- the list's end: the text goes on with no item, or the list is full
-  abbrev pub Ends : (List A → Type 0) → List ℕ → Type 0
-  Ends Says now = (xs : List A) → Says xs → (getD now 0 0 ≡ I .mark → ⊥) ⊎ ((x : A) (more : List A) → Fine (xs ++ x ∷ more) → ⊥)
+  abbrev pub ListEnds : (List A → Type 0) → List ℕ → Type 0
+  ListEnds Says now = (xs : List A) → Says xs → (getD now 0 0 ≡ I .mark → ⊥) ⊎ ((x : A) (more : List A) → Fine (xs ++ x ∷ more) → ⊥)
 
   -- what a reader of a list answers at t: the list ends at now, or there is none
-  abbrev pub Lists : (List A → Type 0) → Bool → Bool → List ℕ → List ℕ → Type 0
-  Lists Says false right t now = right ≡ false
-  Lists Says true true t now = Ongoing Says t now × Ends Says now
-  Lists Says true false t now = Hopeless t
-
   pub record Listed (Says : List A → Type 0) (l l′ : Bool) (t now : List ℕ) : Type 0 where
-    pub answer : Lists Says l l′ t now
+    pub right : l′ ≡ true → l ≡ true
+    pub found : l′ ≡ true → Ongoing Says t now × ListEnds Says now
+    pub missing : l ≡ true → l′ ≡ false → Hopeless t
 
-  any-list : (Says : List A → Type 0) (l : Bool) (t now : List ℕ) → Ongoing Says t now → Ends Says now → Lists Says l l t now
-  any-list Says false t now o e = refl
-  any-list Says true t now o e = (o, e)
-
-  pub listed : {Says : List A → Type 0} {l : Bool} {t now : List ℕ} → Ongoing Says t now → Ends Says now → Listed Says l l t now
-  listed {Says} {l} {t} {now} o e = record { answer = any-list Says l t now o e }
-
-  no-list : (Says : List A → Type 0) (l : Bool) (t now : List ℕ) → Hopeless t → Lists Says l false t now
-  no-list Says false t now h = refl
-  no-list Says true t now h = h
+  pub listed : {Says : List A → Type 0} {l : Bool} {t now : List ℕ} → Ongoing Says t now → ListEnds Says now → Listed Says l l t now
+  listed o e = record { right = λ r. r; found = λ _. (o, e); missing = λ r w. not-both r w }
 
   pub not-listed : {Says : List A → Type 0} {l : Bool} {t now : List ℕ} → Hopeless t → Listed Says l false t now
-  not-listed {Says} {l} {t} {now} h = record { answer = no-list Says l t now h }
-
-  list-there : (Says : List A → Type 0) (l l′ : Bool) (t now : List ℕ) → Lists Says l l′ t now → l′ ≡ true → Ongoing Says t now
-  list-there Says false l′ t now h e = absurd (right-wrong (sym e ∙ h))
-  list-there Says true true t now h e = h .0
-  list-there Says true false t now h e = absurd (right-wrong (sym e))
-
-  pub listed-there : {Says : List A → Type 0} {l l′ : Bool} {t now : List ℕ} → Listed Says l l′ t now → l′ ≡ true → Ongoing Says t now
-  listed-there {Says} {l} {l′} {t} {now} h e = list-there Says l l′ t now (h .answer) e
+  not-listed h = record { right = λ r. not-both r refl; found = λ r. not-both r refl; missing = λ _ _. h }
 
   -- a list, and then another form
   module _ {B : Type 0} (G : Form B) (apart : (b : B) (r : List ℕ) → G .Within b → G .Follow r → Apart (G .write b ++ r)) where
@@ -443,55 +391,51 @@ module _ {A : Type 0} (I : Items A) (Fine : List A → Type 0) (fine : (xs : Lis
           unique = chain-unique;
         }
 
-    chain-answer : (Says : List A → Type 0) (S : B → Type 0) (l l′ : Bool) (t now next : List ℕ) → Going Says l t now → (l ≡ true → Ends Says now) → Answer G S l l′ now next
-        → Answer chain (λ x. Says (x .0) × S (x .1)) true l′ t next
-    chain-answer Says S false true t now next g ends h = absurd (right-wrong h)
-    chain-answer Says S false false t now next g ends h =
+    chain-found : {Says : List A → Type 0} {S : B → Type 0} {t now next : List ℕ} → Ongoing Says t now → Found G S now next → Found chain (λ x. Says (x .0) × S (x .1)) t next
+    chain-found {next = next} o f =
         record {
-          none = λ x r w f e. g .none (x .0) (G .write (x .1) ++ r) (w .0) (apart (x .1) r (w .1) f) (e ∙ append-assoc (each (I .form .write) (x .0)) (G .write (x .1)) r);
+          it = (o .done, f .it);
+          says = (o .says, f .says);
+          within = (o .ok, f .within);
+          here = o .here ∙ ap (λ (l : List ℕ). each (I .form .write) (o .done) ++ l) (f .here) ∙ sym (append-assoc (each (I .form .write) (o .done)) (G .write (f .it)) next);
+          after = f .after;
         }
-    chain-answer Says S true true t now next g ends h =
+
+    chain-none : {t : List ℕ} → Hopeless t → Missing chain t
+    chain-none h =
         record {
-          it = (g .done, h .it);
-          says = (g .says, h .says);
-          within = (g .ok, h .within);
-          here = g .here ∙ ap (λ (l : List ℕ). each (I .form .write) (g .done) ++ l) (h .here) ∙ sym (append-assoc (each (I .form .write) (g .done)) (G .write (h .it)) next);
-          after = h .after;
+          none = λ x r w f e. h .none (x .0) (G .write (x .1) ++ r) (w .0) (apart (x .1) r (w .1) f) (e ∙ append-assoc (each (I .form .write) (x .0)) (G .write (x .1)) r);
         }
-    chain-answer Says S true false t now next g ends h =
+
+    -- the list ends, and nothing of the other form is there
+    chain-ends : {Says : List A → Type 0} {t now : List ℕ} → Ongoing Says t now → ListEnds Says now → Missing G now → Missing chain t
+    chain-ends {now = now} o ends m =
         record {
           none = λ x r w f e.
               let p = apart (x .1) r (w .1) f in
-              let o = rest-of g (x .0) (G .write (x .1) ++ r) (w .0) p (e ∙ append-assoc (each (I .form .write) (x .0)) (G .write (x .1)) r) in
-              go (x .1) r (w .1) f (o .more) (o .ok) (o .here) (ends refl (g .done) (g .says));
+              let q = rest-of o (x .0) (G .write (x .1) ++ r) (w .0) p (e ∙ append-assoc (each (I .form .write) (x .0)) (G .write (x .1)) r) in
+              go (x .1) r (w .1) f (q .more) (q .ok) (q .here) (ends (o .done) (o .says));
         }
       where
-        go : (b : B) (r : List ℕ) → G .Within b → G .Follow r → (more : List A) → Fine (g .done ++ more) → now ≡ each (I .form .write) more ++ (G .write b ++ r)
-            → (getD now 0 0 ≡ I .mark → ⊥) ⊎ ((x : A) (more : List A) → Fine (g .done ++ x ∷ more) → ⊥) → ⊥
-        go b r w f [] ok y z = h .none b r w f y
+        go : (b : B) (r : List ℕ) → G .Within b → G .Follow r → (more : List A) → Fine (o .done ++ more) → now ≡ each (I .form .write) more ++ (G .write b ++ r)
+            → (getD now 0 0 ≡ I .mark → ⊥) ⊎ ((x : A) (more : List A) → Fine (o .done ++ x ∷ more) → ⊥) → ⊥
+        go b r w f [] ok y z = m .none b r w f y
         go b r w f (a ∷ more) ok y (inl z) = z (ap (λ (l : List ℕ). getD l 0 0) y ∙ item-here a more (G .write b ++ r))
         go b r w f (a ∷ more) ok y (inr z) = z a more ok
 
-    chain-any : (Says : List A → Type 0) (S : B → Type 0) (l l′ : Bool) (t now next : List ℕ) → Ongoing Says t now → Ends Says now → Answer G S l l′ now next
-        → Answer chain (λ x. Says (x .0) × S (x .1)) l l′ t next
-    chain-any Says S false l′ t now next o e h = h
-    chain-any Says S true l′ t now next o e h = chain-answer Says S true l′ t now next o (λ _. e) h
-
     -- after the items read so far, the list ends
-    pub chain-reads : {Says : List A → Type 0} {S : B → Type 0} {l l′ : Bool} {t now next : List ℕ} → Ongoing Says t now → Ends Says now → Reads G S l l′ now next
+    pub chain-reads : {Says : List A → Type 0} {S : B → Type 0} {l l′ : Bool} {t now next : List ℕ} → Ongoing Says t now → ListEnds Says now → Reads G S l l′ now next
         → Reads chain (λ x. Says (x .0) × S (x .1)) l l′ t next
-    chain-reads {Says} {S} {l} {l′} {t} {now} {next} o e h = record { answer = chain-any Says S l l′ t now next o e (h .answer) }
+    chain-reads o e h = record { right = h .right; found = λ r. chain-found o (h .found r); missing = λ r w. chain-ends o e (h .missing r w) }
 
     pub chain-missing : {S : List A × B → Type 0} {l : Bool} {t u : List ℕ} → Hopeless t → Reads chain S l false t u
-    chain-missing {S} {l} {t} {u} h = reads-none (chain-answer (λ _. Unit) (λ _. Unit) false false t t u h (λ e. absurd (right-wrong (sym e))) refl)
-
-    listed-answer : (Says : List A → Type 0) (S : B → Type 0) (l l′ l″ : Bool) (t now next : List ℕ) → Lists Says l l′ t now → Answer G S l′ l″ now next
-        → Answer chain (λ x. Says (x .0) × S (x .1)) l l″ t next
-    listed-answer Says S false false l″ t now next h g = g
-    listed-answer Says S false true l″ t now next h g = absurd (right-wrong h)
-    listed-answer Says S true true l″ t now next h g = chain-answer Says S true l″ t now next (h .0) (λ _. h .1) g
-    listed-answer Says S true false l″ t now next h g = chain-answer Says S false l″ t now next h (λ e. absurd (right-wrong (sym e))) g
+    chain-missing h = reads-none (chain-none h)
 
     pub listed-reads : {Says : List A → Type 0} {S : B → Type 0} {l l′ l″ : Bool} {t now next : List ℕ} → Listed Says l l′ t now → Reads G S l′ l″ now next
         → Reads chain (λ x. Says (x .0) × S (x .1)) l l″ t next
-    listed-reads {Says} {S} {l} {l′} {l″} {t} {now} {next} h g = record { answer = listed-answer Says S l l′ l″ t now next (h .answer) (g .answer) }
+    listed-reads {l = l} {l′} {l″} {t} h g =
+        record { right = λ z. h .right (g .right z); found = λ z. chain-found (h .found (g .right z) .0) (g .found z); missing = λ r z. go l′ refl r z }
+      where
+        go : (b : Bool) → l′ ≡ b → l ≡ true → l″ ≡ false → Missing chain t
+        go true p r z = chain-ends (h .found p .0) (h .found p .1) (g .missing p z)
+        go false p r z = chain-none (h .missing r p)

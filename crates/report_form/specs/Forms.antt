@@ -1,15 +1,18 @@
 -- The forms of the report's text: numbers, the fields of a line, the lines.
-use mathlib.Core.Path.{_≡_, refl, sym, ap, _∙_, subst}
-use mathlib.Core.Bool.{Bool}
+use mathlib.Core.Path.{_≡_, refl, sym, ap, ap₂, _∙_, subst}
+use mathlib.Core.Bool.{Bool, _&&_}
 use mathlib.Core.List.{List, [], _∷_, _++_, map}
 use Prim.Native.Nat.{ℕ, suc, _≤_}
 use native.Mathlib.Omega.{arith}
 use lib.IntN.{ℤ}
-use lib.ListN.{length, replicate}
+use borrow.Author.Tests.{le-leb}
+use lib.Dec.{T}
+use lib.ListN.{length, getD, replicate}
 use lib.Seq.{sets}
-use Rattle.laws.specs.Decimal.{decimal, signed, Stops, decimal-unique, signed-unique, decimal-leads}
+use Rattle.laws.specs.Decimal.{digit, Stops, decimal-unique, signed-unique, decimal-leads}
+use Rattle.laws.specs.Definitions.{decimal, signed}
 use Rattle.report_form.specs.Description.{flat, isLayered, stepOf, Schedule, sequential, layered, Settings, Pair, Word, All, Wide, Small, Ascending, RowWithin, ScheduleWithin, SettingsWithin, WordWithin, Within, each, scheduleText}
-use Rattle.report_form.specs.Form.{Form, Reads, byte, end, seq, seq-reads, via, via-reads, lead, lead-reads, Items, Apart, chain}
+use Rattle.report_form.specs.Form.{Form, Reads, byte, end, seq, seq-reads, StandFor, via, via-reads, lead, lead-reads, Items, Apart, chain}
 
 -- a number of at most `most`
 abbrev pub numbers : ℕ → Form ℕ
@@ -31,17 +34,17 @@ smalls =
       unique = λ a b r s _ _ p q e. signed-unique a b r s p q e;
     }
 
-no-digit : (n : ℕ) (r s : List ℕ) → 83 ∷ s ≡ decimal n ++ r → ⊥
-no-digit n r s e =
+-- a text that does not begin with a digit begins with no number
+pub not-decimal : (t : List ℕ) (n : ℕ) (r : List ℕ) → Stops t → t ≡ decimal n ++ r → ⊥
+not-decimal t n r h e =
     let l = decimal-leads n in
-    let h : 83 ∷ s ≡ l .first ∷ (l .others ++ r) = e ∙ ap (λ (xs : List ℕ). xs ++ r) (l .is) in
-    let f : 83 ≡ l .first = cc in
-    omega (arith, l .high)
+    let p : getD t 0 0 ≡ l .first = ap (λ (xs : List ℕ). getD xs 0 0) (e ∙ ap (λ (xs : List ℕ). xs ++ r) (l .is)) in
+    subst T (sym (ap₂ _&&_ (le-leb 48 (l .first) (l .low)) (le-leb (l .first) 57 (l .high))) ∙ ap digit (sym p) ∙ h) tt
 
 pub schedule-unique : (a b : Schedule) (r s : List ℕ) → Stops r → Stops s → scheduleText a ++ r ≡ scheduleText b ++ s → (a ≡ b) × (r ≡ s)
 schedule-unique sequential sequential r s p q e = let f : r ≡ s = cc in (refl, f)
-schedule-unique sequential (layered n) r s p q e = absurd (no-digit n s r e)
-schedule-unique (layered m) sequential r s p q e = absurd (no-digit m r s (sym e))
+schedule-unique sequential (layered n) r s p q e = absurd (not-decimal (83 ∷ r) n s refl e)
+schedule-unique (layered m) sequential r s p q e = absurd (not-decimal (83 ∷ s) m r refl (sym e))
 schedule-unique (layered m) (layered n) r s p q e = let (a, b) = decimal-unique m n r s p q e in (ap layered a, b)
 
 abbrev pub schedules : Form Schedule
@@ -57,14 +60,14 @@ pub record OrderSo (steps : Bool) (step : ℕ) (s : Schedule) : Type 0 where
   pub layered-is : isLayered s ≡ steps
   pub step-is : stepOf s ≡ step
 
-pub record SettingsSo (lanes iterations : ℕ) (offset : ℤ) (steps : Bool) (step rounds first bits : ℕ) (s : Settings) : Type 0 where
+pub record SettingsSo (lanes iteration-limit : ℕ) (offset : ℤ) (steps : Bool) (step round-limit part-first part-length : ℕ) (s : Settings) : Type 0 where
   pub lanes-is : s .lanes ≡ lanes
-  pub iterations-is : s .iterations ≡ iterations
+  pub iteration-limit-is : s .iteration-limit ≡ iteration-limit
   pub offset-is : s .offset ≡ offset
   pub order-is : OrderSo steps step (s .schedule)
-  pub rounds-is : s .rounds ≡ rounds
-  pub first-is : s .first ≡ first
-  pub bits-is : s .bits ≡ bits
+  pub round-limit-is : s .round-limit ≡ round-limit
+  pub part-first-is : s .part-first ≡ part-first
+  pub part-length-is : s .part-length ≡ part-length
 
 abbrev pub address : ℕ → List ℕ
 address a = 9 ∷ decimal a
@@ -79,8 +82,11 @@ abbrev pub row-chain : Form (List ℕ × Unit)
 row-chain = chain addresses RowWithin (λ xs w. w .addresses) (byte 10) (λ b r _ _. newline-apart r)
 
 -- a row's line
+abbrev pub rowFields : StandFor (lead 82 row-chain) (List ℕ)
+rowFields = record { to = λ row. (row, tt); from = λ x. x .0; from-to = λ _. refl; to-from = λ _. refl; Within = RowWithin; to-within = λ _ w. (w, tt); from-within = λ _ w. w .0 }
+
 abbrev pub rowForm : Form (List ℕ)
-rowForm = via (lead 82 row-chain) (λ row. (row, tt)) (λ x. x .0) (λ _. refl) (λ _. refl) RowWithin (λ _ w. (w, tt)) (λ _ w. w .0)
+rowForm = via (lead 82 row-chain) rowFields
 
 -- the settings' fields, and the newline
 abbrev pub wides : Form ℕ
@@ -110,38 +116,30 @@ Fields = ℕ × (ℕ × (ℤ × (Schedule × (ℕ × (ℕ × (ℕ × Unit))))))
 abbrev pub seven-fields : Form Fields
 seven-fields = seq (lead 9 (numbers 4)) six-fields (λ _ _ _ _. refl)
 
-abbrev pub fieldsOf : Settings → Fields
-fieldsOf s = (s .lanes, (s .iterations, (s .offset, (s .schedule, (s .rounds, (s .first, (s .bits, tt)))))))
-
-abbrev pub settingsOfFields : Fields → Settings
-settingsOfFields x =
+-- the settings' line
+abbrev pub settingsFields : StandFor (lead 80 seven-fields) Settings
+settingsFields =
     record {
-      lanes = x .0;
-      iterations = x .1 .0;
-      offset = x .1 .1 .0;
-      schedule = x .1 .1 .1 .0;
-      rounds = x .1 .1 .1 .1 .0;
-      first = x .1 .1 .1 .1 .1 .0;
-      bits = x .1 .1 .1 .1 .1 .1 .0;
+      to = λ s. (s .lanes, (s .iteration-limit, (s .offset, (s .schedule, (s .round-limit, (s .part-first, (s .part-length, tt)))))));
+      from = λ x. record { lanes = x .0; iteration-limit = x .1 .0; offset = x .1 .1 .0; schedule = x .1 .1 .1 .0; round-limit = x .1 .1 .1 .1 .0; part-first = x .1 .1 .1 .1 .1 .0; part-length = x .1 .1 .1 .1 .1 .1 .0 };
+      from-to = λ _. refl;
+      to-from = λ _. refl;
+      Within = SettingsWithin;
+      to-within = λ _ w. (w .lanes, (w .iteration-limit, (w .offset, (w .schedule, (w .round-limit, (w .part-first, (w .part-length, tt)))))));
+      from-within = λ _ w. record { lanes = w .0; iteration-limit = w .1 .0; offset = w .1 .1 .0; schedule = w .1 .1 .1 .0; round-limit = w .1 .1 .1 .1 .0; part-first = w .1 .1 .1 .1 .1 .0; part-length = w .1 .1 .1 .1 .1 .1 .0 };
     }
 
--- the settings' line
 abbrev pub settingsForm : Form Settings
-settingsForm =
-    via (lead 80 seven-fields) fieldsOf settingsOfFields (λ _. refl) (λ _. refl) SettingsWithin
-    (λ _ w. (w .lanes, (w .iterations, (w .offset, (w .schedule, (w .rounds, (w .first, (w .bits, tt))))))))
-    (λ _ w. record { lanes = w .0; iterations = w .1 .0; offset = w .1 .1 .0; schedule = w .1 .1 .1 .0; rounds = w .1 .1 .1 .1 .0; first = w .1 .1 .1 .1 .1 .0; bits = w .1 .1 .1 .1 .1 .1 .0 })
+settingsForm = via (lead 80 seven-fields) settingsFields
 
-pub settings-reads : {lanes iterations step rounds first bits : ℕ} {offset : ℤ} {steps : Bool} {l₀ l₁ l₂ l₃ l₄ l₅ l₆ l₇ l₈ l₉ : Bool} {t₀ t₁ t₂ t₃ t₄ t₅ t₆ t₇ t₈ t₉ : List ℕ}
-    → Reads (byte 80) (λ _. Unit) l₀ l₁ t₀ t₁ → Reads (lead 9 (numbers 4)) (λ v. v ≡ lanes) l₁ l₂ t₁ t₂ → Reads wides (λ v. v ≡ iterations) l₂ l₃ t₂ t₃
-    → Reads (lead 9 smalls) (λ v. v ≡ offset) l₃ l₄ t₃ t₄ → Reads (lead 9 schedules) (OrderSo steps step) l₄ l₅ t₄ t₅ → Reads wides (λ v. v ≡ rounds) l₅ l₆ t₅ t₆
-    → Reads wides (λ v. v ≡ first) l₆ l₇ t₆ t₇ → Reads wides (λ v. v ≡ bits) l₇ l₈ t₇ t₈ → Reads (byte 10) (λ _. Unit) l₈ l₉ t₈ t₉
-    → Reads settingsForm (SettingsSo lanes iterations offset steps step rounds first bits) l₀ l₉ t₀ t₉
+pub settings-reads : {lanes iteration-limit step round-limit part-first part-length : ℕ} {offset : ℤ} {steps : Bool} {l₀ l₁ l₂ l₃ l₄ l₅ l₆ l₇ l₈ l₉ : Bool} {t₀ t₁ t₂ t₃ t₄ t₅ t₆ t₇ t₈ t₉ : List ℕ}
+    → Reads (byte 80) (λ _. Unit) l₀ l₁ t₀ t₁ → Reads (lead 9 (numbers 4)) (λ v. v ≡ lanes) l₁ l₂ t₁ t₂ → Reads wides (λ v. v ≡ iteration-limit) l₂ l₃ t₂ t₃
+    → Reads (lead 9 smalls) (λ v. v ≡ offset) l₃ l₄ t₃ t₄ → Reads (lead 9 schedules) (OrderSo steps step) l₄ l₅ t₄ t₅ → Reads wides (λ v. v ≡ round-limit) l₅ l₆ t₅ t₆
+    → Reads wides (λ v. v ≡ part-first) l₆ l₇ t₆ t₇ → Reads wides (λ v. v ≡ part-length) l₇ l₈ t₇ t₈ → Reads (byte 10) (λ _. Unit) l₈ l₉ t₈ t₉
+    → Reads settingsForm (SettingsSo lanes iteration-limit offset steps step round-limit part-first part-length) l₀ l₉ t₀ t₉
 settings-reads p a b o s r f c e =
-    via-reads (lead 80 seven-fields) fieldsOf settingsOfFields (λ _. refl) (λ _. refl) SettingsWithin
-    (λ _ w. (w .lanes, (w .iterations, (w .offset, (w .schedule, (w .rounds, (w .first, (w .bits, tt))))))))
-    (λ _ w. record { lanes = w .0; iterations = w .1 .0; offset = w .1 .1 .0; schedule = w .1 .1 .1 .0; rounds = w .1 .1 .1 .1 .0; first = w .1 .1 .1 .1 .1 .0; bits = w .1 .1 .1 .1 .1 .1 .0 })
-    (λ x h. record { lanes-is = h .0; iterations-is = h .1 .0; offset-is = h .1 .1 .0; order-is = h .1 .1 .1 .0; rounds-is = h .1 .1 .1 .1 .0; first-is = h .1 .1 .1 .1 .1 .0; bits-is = h .1 .1 .1 .1 .1 .1 .0 })
+    via-reads (lead 80 seven-fields) settingsFields
+    (λ x h. record { lanes-is = h .0; iteration-limit-is = h .1 .0; offset-is = h .1 .1 .0; order-is = h .1 .1 .1 .0; round-limit-is = h .1 .1 .1 .1 .0; part-first-is = h .1 .1 .1 .1 .1 .0; part-length-is = h .1 .1 .1 .1 .1 .1 .0 })
     (lead-reads 80 seven-fields p
     (seq-reads (lead 9 (numbers 4)) six-fields (λ _ _ _ _. refl) a
     (seq-reads wides five-fields (λ _ _ _ _. refl) b
@@ -154,11 +152,20 @@ pub record PairWithin (p : Pair) : Type 0 where
   pub position : Wide (p .position)
   pub value : Small (p .value)
 
+abbrev pub pairFields : StandFor (seq wides (lead 9 smalls) (λ _ _ _ _. refl)) Pair
+pairFields =
+    record {
+      to = λ p. (p .position, p .value);
+      from = λ x. record { position = x .0; value = x .1 };
+      from-to = λ _. refl;
+      to-from = λ _. refl;
+      Within = PairWithin;
+      to-within = λ _ w. (w .position, w .value);
+      from-within = λ _ w. record { position = w .0; value = w .1 };
+    }
+
 abbrev pub pairForm : Form Pair
-pairForm =
-    via (seq wides (lead 9 smalls) (λ _ _ _ _. refl)) (λ p. (p .position, p .value)) (λ x. record { position = x .0; value = x .1 }) (λ _. refl) (λ _. refl) PairWithin
-    (λ _ w. (w .position, w .value))
-    (λ _ w. record { position = w .0; value = w .1 })
+pairForm = via (seq wides (lead 9 smalls) (λ _ _ _ _. refl)) pairFields
 
 abbrev pub pairFrom : ℕ → ℤ → Pair
 pairFrom position value = record { position = position; value = value }
@@ -166,9 +173,7 @@ pairFrom position value = record { position = position; value = value }
 pub pair-reads : {position : ℕ} {value : ℤ} {l l′ l″ : Bool} {t u v : List ℕ} → Reads wides (λ p. p ≡ position) l l′ t u → Reads (lead 9 smalls) (λ z. z ≡ value) l′ l″ u v
     → Reads pairForm (λ p. p ≡ pairFrom position value) l l″ t v
 pair-reads {position} {value} p z =
-    via-reads (seq wides (lead 9 smalls) (λ _ _ _ _. refl)) (λ p. (p .position, p .value)) (λ x. record { position = x .0; value = x .1 }) (λ _. refl) (λ _. refl) PairWithin
-    (λ _ w. (w .position, w .value))
-    (λ _ w. record { position = w .0; value = w .1 })
+    via-reads (seq wides (lead 9 smalls) (λ _ _ _ _. refl)) pairFields
     (λ x h. said x (h .0) (h .1))
     (seq-reads wides (lead 9 smalls) (λ _ _ _ _. refl) p z)
   where
@@ -212,27 +217,25 @@ pub record LineWithin (n : ℕ) (w : Word) : Type 0 where
   pub within : WordWithin n w
   pub short : n ≤ 1122
 
-abbrev pub WordFields : Type 0
-WordFields = ℤ × (List Pair × Unit)
-
-abbrev pub fieldsOfWord : Word → WordFields
-fieldsOfWord w = (w .default, (w .pairs, tt))
-
-abbrev pub wordOfFields : WordFields → Word
-wordOfFields x = record { default = x .0; pairs = x .1 .0 }
+abbrev pub wordFields : (n : ℕ) → StandFor (lead 87 (word-fields n)) Word
+wordFields n =
+    record {
+      to = λ w. (w .default, (w .pairs, tt));
+      from = λ x. record { default = x .0; pairs = x .1 .0 };
+      from-to = λ _. refl;
+      to-from = λ _. refl;
+      Within = LineWithin n;
+      to-within = λ _ w. (w .within .default, (record { rising = w .within .pairs; few = w .within .few; short = w .short }, tt));
+      from-within = λ _ w. record { within = record { default = w .0; pairs = w .1 .0 .rising; few = w .1 .0 .few }; short = w .1 .0 .short };
+    }
 
 abbrev pub wordForm : ℕ → Form Word
-wordForm n =
-    via (lead 87 (word-fields n)) fieldsOfWord wordOfFields (λ _. refl) (λ _. refl) (LineWithin n)
-    (λ _ w. (w .within .default, (record { rising = w .within .pairs; few = w .within .few; short = w .short }, tt)))
-    (λ _ w. record { within = record { default = w .0; pairs = w .1 .0 .rising; few = w .1 .0 .few }; short = w .1 .0 .short })
+wordForm n = via (lead 87 (word-fields n)) (wordFields n)
 
 pub word-reads : {S : ℤ → Type 0} {S′ : List Pair × Unit → Type 0} (n : ℕ) {l₀ l₁ l₂ l₃ : Bool} {t₀ t₁ t₂ t₃ : List ℕ} → Reads (byte 87) (λ _. Unit) l₀ l₁ t₀ t₁
     → Reads (lead 9 smalls) S l₁ l₂ t₁ t₂ → Reads (pair-chain n) S′ l₂ l₃ t₂ t₃ → Reads (wordForm n) (λ _. Unit) l₀ l₃ t₀ t₃
 word-reads n w d p =
-    via-reads (lead 87 (word-fields n)) fieldsOfWord wordOfFields (λ _. refl) (λ _. refl) (LineWithin n)
-    (λ _ w. (w .within .default, (record { rising = w .within .pairs; few = w .within .few; short = w .short }, tt)))
-    (λ _ w. record { within = record { default = w .0; pairs = w .1 .0 .rising; few = w .1 .0 .few }; short = w .1 .0 .short })
+    via-reads (lead 87 (word-fields n)) (wordFields n)
     (λ x h. tt)
     (lead-reads 87 (word-fields n) w (seq-reads (lead 9 smalls) (pair-chain n) (λ b r _ _. pairs-stop (b .0) r) d p))
 

@@ -3,7 +3,7 @@ use mathlib.Core.Path.{_≡_, refl}
 use mathlib.Core.List.{[], _∷_}
 use native.Mathlib.Omega.{arith}
 use lib.IntN.{pos, negsuc}
-use Rattle.laws.specs.Decimal.{decimal, digits, signed}
+use Rattle.laws.specs.Definitions.{decimal, digits, signed}
 use Rattle.report_form.specs.Description.{Description, sequential, Within, render}
 
 abbrev pub listing : Description
@@ -11,7 +11,7 @@ listing =
     record {
       n = 748;
       rows = (0 ∷ []) ∷ [];
-      settings = record { lanes = 1; iterations = 0; offset = pos 0; schedule = sequential; rounds = 10; first = 0; bits = 374 };
+      settings = record { lanes = 1; iteration-limit = 0; offset = pos 0; schedule = sequential; round-limit = 10; part-first = 0; part-length = 374 };
       words = record { default = pos 1; pairs = [] } ∷ record { default = pos 1; pairs = record { position = 0; value = negsuc 0 } ∷ [] } ∷ [];
     }
 
@@ -21,7 +21,7 @@ listing-within =
       n = omega arith;
       rows = (record { addresses = (omega arith, tt); few = omega arith }, tt);
       three = omega arith;
-      settings = record { lanes = omega arith; iterations = omega arith; offset = omega arith; schedule = tt; rounds = omega arith; first = omega arith; bits = omega arith };
+      settings = record { lanes = omega arith; iteration-limit = omega arith; offset = omega arith; schedule = tt; round-limit = omega arith; part-first = omega arith; part-length = omega arith };
       words = (
         record { default = omega arith; pairs = tt; few = omega arith },
         (record { default = omega arith; pairs = (omega arith, omega arith, omega arith, tt); few = omega arith }, tt),

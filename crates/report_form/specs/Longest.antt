@@ -5,7 +5,8 @@ use Prim.Native.Nat.{ℕ, suc, _*_, _≤_, _<_}
 use native.Mathlib.Omega.{arith}
 use lib.IntN.{ℤ, pos, negsuc}
 use lib.ListN.{length, length-append}
-use Rattle.laws.specs.Decimal.{decimal, signed, decimal-length}
+use Rattle.laws.specs.Decimal.{decimal-length}
+use Rattle.laws.specs.Definitions.{decimal, signed}
 use Rattle.report_form.specs.Description.{Schedule, sequential, layered, Settings, Pair, Word, Description, All, Small, Ascending, RowWithin, ScheduleWithin, SettingsWithin, WordWithin, Within, each, line, rowLine, scheduleText, settingsLine, wordLine, render}
 use Rattle.report_form.specs.Forms.{rowForm, wordForm, pairText, address}
 use Rattle.report_form.specs.Unique.{row-line, word-line}
@@ -35,12 +36,12 @@ row-length row w =
 settings-length : (s : Settings) → SettingsWithin s → length (settingsLine s) ≤ 64
 settings-length s w =
     let a = decimal-length 0 (s .lanes) (omega (arith, w .lanes)) in
-    let b = decimal-length 9 (s .iterations) (omega (arith, w .iterations)) in
+    let b = decimal-length 9 (s .iteration-limit) (omega (arith, w .iteration-limit)) in
     let c = small-length (s .offset) (w .offset) in
     let d = schedule-length (s .schedule) (w .schedule) in
-    let e = decimal-length 9 (s .rounds) (omega (arith, w .rounds)) in
-    let f = decimal-length 9 (s .first) (omega (arith, w .first)) in
-    let g = decimal-length 9 (s .bits) (omega (arith, w .bits)) in
+    let e = decimal-length 9 (s .round-limit) (omega (arith, w .round-limit)) in
+    let f = decimal-length 9 (s .part-first) (omega (arith, w .part-first)) in
+    let g = decimal-length 9 (s .part-length) (omega (arith, w .part-length)) in
     simp length-append (omega arith)
 
 pairs-length : (n least : ℕ) (ps : List Pair) → n ≤ 1122 → Ascending n least ps → length (each pairText ps) ≤ length ps * 10

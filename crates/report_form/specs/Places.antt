@@ -33,6 +33,6 @@ pub record WordsHere (n : ℕ) (t : List ℕ) : Type 0 where
   pub at-place : WordsAt n t words
 
 -- the text goes on with rest, and the values are these
-pub record Filled (t rest : List ℕ) (values values′ : List ℤ) : Type 0 where
+pub record ReadAndStored (t rest : List ℕ) (values values′ : List ℤ) : Type 0 where
   pub next : t ≡ rest
   pub stores : values ≡ values′

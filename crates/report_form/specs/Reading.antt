@@ -1,12 +1,13 @@
--- What reading a text answers: the description that the text is the rendering of, or refusal 1, and the words' soft values.
+-- What the reader of a text answers: the description that the text is the rendering of, or refusal 1, and the words' soft values. Definitions only;
+-- Accepted has the laws.
 use mathlib.Core.Path.{_≡_}
 use mathlib.Core.Bool.{false}
 use mathlib.Core.Logic.{_⊎_}
-use mathlib.Core.List.{List, [], _∷_, _++_, map}
-use Prim.Native.Nat.{ℕ, _+_, _-_}
+use mathlib.Core.List.{List, _++_, map}
+use Prim.Native.Nat.{ℕ, _-_}
 use lib.IntN.{ℤ, pos}
-use lib.ListN.{length, drop, set, replicate}
-use Rattle.report_form.specs.Description.{Pair, Word, Description, Within, render, flat, isLayered, stepOf}
+use lib.ListN.{length, drop, replicate}
+use Rattle.report_form.specs.Description.{Description, Within, render, flat, isLayered, stepOf, softWords}
 use Rattle.report_form.specs.declared.Reading.{Reading}
 
 -- a list with zeros behind it, k long
@@ -24,13 +25,13 @@ readingOf d =
       total = length (flat (d .rows));
       addresses = padded 12 (flat (d .rows));
       lanes = d .settings .lanes;
-      iterations = d .settings .iterations;
+      «iteration_limit» = d .settings .iteration-limit;
       offset = d .settings .offset;
       layered = isLayered (d .settings .schedule);
       step = stepOf (d .settings .schedule);
-      rounds = d .settings .rounds;
-      first = d .settings .first;
-      bits = d .settings .bits;
+      «round_limit» = d .settings .round-limit;
+      «part_first» = d .settings .part-first;
+      «part_length» = d .settings .part-length;
       words = length (d .words);
     }
 
@@ -45,29 +46,15 @@ refusedReading =
       total = 0;
       addresses = replicate 12 0;
       lanes = 0;
-      iterations = 0;
+      «iteration_limit» = 0;
       offset = pos 0;
       layered = false;
       step = 0;
-      rounds = 0;
-      first = 0;
-      bits = 0;
+      «round_limit» = 0;
+      «part_first» = 0;
+      «part_length» = 0;
       words = 0;
     }
-
--- pairs stored in a list from a place on
-abbrev pub stored : ℕ → List Pair → List ℤ → List ℤ
-stored base [] xs = xs
-stored base (p ∷ ps) xs = stored base ps (set xs (base + p .position) (p .value))
-
--- a word's soft values: the default everywhere but at the positions of its pairs
-abbrev pub softWord : ℕ → Word → List ℤ
-softWord n w = stored 0 (w .pairs) (replicate n (w .default))
-
--- the soft values of all words, one after another
-abbrev pub softWords : ℕ → List Word → List ℤ
-softWords n [] = []
-softWords n (w ∷ ws) = softWord n w ++ softWords n ws
 
 -- the beginning of a list written over
 abbrev pub overlaid : List ℤ → List ℤ → List ℤ

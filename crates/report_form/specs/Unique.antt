@@ -2,7 +2,7 @@
 use mathlib.Core.Path.{_≡_, refl, sym, ap, ap₂, _∙_, subst}
 use mathlib.Core.List.{List, [], _∷_, _++_, map, append-assoc, append-nil}
 use Prim.Native.Nat.{ℕ, _≤_}
-use Rattle.laws.specs.Decimal.{decimal, signed}
+use Rattle.laws.specs.Definitions.{decimal, signed}
 use Rattle.report_form.specs.Description.{Pair, Word, Description, Within, each, line, pairFields, rowLine, settingsLine, wordLine, render}
 use Rattle.report_form.specs.Forms.{Body, bodyForm, headForm, rowForm, settingsForm, wordForm, pairText}
 

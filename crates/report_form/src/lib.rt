@@ -8,14 +8,14 @@ ghost use mathlib.Core.List.{List};
 ghost use lib.ListN.{length, drop, getD, replicate};
 ghost use lib.Seq.{sets};
 ghost use Rattle.laws.specs.Decimal.{digit};
-ghost use Rattle.report_form.specs.Description.{Pair, Word};
-ghost use Rattle.report_form.specs.Reading.{stored, softWord, softWords, refusedReading, RightReading};
-ghost use Rattle.report_form.specs.Places.{PairsAt, PairsHere, WordAt, WordHere, WordsAt, WordsHere, Filled};
+ghost use Rattle.report_form.specs.Description.{Pair, Word, stored, softWord, softWords};
+ghost use Rattle.report_form.specs.Reading.{refusedReading, RightReading};
+ghost use Rattle.report_form.specs.Places.{PairsAt, PairsHere, WordAt, WordHere, WordsAt, WordsHere, ReadAndStored};
 ghost use Rattle.report_form.specs.Form.{Reads, Listed, byte, lead};
 ghost use Rattle.report_form.specs.Forms.{numbers, smalls, rowForm, rows, RowsWithin, rows-within, RowsSo, pair-chain, wordForm, wordsForm, schedules, OrderSo, settingsForm, SettingsSo, pairForm, pairFrom};
 
 // What a text says: refusal 1 and zeros, or refusal 0 and a description's numbers: the code's n, the number of rows, their lengths and
-// their addresses one after another, the settings (rounds is the round limit, bits the BCH part's length), and the number of words.
+// their addresses one after another, the settings, and the number of words.
 pub struct Reading {
     pub refusal: u32,
     pub n: u32,
@@ -24,27 +24,28 @@ pub struct Reading {
     pub total: u32,
     pub addresses: [u16; 12],
     pub lanes: u32,
-    pub iterations: u32,
+    pub iteration_limit: u32,
     pub offset: i8,
     pub layered: bool,
     pub step: u32,
-    pub rounds: u32,
-    pub first: u32,
-    pub bits: u32,
+    pub round_limit: u32,
+    pub part_first: u32,
+    pub part_length: u32,
     pub words: u32,
 }
 
-// Whether the text is right so far, and the place behind what was read.
-struct Place {
-    right: bool,
-    next: usize,
+// Whether the text is right so far, and the place behind what was read. A reader is told whether the text was right before it: once wrong,
+// it stays wrong, and the readers need no tests between them.
+pub struct Place {
+    pub right: bool,
+    pub next: usize,
 }
 
-// A number that was read.
-struct Number {
-    right: bool,
-    value: u32,
-    next: usize,
+// A number that was read: whether the text is right so far, the number and the place behind it.
+pub struct Number {
+    pub right: bool,
+    pub value: u32,
+    pub next: usize,
 }
 
 // A number of 8 bits with its sign that was read.
@@ -74,13 +75,13 @@ struct Entry {
 struct Line {
     right: bool,
     lanes: u32,
-    iterations: u32,
+    iteration_limit: u32,
     offset: i8,
     layered: bool,
     step: u32,
-    rounds: u32,
-    first: u32,
-    bits: u32,
+    round_limit: u32,
+    part_first: u32,
+    part_length: u32,
     next: usize,
 }
 
@@ -103,7 +104,7 @@ struct Rows {
 }
 
 // The byte at a place, 0 behind the end.
-fn byte_at(text: &[u8], at: usize) -> u8
+pub fn byte_at(text: &[u8], at: usize) -> u8
     ensures { λ r. ⌜ r ≡ getD (now (text .entry)) at 0 ⌝ }
 {
     if at < text.len() { text[at] } else { 0 }
@@ -117,8 +118,8 @@ fn digit_at(text: &[u8], at: usize) -> bool
     if b < b'0' { false } else { b <= b'9' }
 }
 
-// One byte that has to stand at a place; 0 never does.
-fn expect(text: &[u8], right: bool, at: usize, b: u8) -> Place
+// One byte that has to stand at a place; 0, which `byte_at` gives behind the end, never does.
+pub fn expect(text: &[u8], right: bool, at: usize, b: u8) -> Place
     requires { ⌜ 0 < b ⌝ }
     ensures { λ r. ⌜ Reads (byte b) (λ _. Unit) right (r .right) (drop at (now (text .entry))) (drop (r .next) (now (text .entry))) ⌝ }
 {
@@ -168,8 +169,8 @@ fn read_digits(text: &[u8], at: usize, most: u32) -> Number
     }
 }
 
-// A number of at most `most`.
-fn read_number(text: &[u8], right: bool, at: usize, most: u32) -> Number
+// A number of at most `most`, in decimal without a leading zero; no digit follows.
+pub fn read_number(text: &[u8], right: bool, at: usize, most: u32) -> Number
     ensures { λ r. ⌜ Reads (numbers most) (λ v. v ≡ r .value) right (r .right) (drop at (now (text .entry))) (drop (r .next) (now (text .entry))) ⌝ }
 {
     if right {
@@ -293,29 +294,29 @@ fn read_order_field(text: &[u8], right: bool, at: usize) -> Order
 // The settings' line.
 fn read_settings(text: &[u8], right: bool, at: usize) -> Line
     ensures { λ r. ⌜
-        Reads settingsForm (SettingsSo (r .lanes) (r .iterations) (r .offset) (r .layered) (r .step) (r .rounds) (r .first) (r .bits)) right (r .right)
+        Reads settingsForm (SettingsSo (r .lanes) (r .«iteration_limit») (r .offset) (r .layered) (r .step) (r .«round_limit») (r .«part_first») (r .«part_length»)) right (r .right)
         (drop at (now (text .entry))) (drop (r .next) (now (text .entry)))
         ⌝ }
 {
     let letter = expect(text, right, at, b'P');
     let lanes = read_field(text, letter.right, letter.next, 4);
-    let iterations = read_field(text, lanes.right, lanes.next, 4294967295);
-    let offset = read_small_field(text, iterations.right, iterations.next);
+    let iteration_limit = read_field(text, lanes.right, lanes.next, 4294967295);
+    let offset = read_small_field(text, iteration_limit.right, iteration_limit.next);
     let order = read_order_field(text, offset.right, offset.next);
-    let rounds = read_field(text, order.right, order.next, 4294967295);
-    let first = read_field(text, rounds.right, rounds.next, 4294967295);
-    let bits = read_field(text, first.right, first.next, 4294967295);
-    let end = expect(text, bits.right, bits.next, b'\n');
+    let round_limit = read_field(text, order.right, order.next, 4294967295);
+    let part_first = read_field(text, round_limit.right, round_limit.next, 4294967295);
+    let part_length = read_field(text, part_first.right, part_first.next, 4294967295);
+    let end = expect(text, part_length.right, part_length.next, b'\n');
     Line {
         right: end.right,
         lanes: lanes.value,
-        iterations: iterations.value,
+        iteration_limit: iteration_limit.value,
         offset: offset.value,
         layered: order.layered,
         step: order.step,
-        rounds: rounds.value,
-        first: first.value,
-        bits: bits.value,
+        round_limit: round_limit.value,
+        part_first: part_first.value,
+        part_length: part_length.value,
         next: end.next,
     }
 }
@@ -522,7 +523,7 @@ fn fill_pairs(text: &[u8], at: usize, n: u32, words: &mut [i8], base: usize) -> 
     ensures { λ r. ⌜
         ((ps : List Pair) (rest : List ℕ)
         → PairsAt n (drop at (now (text .entry))) ps rest
-        → Filled (drop r (now (text .entry))) rest (now (words .exit)) (stored base ps (now (words .entry))))
+        → ReadAndStored (drop r (now (text .entry))) rest (now (words .exit)) (stored base ps (now (words .entry))))
         ⌝ }
 {
     let mut i = at;
@@ -544,7 +545,7 @@ fn fill_word(text: &[u8], at: usize, n: u32, words: &mut [i8], base: usize) -> u
     ensures { λ r. ⌜
         ((w : Word) (rest : List ℕ)
         → WordAt n (drop at (now (text .entry))) w rest
-        → Filled (drop r (now (text .entry))) rest (now (words .exit)) (sets (now (words .entry)) base (softWord n w)))
+        → ReadAndStored (drop r (now (text .entry))) rest (now (words .exit)) (sets (now (words .entry)) base (softWord n w)))
         ⌝ }
 {
     let value = read_small_field(text, true, at + 1);
@@ -580,13 +581,13 @@ fn refused() -> Reading
         total: 0,
         addresses: [0u16; 12],
         lanes: 0,
-        iterations: 0,
+        iteration_limit: 0,
         offset: 0,
         layered: false,
         step: 0,
-        rounds: 0,
-        first: 0,
-        bits: 0,
+        round_limit: 0,
+        part_first: 0,
+        part_length: 0,
         words: 0,
     }
 }
@@ -620,13 +621,13 @@ pub fn read(text: &[u8], words: &mut [i8]) -> Reading
         total: rows.total,
         addresses,
         lanes: settings.lanes,
-        iterations: settings.iterations,
+        iteration_limit: settings.iteration_limit,
         offset: settings.offset,
         layered: settings.layered,
         step: settings.step,
-        rounds: settings.rounds,
-        first: settings.first,
-        bits: settings.bits,
+        round_limit: settings.round_limit,
+        part_first: settings.part_first,
+        part_length: settings.part_length,
         words: list.value,
     }
 }

@@ -7,7 +7,8 @@ use native.Mathlib.Omega.{arith}
 use lib.ListN.{length, take, getD, set, length-append}
 use lib.Seq.{sets, length-sets, take-suc, take-all, length-take-le}
 use Rattle.laws.specs.Stores.{sets-append}
-use Rattle.laws.specs.Decimal.{decimal, decimal-small, decimal-more}
+use Rattle.laws.specs.Decimal.{decimal-small, decimal-more}
+use Rattle.laws.specs.Definitions.{decimal}
 use Rattle.report_lines.specs.Wrote.{Wrote, wrote-then}
 
 pub small-length : (v : ℕ) → v < 10 → length (decimal v) ≡ 1

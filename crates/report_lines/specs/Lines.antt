@@ -2,7 +2,7 @@
 use mathlib.Core.Bool.{Bool, true, false}
 use mathlib.Core.List.{List, [], _∷_, _++_}
 use Prim.Native.Nat.{ℕ, zero, suc}
-use Rattle.laws.specs.Decimal.{decimal}
+use Rattle.laws.specs.Definitions.{decimal}
 use Rattle.report_form.specs.Description.{line}
 
 -- "ending (`finished` or `stopped`)"

@@ -2,7 +2,7 @@
 use mathlib.Core.Path.{_≡_, refl}
 use mathlib.Core.Bool.{false}
 use mathlib.Core.List.{[], _∷_}
-use Rattle.laws.specs.Decimal.{decimal, digits}
+use Rattle.laws.specs.Definitions.{decimal, digits}
 use Rattle.report_lines.specs.Lines.{resultWith, renderResult, refusedLine}
 
 -- finished→0, 0→met→0→0→0 and 1→unmet→0→1→1, each with its newline

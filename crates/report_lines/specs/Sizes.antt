@@ -6,7 +6,8 @@ use Prim.Native.Nat.{ℕ, zero, suc, _+_, _≤_, _<_}
 use native.Mathlib.Nat.{add-zero, add-suc, suc-add}
 use native.Mathlib.Omega.{arith}
 use lib.ListN.{length, length-append}
-use Rattle.laws.specs.Decimal.{decimal, decimal-length}
+use Rattle.laws.specs.Decimal.{decimal-length}
+use Rattle.laws.specs.Definitions.{decimal}
 use Rattle.report_lines.specs.Lines.{Result, endingText, stateText, bchText, firstLine, resultLine, resultLines}
 
 pub number-length : (v : ℕ) → v < 4294967296 → length (decimal v) ≤ 10

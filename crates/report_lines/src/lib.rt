@@ -2,7 +2,7 @@
 ghost use mathlib.Core.List.{_∷_, [], _++_};
 ghost use Prim.Native.Nat.{_+_, _≤_, _<_};
 ghost use lib.ListN.{length};
-ghost use Rattle.laws.specs.Decimal.{decimal};
+ghost use Rattle.laws.specs.Definitions.{decimal};
 ghost use Rattle.report_lines.specs.Lines.{endingText, stateText, bchText, firstLine, resultWith, resultLine, refusedLine};
 ghost use Rattle.report_lines.specs.Wrote.{Wrote};
 

@@ -1,5 +1,5 @@
--- After the last round: the words still held are written, lane by lane. Then memory says of each word what its status says, and
--- demand 3 speaks of memory.
+-- After the last round: the words still held are written, lane by lane. Then memory says of each word what its status says (`memory-of`), and
+-- demand 3 speaks of memory. In order: finding a word among others; `Closing` from the first lane to the last; the run's own lanes and log.
 use mathlib.Core.Path.{_≡_, refl, sym, ap, _∙_}
 use mathlib.Core.Logic.{_≢_}
 use mathlib.Core.Bool.{Bool, true, false, cond}
@@ -13,11 +13,11 @@ use lib.ListN.{length, getD, take, drop, length-append, length-drop, take-append
 use lib.Seq.{take-suc, take-all}
 use Rattle.laws.specs.Choice.{by-bool, by-cond, same-self}
 use Rattle.schedule.specs.Run.{Lane, empty, holds, Left, State, held}
-use Rattle.schedule.specs.Status.{Status, waiting, holding, done, lane-words, log-words, queue-words, all-words, seek, status, times, count}
-use Rattle.schedule.specs.Demand.{Demand}
+use Rattle.schedule.specs.Status.{Status, waiting, holding, done, lane-words, log-words, queue-words, all-words, seek, status}
+use Rattle.schedule.specs.WholeRun.{times, count, Whole-run}
 use Rattle.schedule.specs.Theorem.{demand}
 use Rattle.schedule.specs.Lanes.{Setup, lane-of, row, rows, length-rows, getD-rows, lane-held, kept, Kept}
-use Rattle.schedule.specs.Loop.{result, Runs}
+use Rattle.schedule.specs.Loop.{result, Result-stands}
 
 module _ {X : Type 0} where
   times-append : (v : ℕ) (a b : List (ℕ × Status X)) → times v (a ++ b) ≡ times v a + times v b
@@ -57,17 +57,17 @@ module _ {X : Type 0} where
 
 module _ {X M : Type 0} (R : Setup X M) where
   -- what memory says of word v at the end, by its status
-  unfoldable pub told : ℕ → Status X → M
-  told v waiting = R .before v
-  told v (holding x i) = R .during v x i
-  told v (done x i) = R .after v x i
+  unfoldable pub memory-of : ℕ → Status X → M
+  memory-of v waiting = R .before v
+  memory-of v (holding x i) = R .during v x i
+  memory-of v (done x i) = R .after v x i
 
-  told-log : (log : List (Left X)) (v : ℕ) → kept R v (seek v (log-words log)) ≡ told v (seek v (log-words log))
-  unfolding kept told seek log-words
-  told-log [] v = refl
-  told-log (e ∷ es) v =
-      by-bool (λ b. kept R v (cond b (done (e .values) (e .iterations)) (seek v (log-words es))) ≡ told v (cond b (done (e .values) (e .iterations)) (seek v (log-words es)))) (eqb v (e .word))
-      (λ _. refl) (λ _. told-log es v)
+  memory-log : (log : List (Left X)) (v : ℕ) → kept R v (seek v (log-words log)) ≡ memory-of v (seek v (log-words log))
+  unfolding kept memory-of seek log-words
+  memory-log [] v = refl
+  memory-log (e ∷ es) v =
+      by-bool (λ b. kept R v (cond b (done (e .values) (e .iterations)) (seek v (log-words es))) ≡ memory-of v (cond b (done (e .values) (e .iterations)) (seek v (log-words es)))) (eqb v (e .word))
+      (λ _. refl) (λ _. memory-log es v)
 
   module _ (held′ iters : List ℕ) (col : ℕ → X) (log : List (Left X)) where
     abbrev ls : List (Lane X)
@@ -79,11 +79,11 @@ module _ {X M : Type 0} (R : Setup X M) where
     -- the words of the lanes below l have been written
     pub record Closing (l : ℕ) (memory : ℕ → M) : Type 0 where
       pub each-once : (w : ℕ) → times w (lane-words ls) ≤ 1
-      pub told-so : (v : ℕ) → memory v ≡ told v (seek v (seen l))
+      pub memory-so : (v : ℕ) → memory v ≡ memory-of v (seek v (seen l))
 
     pub closing-start : (memory : ℕ → M) → ((w : ℕ) → times w (lane-words ls) ≤ 1) → Kept R log memory → Closing 0 memory
     unfolding lane-words
-    closing-start memory once k = record { each-once = once; told-so = λ v. k v ∙ told-log log v }
+    closing-start memory once k = record { each-once = once; memory-so = λ v. k v ∙ memory-log log v }
 
     next-lane : (l : ℕ) → l < R .lanes → lane-words (take (l + 1) ls) ≡ lane-words (take l ls) ++ lane-words (row held′ iters col l ∷ [])
     next-lane l h =
@@ -100,7 +100,7 @@ module _ {X M : Type 0} (R : Setup X M) where
     closing-skip l memory h z c =
         record {
           each-once = c .each-once;
-          told-so = λ v. c .told-so v ∙ ap (λ ws. told v (seek v (ws ++ log-words log)))
+          memory-so = λ v. c .memory-so v ∙ ap (λ ws. memory-of v (seek v (ws ++ log-words log)))
               (sym (next-lane l h ∙ ap (λ k. lane-words (take l ls) ++ lane-words (lane-of k (col l) (getD iters l 0) ∷ [])) z ∙ append-nil (lane-words (take l ls))));
         }
 
@@ -108,8 +108,8 @@ module _ {X M : Type 0} (R : Setup X M) where
     pub closing-write : (l : ℕ) (memory memory′ : ℕ → M) → l < R .lanes → getD held′ l 0 ≢ 0
         → memory′ (getD held′ l 0 - 1) ≡ R .during (getD held′ l 0 - 1) (col l) (getD iters l 0) → ((v : ℕ) → v ≢ getD held′ l 0 - 1 → memory′ v ≡ memory v)
         → Closing l memory → Closing (l + 1) memory′
-    unfolding lane-words told
-    closing-write l memory memory′ h n new others c = record { each-once = c .each-once; told-so = λ v. at v (eqb v w) refl }
+    unfolding lane-words memory-of
+    closing-write l memory memory′ h n new others c = record { each-once = c .each-once; memory-so = λ v. at v (eqb v w) refl }
       where
         w : ℕ
         w = getD held′ l 0 - 1
@@ -139,23 +139,23 @@ module _ {X M : Type 0} (R : Setup X M) where
             one-there : times w ((w, st) ∷ []) ≡ 1
             one-there = unfold times in omega (arith, same-self w)
 
-        at : (v : ℕ) (b : Bool) → eqb v w ≡ b → memory′ v ≡ told v (seek v (seen (l + 1)))
+        at : (v : ℕ) (b : Bool) → eqb v w ≡ b → memory′ v ≡ memory-of v (seek v (seen (l + 1)))
         at v true e =
             ap memory′ (eqb-true v w e) ∙ new
-            ∙ sym (ap (told v) (ap (seek v) now-seen ∙ ap (λ u. seek u (lane-words (take l ls) ++ ((w, st) ∷ log-words log))) (eqb-true v w e) ∙ seek-here w st (lane-words (take l ls)) (log-words log) not-before)
+            ∙ sym (ap (memory-of v) (ap (seek v) now-seen ∙ ap (λ u. seek u (lane-words (take l ls) ++ ((w, st) ∷ log-words log))) (eqb-true v w e) ∙ seek-here w st (lane-words (take l ls)) (log-words log) not-before)
             ∙ ap (λ u. R .during u (col l) (getD iters l 0)) (eqb-true v w e))
         at v false e =
-            others v (eqb-false v w e) ∙ c .told-so v ∙ ap (told v) (sym (ap (seek v) now-seen ∙ seek-other v w st (eqb-false v w e) (lane-words (take l ls)) (log-words log)))
+            others v (eqb-false v w e) ∙ c .memory-so v ∙ ap (memory-of v) (sym (ap (seek v) now-seen ∙ seek-other v w st (eqb-false v w e) (lane-words (take l ls)) (log-words log)))
 
-    pub closing-end : (l : ℕ) (memory : ℕ → M) → R .lanes ≡ l → Closing l memory → (v : ℕ) → memory v ≡ told v (seek v (lane-words ls ++ log-words log))
-    closing-end l memory e c v = c .told-so v ∙ ap (λ a. told v (seek v (lane-words a ++ log-words log))) (take-all l ls (omega (arith, length-rows (R .lanes) held′ iters col)))
+    pub closing-end : (l : ℕ) (memory : ℕ → M) → R .lanes ≡ l → Closing l memory → (v : ℕ) → memory v ≡ memory-of v (seek v (lane-words ls ++ log-words log))
+    closing-end l memory e c v = c .memory-so v ∙ ap (λ a. memory-of v (seek v (lane-words a ++ log-words log))) (take-all l ls (omega (arith, length-rows (R .lanes) held′ iters col)))
 
   -- ---- the run's own lanes and log
   module _ (n round-limit : ℕ) (once : (w : ℕ) → count w (R .order) ≤ 1) (some : 1 ≤ R .lanes) where
-    demanded : Demand (R .words) (R .order) (R .lanes) round-limit (result R n round-limit)
+    demanded : Whole-run (R .words) (R .order) (R .lanes) round-limit (result R n round-limit)
     demanded = demand (R .words) (R .order) once (R .lanes) some round-limit
 
-    module _ (ended : Bool) (rounds : ℕ) (held′ iters : List ℕ) (col : ℕ → X) (next : ℕ) (memory : ℕ → M) (r : Runs R n round-limit ended rounds held′ iters col next memory) where
+    module _ (ended : Bool) (rounds : ℕ) (held′ iters : List ℕ) (col : ℕ → X) (next : ℕ) (memory : ℕ → M) (r : Result-stands R n round-limit ended rounds held′ iters col next memory) where
       abbrev s : State X
       s = result R n round-limit .last
 
@@ -178,12 +178,12 @@ module _ {X M : Type 0} (R : Setup X M) where
               unfolded w = unfold all-words in refl
 
       -- memory says of each word what its status says
-      pub close-end : (l : ℕ) (memory′ : ℕ → M) → R .lanes ≡ l → Closing held′ iters col (s .stock .log) l memory′ → (v : ℕ) → memory′ v ≡ told v (status s v)
+      pub close-end : (l : ℕ) (memory′ : ℕ → M) → R .lanes ≡ l → Closing held′ iters col (s .stock .log) l memory′ → (v : ℕ) → memory′ v ≡ memory-of v (status s v)
       unfolding status all-words
       close-end l memory′ e c v =
           closing-end held′ iters col (s .stock .log) l memory′ e c v
-          ∙ ap (λ ls. told v (seek v (lane-words ls ++ log-words (s .stock .log)))) (r .stands .lanes-are)
-          ∙ ap (told v) (sym (ap (seek v) (sym (append-assoc (lane-words (s .lanes)) (log-words (s .stock .log)) (queue-words (s .stock .queue))))
+          ∙ ap (λ ls. memory-of v (seek v (lane-words ls ++ log-words (s .stock .log)))) (r .stands .lanes-are)
+          ∙ ap (memory-of v) (sym (ap (seek v) (sym (append-assoc (lane-words (s .lanes)) (log-words (s .stock .log)) (queue-words (s .stock .queue))))
           ∙ seek-no-queue v (lane-words (s .lanes) ++ log-words (s .stock .log)) (s .stock .queue)))
 
       -- the words loaded: held and finished

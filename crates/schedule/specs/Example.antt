@@ -5,6 +5,8 @@ use mathlib.Core.List.{[], _∷_}
 use Prim.Native.Nat.{ℕ, _-_}
 use lib.Dec.{eqb}
 use lib.ListN.{getD}
+use Rattle.schedule.specs.Status.{lane-words, log-words, queue-words, all-words, seek, status}
+use Rattle.schedule.specs.Iterations.{state-at, held-in, rounds-held}
 use Rattle.schedule.specs.Run.{Words, empty, holds, Left, finished, stopped, each, held, over, logged, load, fill, iterated, leave, refill, round, go, start, run}
 
 five : Words ℕ
@@ -38,3 +40,8 @@ example-stopped : run five (0 ∷ 1 ∷ 2 ∷ 3 ∷ 4 ∷ []) 2 1
     }
 unfolding run go start refill round each fill load iterated leave logged over held five left
 example-stopped = refl
+
+-- in the first run word 3 is held in rounds 1 and 2 of the rounds 0 to 2
+example-held : (held-in five (0 ∷ 1 ∷ 2 ∷ 3 ∷ 4 ∷ []) 2 3 0 ≡ 0) × (held-in five (0 ∷ 1 ∷ 2 ∷ 3 ∷ 4 ∷ []) 2 3 1 ≡ 1) × (rounds-held five (0 ∷ 1 ∷ 2 ∷ 3 ∷ 4 ∷ []) 2 3 3 ≡ 2)
+unfolding held-in rounds-held state-at status seek all-words lane-words log-words queue-words start refill round each fill load iterated leave logged over held five left
+example-held = (refl, refl, refl)

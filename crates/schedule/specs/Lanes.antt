@@ -1,4 +1,6 @@
--- How arrays and columns of memory stand for the run's lanes, queue and log, and how code that goes from lane to lane meets `each`.
+-- How arrays and columns of memory stand for the run's lanes, queue and log, and how code that goes from lane to lane meets `each`. In order: the
+-- parts of such a run (`Setup`); lanes as rows of arrays; the turns from lane l on (`from`); how many lanes are held, and whether any is; memory
+-- that keeps the log (`Kept`); all of them together (`Stands`).
 use mathlib.Core.Path.{_≡_, refl, sym, ap, ap₂, _∙_}
 use mathlib.Core.Logic.{_≢_}
 use mathlib.Core.Bool.{Bool, true, false, cond, not, _||_}
@@ -13,7 +15,7 @@ use borrow.Author.Tests.{eqb-true, eqb-false, eq-eqb, ne-eqb}
 use lib.Dec.{eqb}
 use lib.ListN.{length, getD, take, drop, set, length-set}
 use lib.Seq.{getD-set-same, getD-set-other, ext-getD, set-getD}
-use Rattle.laws.specs.Lists.{or-left, or-right}
+use Rattle.laws.specs.Choice.{or-left, or-right}
 use Rattle.laws.specs.Stores.{set-at}
 use Rattle.schedule.specs.Run.{Words, Lane, empty, holds, Left, Stock, Turn, each, held, logged}
 use Rattle.schedule.specs.Status.{Status, waiting, holding, done, log-words, seek}

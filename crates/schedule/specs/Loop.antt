@@ -1,4 +1,5 @@
--- The run as code does it: refill, test, a round, again.
+-- The run as code does it: refill, test, a round, again. In order: what a round may rely on (`Safe`, `Ready`); what arrays and memory are at the
+-- end (`Result-stands`); before refilling (`Going`) and after it (`Pausing`), and the ways from one to the other and to the end.
 use mathlib.Core.Path.{_≡_, refl, sym, ap, ap₂, _∙_, subst}
 use mathlib.Core.Logic.{_≢_}
 use mathlib.Core.Bool.{Bool, true, false, cond, not, _||_}
@@ -88,7 +89,7 @@ module _ {X M : Type 0} (R : Setup X M) (n round-limit : ℕ) where
   result = run (R .words) (R .order) (R .lanes) round-limit
 
   -- ending, rounds, lanes, queue and log are the run's
-  pub record Runs (ended : Bool) (rounds : ℕ) (held′ iters : List ℕ) (col : ℕ → X) (next : ℕ) (memory : ℕ → M) : Type 0 where
+  pub record Result-stands (ended : Bool) (rounds : ℕ) (held′ iters : List ℕ) (col : ℕ → X) (next : ℕ) (memory : ℕ → M) : Type 0 where
     pub ending-is : ended ≡ is-stopped (result .ending)
     pub rounds-are : rounds ≡ result .last .rounds
     pub in-order : next ≤ length (R .order)
@@ -226,7 +227,7 @@ module _ {X M : Type 0} (R : Setup X M) (n round-limit : ℕ) where
     T : State X
     T = made held′ iters col next rounds (p .log)
 
-    stands-so : (e : Ending) → result ≡ record { ending = e; last = T } → (b : Bool) → b ≡ is-stopped e → Runs b rounds held′ iters col next memory
+    stands-so : (e : Ending) → result ≡ record { ending = e; last = T } → (b : Bool) → b ≡ is-stopped e → Result-stands b rounds held′ iters col next memory
     unfolding T made
     stands-so e q b i =
         record {
@@ -247,7 +248,7 @@ module _ {X M : Type 0} (R : Setup X M) (n round-limit : ℕ) where
     busy-rows = p .busy-is ∙ any-is (R .lanes) held′ iters col
 
     -- no lane is held
-    pub ends-finished : busy ≡ false → (ended : Bool) → ended ≡ false → Runs ended rounds held′ iters col next memory
+    pub ends-finished : busy ≡ false → (ended : Bool) → ended ≡ false → Result-stands ended rounds held′ iters col next memory
     unfolding T is-stopped
     ends-finished b = stands-so finished (sym (p .goes) ∙ idle (round-limit - rounds) (not-false _ (sym busy-rows ∙ b)))
 
@@ -255,7 +256,7 @@ module _ {X M : Type 0} (R : Setup X M) (n round-limit : ℕ) where
     busy-held b = not-true _ (sym busy-rows ∙ b)
 
     -- the limit is used up
-    pub ends-stopped : busy ≡ true → rounds ≡ round-limit → (ended : Bool) → ended ≡ true → Runs ended rounds held′ iters col next memory
+    pub ends-stopped : busy ≡ true → rounds ≡ round-limit → (ended : Bool) → ended ≡ true → Result-stands ended rounds held′ iters col next memory
     unfolding settle T made is-stopped
     ends-stopped b r =
         stands-so stopped (sym (p .goes) ∙ ap (λ k. settle k T) zero-left ∙ ap (λ b. cond b (record { ending = finished; last = T }) (record { ending = stopped; last = T })) (busy-held b))

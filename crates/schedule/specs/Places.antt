@@ -1,4 +1,6 @@
--- Each word of a run is in one place: lists of words with their status, each word once.
+-- Each word of a run is in one place. In order: sums and the largest over an order; sums over words with their status (`weigh`); in a list with the
+-- words of an order, each once, a word's status is what stands beside it (`only-found`, `sum-status`); the three parts of a state; facts of every
+-- word from facts of lanes and log (`by-status`); where a word is, by its status (`case-at`, `in-one-place`).
 use mathlib.Core.Path.{_≡_, refl, sym, ap, ap₂, _∙_, subst}
 use mathlib.Core.Bool.{cond}
 use mathlib.Core.List.{List, [], _∷_, _++_}
@@ -7,9 +9,11 @@ use native.Mathlib.Nat.{not-suc-le-zero}
 use native.Mathlib.Omega.{arith}
 use borrow.Author.Tests.{eqb-true}
 use lib.Dec.{eqb}
-use Rattle.laws.specs.Choice.{by-cond, by-bool, same, same-self, same-sym}
+use Rattle.laws.specs.Choice.{by-cond, by-bool, same-self, same-sym}
+use Rattle.laws.specs.Definitions.{same}
 use Rattle.schedule.specs.Run.{Lane, empty, holds, Left, State}
-use Rattle.schedule.specs.Status.{Status, waiting, holding, done, spent, lane-words, log-words, queue-words, all-words, seek, status, times, count, sum, largest, case, Where}
+use Rattle.schedule.specs.Status.{Status, waiting, holding, done, spent, lane-words, log-words, queue-words, all-words, seek, status, sum, largest}
+use Rattle.schedule.specs.WholeRun.{times, count, case, Where}
 use Rattle.schedule.specs.Sums.{in-lane, in-lanes, in-queue, in-log, in-stock, Held, AllLanes, AllLog}
 use Rattle.schedule.specs.Rounds.{total}
 
@@ -213,7 +217,8 @@ module _ {X : Type 0} where
     weigh-case s =
         omega (arith, weigh-parts (λ w st. k w * case a b c st) s, case-lanes (s .lanes), case-log (s .stock .log), sum-times k a (s .stock .queue))
 
-  case-at : (a b c v : ℕ) (s : State X) → times v (all-words s) ≡ 1
+  -- a word that stands once: its status says how often it stands in the queue, in lanes and in the log
+  pub case-at : (a b c v : ℕ) (s : State X) → times v (all-words s) ≡ 1
       → a * count v (s .stock .queue) + b * times v (lane-words (s .lanes)) + c * times v (log-words (s .stock .log)) ≡ case a b c (status s v)
   unfolding status
   case-at a b c v s h =

@@ -1,4 +1,6 @@
--- Refilling as code does it: one word at a time, into the lowest empty lane. What the arrays stand for changes as `refill` says.
+-- Refilling as code does it: one word at a time, into the lowest empty lane. What the arrays stand for changes as `refill` says. In order: one
+-- word into a list of lanes; the same of arrays and memory, from a start (`Filling`) to an end (`Refilled`); the same with columns that are loaded
+-- later, in one pass (`Assigning`, `Assigned`).
 use mathlib.Core.Path.{_≡_, refl, sym, ap, ap₂, _∙_, subst}
 use mathlib.Core.Logic.{_≢_}
 use mathlib.Core.Bool.{Bool, true, false, cond}

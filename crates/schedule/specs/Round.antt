@@ -1,5 +1,6 @@
 -- A round as code does it: an iteration in every column, then lane by lane one iteration more and the test. What the arrays stand for
--- changes as `round` says.
+-- changes as `round` says. In order: lanes of which some have had their turn (`mixed`); what a round leaves (`Advanced`) and its second half
+-- (`Retired`); the second half lane by lane (`Leaving`): an empty lane, a word that stays, a word that leaves, the end.
 use mathlib.Core.Path.{_≡_, refl, sym, ap, ap₂, _∙_}
 use mathlib.Core.Logic.{_≢_}
 use mathlib.Core.Bool.{true, false, cond}

@@ -1,4 +1,6 @@
--- What a run keeps from round to round, and what holds at its end: of every order of loading, lane count and round limit.
+-- What a run keeps from round to round, and what holds at its end, of every order of loading, lane count and round limit. In order: sums over the
+-- words of a state; a word in a lane is as alone (`Running`, `Testing`, `Ended`); sums through refilling and a round; the invariant `Inv`, through
+-- both; `Good`, what holds at the end (`run-good`). Not here: each word by itself (Places, Iterations).
 use mathlib.Core.Path.{_≡_, refl, sym, ap, _∙_, subst}
 use mathlib.Core.Bool.{true, false, cond}
 use mathlib.Core.List.{List, [], _∷_, _++_, map, append-assoc}
@@ -10,8 +12,9 @@ use lib.Dec.{eqb, ltb}
 use lib.ListN.{length, length-replicate, length-map}
 use Rattle.laws.specs.Choice.{by-cond}
 use Rattle.schedule.specs.Run.{Words, Lane, empty, holds, Stock, State, finished, stopped, Result, each, held, over, fill, iterated, leave, refill, round, go, start, run}
-use Rattle.schedule.specs.Alone.{after, end-test}
-use Rattle.schedule.specs.Demand.{after-alone, ends-alone}
+use Rattle.schedule.specs.Alone.{after}
+use Rattle.schedule.specs.AloneLaws.{end-test}
+use Rattle.schedule.specs.WholeRun.{after-alone, ends-alone}
 use Rattle.schedule.specs.Sums.{in-lane, in-lanes, in-queue, in-log, in-stock, one, iterations-of, Held, AllLanes, AllLog, Some, held-one, each-length, each-sum, each-all, each-before, each-queue, fill-sum, iterated-sum, iterated-all, leave-sum, leave-queue, fill-all, leave-all, leave-held, refill-full, fill-before, fill-fresh, all-empty, none-in}
 
 -- every word of a state, once
@@ -78,6 +81,16 @@ module _ {X : Type 0} (words : Words X) where
   unfolding after
   one-more w x i p = (ap (words .iterate) (p .0), p .1)
 
+  -- refilling changes no sum over words; a round gives each word in a lane one iteration more
+  pub refill-total : (f : ℕ → ℕ → ℕ) (s : State X) → total f (refill words s) ≡ total f s
+  unfolding total refill
+  refill-total f s = each-sum (fill words) f (fill-sum words f) (s .lanes) (s .stock)
+
+  pub round-total : (f : ℕ → ℕ → ℕ) (s : State X) → total f (round words s) ≡ in-lanes (λ w i. f w (suc i)) (s .lanes) + in-stock f (s .stock)
+  unfolding total round
+  round-total f s =
+      each-sum (leave words) f (leave-sum words f) (map (iterated words) (s .lanes)) (s .stock) ∙ ap (λ n. n + in-stock f (s .stock)) (iterated-sum words f (s .lanes))
+
   module _ (order : List ℕ) (others : ℕ) where
     -- when a word in a lane was loaded a word had waited all along
     abbrev pub Since : ℕ → ℕ → Lane X → Type 0
@@ -93,15 +106,6 @@ module _ {X : Type 0} (words : Words X) where
       pub full : Some (s .stock .queue) → spent-so-far s ≡ suc others * s .rounds
       pub since : AllLanes (Since (s .rounds) (spent-so-far s)) (s .lanes)
       pub most : (m : ℕ) → total (above m) s ≡ 0 → suc others * s .rounds ≤ spent-so-far s + others * m
-
-    refill-total : (f : ℕ → ℕ → ℕ) (s : State X) → total f (refill words s) ≡ total f s
-    unfolding total refill
-    refill-total f s = each-sum (fill words) f (fill-sum words f) (s .lanes) (s .stock)
-
-    round-total : (f : ℕ → ℕ → ℕ) (s : State X) → total f (round words s) ≡ in-lanes (λ w i. f w (suc i)) (s .lanes) + in-stock f (s .stock)
-    unfolding total round
-    round-total f s =
-        each-sum (leave words) f (leave-sum words f) (map (iterated words) (s .lanes)) (s .stock) ∙ ap (λ n. n + in-stock f (s .stock)) (iterated-sum words f (s .lanes))
 
     refill-spent : (s : State X) → spent-so-far (refill words s) ≡ spent-so-far s
     refill-spent s = sym (total-spent _) ∙ refill-total iterations-of s ∙ total-spent s

@@ -1,4 +1,6 @@
--- What a turn for each lane keeps: sums over words, facts of every lane, full lanes while a word waits.
+-- What a turn for each lane keeps. In order: sums over the words in lanes, queue and log; facts of every lane and of the log; any turn (`each-..`);
+-- then of loading, of an iteration and of leaving: sums, facts that the test `over` decides, lanes full while a word waits, the queue handed out
+-- from its front, words just taken. Not here: from round to round (Rounds).
 use mathlib.Core.Path.{_≡_, refl, sym, ap, _∙_}
 use mathlib.Core.Bool.{true, false}
 use mathlib.Core.List.{List, [], _∷_, _++_, map, append-assoc}

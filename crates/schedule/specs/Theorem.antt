@@ -1,4 +1,7 @@
--- Demand 3 of the schedule holds of every run: every order of loading that has each word once, every lane count, every round limit.
+-- Demand 3 of the schedule holds of every run (`demand`): every order of loading that has each word at most once, every lane count of 1 or more,
+-- every round limit. In order: the claim from what a run keeps (Rounds) and where words are (Places); no lane is empty while a word waits; no word
+-- has more iterations than the limit; the scope's order of loading, and the claim for it (`demand-in-input-order`). Not here: round by round
+-- (Iterations).
 use mathlib.Core.Path.{_≡_, refl, sym, ap, ap₂, _∙_, subst}
 use mathlib.Core.Logic.{_↔_}
 use mathlib.Core.Bool.{cond}
@@ -11,12 +14,13 @@ use borrow.Author.Tests.{eq-eqb, ne-eqb, lt-ltb, le-ltb}
 use lib.Dec.{ltb}
 use lib.ListN.{length, getD, length-append}
 use lib.Seq.{ext-getD}
-use Rattle.laws.specs.Choice.{by-cond, same, same-self}
+use Rattle.laws.specs.Choice.{by-cond, same-self}
+use Rattle.laws.specs.Definitions.{same}
 use Rattle.schedule.specs.Run.{counting, input-order}
 use Rattle.schedule.specs.Run.{Words, Lane, empty, holds, Left, State, Ending, finished, stopped, Result, held, run}
-use Rattle.schedule.specs.Alone.{Ends, ends-so}
-use Rattle.schedule.specs.Status.{Status, waiting, holding, done, spent, lane-words, log-words, all-words, status, times, count, sum, largest, given, longest, case, Where}
-use Rattle.schedule.specs.Demand.{after-alone, ends-alone, Finished, As-alone, Demand}
+use Rattle.schedule.specs.AloneLaws.{First-met-or-limit, ends-so}
+use Rattle.schedule.specs.Status.{Status, waiting, holding, done, spent, lane-words, log-words, all-words, status, sum, largest, given, longest}
+use Rattle.schedule.specs.WholeRun.{times, count, case, Where, after-alone, ends-alone, Finished, As-alone, Whole-run}
 use Rattle.schedule.specs.Sums.{in-lane, in-lanes, in-queue, in-log, in-stock, one, iterations-of, Held, AllLanes, AllLog, Some, held-one}
 use Rattle.schedule.specs.Rounds.{total, total-spent, spent-so-far, above, Running, Ended, Good, run-good}
 use Rattle.schedule.specs.Places.{sum-ext, largest-le, largest-sum, queue-sum, count-sum, weigh, times-weigh, sum-status, by-iterations, weigh-total, weigh-case, By-status, by-status, in-one-place}
@@ -173,7 +177,7 @@ module _ {X : Type 0} (words : Words X) (order : List ℕ) (once : (w : ℕ) →
     ),
   )
 
-  demand-of : Demand words order (suc others) round-limit r
+  demand-of : Whole-run words order (suc others) round-limit r
   unfolding s
   demand-of =
       record {
@@ -198,13 +202,22 @@ module _ {X : Type 0} (words : Words X) (order : List ℕ) (once : (w : ℕ) →
 
 -- each word once, a lane at least: the theorem
 pub demand : {X : Type 0} (words : Words X) (order : List ℕ) → ((w : ℕ) → count w order ≤ 1) → (lanes : ℕ) → 1 ≤ lanes → (round-limit : ℕ)
-    → Demand words order lanes round-limit (run words order lanes round-limit)
+    → Whole-run words order lanes round-limit (run words order lanes round-limit)
 demand words order once zero h round-limit = absurd (not-suc-le-zero h)
 demand words order once (suc others) h round-limit = demand-of words order once others round-limit _ (run-good words order others round-limit)
 
+-- no lane is empty while a word waits
+pub full-while-waiting : {X : Type 0} (words : Words X) (order : List ℕ) → ((w : ℕ) → count w order ≤ 1) → (lanes : ℕ) → 1 ≤ lanes → (round-limit w : ℕ)
+    → count w order ≡ 1 → status (run words order lanes round-limit .last) w ≡ waiting → held (run words order lanes round-limit .last .lanes) ≡ lanes
+full-while-waiting words order once zero h round-limit w o e = absurd (not-suc-le-zero h)
+full-while-waiting {X} words order once (suc others) h round-limit w o e =
+    let s : State X = run words order (suc others) round-limit .last in
+    run-good words order others round-limit .filled
+    (some-queue w (s .stock .queue) (subst (Where s w) e (demand words order once (suc others) h round-limit .place w o) .0))
+
 -- ---- what follows for a word's record
 module _ {X : Type 0} (words : Words X) (w : ℕ) where
-  alone : Ends (words .begin w) (words .iterate) (words .met) (words .iteration-limit) (ends-alone words w)
+  alone : First-met-or-limit (words .begin w) (words .iterate) (words .met) (words .iteration-limit) (ends-alone words w)
   alone = ends-so (words .begin w) (words .iterate) (words .met) (words .iteration-limit)
 
   -- no more iterations than the limit
@@ -264,5 +277,5 @@ input-is n order l h =
 
 -- the run of n words in input order, for every lane count and round limit
 pub demand-in-input-order : {X : Type 0} (words : Words X) (n lanes : ℕ) → 1 ≤ lanes → (round-limit : ℕ)
-    → Demand words (input-order n) lanes round-limit (run words (input-order n) lanes round-limit)
+    → Whole-run words (input-order n) lanes round-limit (run words (input-order n) lanes round-limit)
 demand-in-input-order words n lanes h round-limit = demand words (input-order n) (input-once n) lanes h round-limit

@@ -9,11 +9,12 @@ use native.Mathlib.Nat.{not-suc-le-zero}
 use native.Mathlib.Omega.{arith}
 use lib.Dec.{eqb}
 use lib.ListN.{length, replicate, length-map}
-use Rattle.laws.specs.Choice.{by-cond, by-bool, same}
+use Rattle.laws.specs.Choice.{by-cond, by-bool}
+use Rattle.laws.specs.Definitions.{same}
 use Rattle.schedule.specs.Run.{Words, Lane, empty, holds, Left, Stock, State, Turn, finished, stopped, Result, each, held, over, logged, load, fill, iterated, leave, refill, round, go, start, run}
-use Rattle.schedule.specs.Status.{Status, waiting, holding, done, spent, lane-words, log-words, all-words, status, times, count, sum, case}
+use Rattle.schedule.specs.Status.{Status, waiting, holding, done, spent, lane-words, log-words, all-words, status, sum}
+use Rattle.schedule.specs.WholeRun.{times, count, case, after-alone, ends-alone}
 use Rattle.schedule.specs.Sums.{Held, AllLanes, AllLog, each-length, each-all, each-queue, iterated-all, leave-queue, leave-all, all-empty, round-held}
-use Rattle.schedule.specs.Demand.{after-alone, ends-alone}
 use Rattle.schedule.specs.Rounds.{Running, Ended, Testing, out, stays, begins, one-more, Good, run-good}
 use Rattle.schedule.specs.Places.{weigh, times-weigh, weigh-parts, only-found, By-status, by-status}
 use Rattle.schedule.specs.Theorem.{demand}

@@ -1,27 +1,13 @@
--- Lane i's word: its values are rows 0 to n − 1 of column i, its messages the E rows behind them. The column laws.
-use mathlib.Core.Path.{_≡_, refl, sym, ap, _∙_}
-use mathlib.Core.Bool.{Bool, true, false, cond}
+-- Lane i's word: its values are rows 0 to n − 1 of column i, its messages the E rows behind them. What a check makes of the lanes' words.
+use mathlib.Core.Path.{_≡_}
 use mathlib.Core.List.{List}
-use Prim.Native.Nat.{ℕ, zero, suc, _+_, _%_, _≤_, _<_}
-use native.Mathlib.Omega.{arith}
-use borrow.Author.Tests.{ltb-true, lt-ltb, eqb-true, eqb-false, eq-eqb, ne-eqb}
-use lib.Dec.{ltb, eqb}
+use Prim.Native.Nat.{ℕ, _+_, _≤_, _<_}
 use lib.ListN.{getD, length}
-use lib.IntN.{ℤ, pos, _+ℤ_, _-ℤ_}
-use Rattle.laws.specs.Choice.{by-bool}
-use Rattle.laws.specs.Put.{put, put-other}
-use Rattle.lane_math.specs.Value.{satZ}
-use Rattle.lane_math.specs.Check.{Word, check, message, wrote, tOf, newL, newR}
-use Rattle.lane_math.specs.Iteration.{unsatisfied, negatives, hard}
-use Rattle.lane_math.specs.Laws.{message-same, wrote-same, unsatisfied-is}
-use Rattle.lane16.specs.Lanes.{Decided}
-use Rattle.lane_memory.specs.Column.{column, Mapped}
-use Rattle.lane_memory.specs.Room.{var, Room}
-use Rattle.simd.specs.Pass.{tAt, written, checkColumn, Signs}
-
--- the first m of f, and 0 behind them
-unfoldable pub within : ℕ → (ℕ → ℤ) → ℕ → ℤ
-within m f u = cond (ltb u m) (f u) (pos 0)
+use lib.IntN.{ℤ}
+use Rattle.iteration.specs.Check.{Word, check, within}
+use Rattle.iteration.specs.Iteration.{unsatisfied}
+use Rattle.lane16.specs.Column.{column}
+use Rattle.iteration.specs.Lists.{var}
 
 unfoldable pub wordOf : ℕ → ℕ → (ℕ → ℤ) → Word
 wordOf n E f = record { L = within n f; r = within E (λ e. f (n + e)) }
@@ -37,131 +23,3 @@ pub record CheckNode (rows : List ℕ) (s d n lanes : ℕ) (o : ℤ) (a a′ : L
 -- Which of the sixteen lanes from at have the check unsatisfied.
 pub record SignParity (rows : List ℕ) (s d lanes at : ℕ) (a : List ℤ) (b : List ℕ) : Type 0 where
   pub is : (k : ℕ) → k < 16 → getD b k 0 ≡ unsatisfied (var rows) s d (column lanes a (at + k))
-
--- ---- a row written, and the words
-pub within-at : (m : ℕ) (f : ℕ → ℤ) (u : ℕ) → u < m → within m f u ≡ f u
-unfolding within
-within-at m f u h = ap (λ (b : Bool). cond b (f u) (pos 0)) (lt-ltb u m h)
-
-within-put : (m : ℕ) (f : ℕ → ℤ) (u : ℕ) (x : ℤ) → u < m → within m (put f u x) ≡ put (within m f) u x
-unfolding within put
-within-put m f u x h =
-    λ i w. by-bool (λ b. cond (ltb w m) (cond b x (f w)) (pos 0) ≡ cond b x (cond (ltb w m) (f w) (pos 0))) (eqb w u)
-    (λ e. ap (λ (b : Bool). cond b x (pos 0)) (lt-ltb w m (omega (arith, eqb-true w u e)))) (λ _. refl) i
-
--- a row that none of the first m is
-within-other : (m : ℕ) (f g : ℕ → ℤ) → ((w : ℕ) → w < m → f w ≡ g w) → within m f ≡ within m g
-unfolding within
-within-other m f g h =
-    λ i w. by-bool (λ b. cond b (f w) (pos 0) ≡ cond b (g w) (pos 0)) (ltb w m) (λ e. h w (ltb-true w m e)) (λ _. refl) i
-
--- base + e in place of e
-pub shifted-put : (base : ℕ) (f : ℕ → ℤ) (u : ℕ) (x : ℤ) → _≡_ {A = ℕ → ℤ} (λ e. put f (base + u) x (base + e)) (put (λ e. f (base + e)) u x)
-unfolding put
-shifted-put base f u x = λ i e. cond (same e (eqb e u) refl i) x (f (base + e))
-  where
-    same : (e : ℕ) (b : Bool) → eqb e u ≡ b → eqb (base + e) (base + u) ≡ eqb e u
-    same e true s = let k : e ≡ u = eqb-true e u s in eq-eqb (base + e) (base + u) (omega arith) ∙ sym s
-    same e false s = ne-eqb (base + e) (base + u) (λ q. eqb-false e u s (omega arith)) ∙ sym s
-
-module _ (n E : ℕ) (f : ℕ → ℤ) where
-  pub value-put : (u : ℕ) (x : ℤ) → u < n → wordOf n E (put f u x) ≡ record { L = put (wordOf n E f .L) u x; r = wordOf n E f .r }
-  unfolding wordOf
-  value-put u x h =
-      λ i. record {
-        L = within-put n f u x h i;
-        r = within-other E (λ e. put f u x (n + e)) (λ e. f (n + e)) (λ e q. put-other f u x (n + e) (λ k. omega arith)) i;
-      }
-
-  pub message-put : (e : ℕ) (x : ℤ) → e < E → wordOf n E (put f (n + e) x) ≡ record { L = wordOf n E f .L; r = put (wordOf n E f .r) e x }
-  unfolding wordOf
-  message-put e x h =
-      λ i. record {
-        L = within-other n (put f (n + e) x) f (λ w q. put-other f (n + e) x w (λ k. omega arith)) i;
-        r = (ap (within E) (shifted-put n f e x) ∙ within-put E (λ e. f (n + e)) e x h) i;
-      }
-
-  pub behind-put : (u : ℕ) (x : ℤ) → n + E ≤ u → wordOf n E (put f u x) ≡ wordOf n E f
-  unfolding wordOf
-  behind-put u x h =
-      λ i. record {
-        L = within-other n (put f u x) f (λ w q. put-other f u x w (λ k. omega arith)) i;
-        r = within-other E (λ e. put f u x (n + e)) (λ e. f (n + e)) (λ e q. put-other f u x (n + e) (λ k. omega arith)) i;
-      }
-
--- ---- a check on a column is the check of its word
-module _ (n E : ℕ) (v : ℕ → ℕ) (s : ℕ) where
-  abbrev pub Inside : ℕ → Type 0
-  Inside d = ((k : ℕ) → k < d → v (s + k) < n) × (s + d ≤ E)
-
-  fewer : (d : ℕ) → Inside (suc d) → Inside d
-  fewer d h = (λ k q. h .0 k (omega arith), omega (arith, h .1))
-
-  word-written : (m y f : ℕ → ℤ) (d : ℕ) → Inside d → wordOf n E (written n v s m y f d) ≡ record { L = wrote (λ k. v (s + k)) y (wordOf n E f .L) d; r = wrote (λ k. s + k) m (wordOf n E f .r) d }
-  unfolding written wrote
-  word-written m y f zero h = refl
-  word-written m y f (suc d) h =
-      value-put n E (put (written n v s m y f d) (n + (s + d)) (m d)) (v (s + d)) (y d) (h .0 d (omega arith))
-      ∙ ap (λ (w : Word). record { L = put (w .L) (v (s + d)) (y d); r = w .r })
-      (message-put n E (written n v s m y f d) (s + d) (m d) (omega (arith, h .1))
-      ∙ ap (λ (w : Word). record { L = w .L; r = put (w .r) (s + d) (m d) }) (word-written m y f d (fewer d h)))
-
-  written-rest : (m y f : ℕ → ℤ) (d : ℕ) → Inside d → (u : ℕ) → n + E ≤ u → written n v s m y f d u ≡ f u
-  unfolding written
-  written-rest m y f zero h u q = refl
-  written-rest m y f (suc d) h u q =
-      put-other (put (written n v s m y f d) (n + (s + d)) (m d)) (v (s + d)) (y d) u (λ k. omega (arith, h .0 d (omega arith)))
-      ∙ put-other (written n v s m y f d) (n + (s + d)) (m d) u (λ k. omega (arith, h .1))
-      ∙ written-rest m y f d (fewer d h) u q
-
-  -- t of the word is t of the column
-  pub t-same : (f : ℕ → ℤ) (d : ℕ) → Inside d → (k : ℕ) → k < d → tAt v s n f k ≡ tOf v s (wordOf n E f .L) (wordOf n E f .r) k
-  unfolding tOf wordOf
-  t-same f d h k q =
-      λ i. satZ (sym (within-at n f (v (s + k)) (h .0 k q)) i -ℤ sym (within-at E (λ e. f (n + e)) (s + k) (omega (arith, h .1))) i)
-
-  pub message-is : (o : ℤ) (f : ℕ → ℤ) (d : ℕ) → Inside d → (e : ℕ) → message o (tAt v s n f) d e ≡ message o (tOf v s (wordOf n E f .L) (wordOf n E f .r)) d e
-  message-is o f d h e = message-same (tAt v s n f) (tOf v s (wordOf n E f .L) (wordOf n E f .r)) o d e (t-same f d h)
-
-  check-is : (o : ℤ) (f : ℕ → ℤ) (d : ℕ) → Inside d → wordOf n E (checkColumn o v s d n f) ≡ check o v s d (wordOf n E f)
-  unfolding checkColumn newL newR
-  check-is o f d h =
-      word-written (message o (tAt v s n f) d) (λ e. satZ (tAt v s n f e +ℤ message o (tAt v s n f) d e)) f d h
-      ∙ (λ i. record {
-        L = wrote-same (λ k. v (s + k)) _ _ (wordOf n E f .L) d (λ k q. λ j. satZ (t-same f d h k q j +ℤ message-is o f d h k j)) i;
-        r = wrote-same (λ k. s + k) _ _ (wordOf n E f .r) d (λ k q. message-is o f d h k) i;
-      })
-
-  check-rest : (o : ℤ) (f : ℕ → ℤ) (d : ℕ) → Inside d → (u : ℕ) → n + E ≤ u → checkColumn o v s d n f u ≡ f u
-  unfolding checkColumn
-  check-rest o f d h u q = written-rest (message o (tAt v s n f) d) (λ e. satZ (tAt v s n f e +ℤ message o (tAt v s n f) d e)) f d h u q
-
-negatives-same : (v : ℕ → ℕ) (s d : ℕ) (f g : ℕ → ℤ) → ((k : ℕ) → k < d → f (v (s + k)) ≡ g (v (s + k))) → negatives v s d f ≡ negatives v s d g
-unfolding negatives
-negatives-same v s zero f g h = refl
-negatives-same v s (suc d) f g h = λ i. negatives-same v s d f g (λ k q. h k (omega arith)) i + hard (h d (omega arith) i)
-
--- ---- the laws of the code's columns
-module _ {rows : List ℕ} {s d n lanes : ℕ} {a : List ℤ} (r : Room rows s d n lanes a) where
-  pub inside : ((k : ℕ) → k < d → var rows (s + k) < n) × (s + d ≤ length rows)
-  inside = (λ k q. r .variables (s + k) (omega (arith, r .edges)), r .edges)
-
-  pub check-node : {o : ℤ} {a′ : List ℤ} → Mapped (checkColumn o (var rows) s d n) lanes a a′ → CheckNode rows s d n lanes o a a′
-  check-node {o} {a′} h =
-      record {
-        words = λ i q. ap (wordOf n (length rows)) (h i q) ∙ check-is n (length rows) (var rows) s o (column lanes a i) d inside;
-        rest = λ i q u p. ap (λ (f : ℕ → ℤ). f u) (h i q) ∙ check-rest n (length rows) (var rows) s o (column lanes a i) d inside u p;
-      }
-
-  -- a lane's sign is its word's
-  pub sign-parity : (i : ℕ) → unsatisfied (var rows) s d (column lanes a i) ≡ unsatisfied (var rows) s d (word n (length rows) lanes a i .L)
-  unfolding unsatisfied wordOf
-  sign-parity i = ap (λ (m : ℕ). m % 2) (negatives-same (var rows) s d (column lanes a i) (word n (length rows) lanes a i .L) (λ k q. value-is k q))
-    where
-      value-is : (k : ℕ) → k < d → column lanes a i (var rows (s + k)) ≡ word n (length rows) lanes a i .L (var rows (s + k))
-      value-is k q = sym (within-at n (column lanes a i) (var rows (s + k)) (inside .0 k q))
-
--- the hard decisions of the signs
-pub sign-parities : {rows : List ℕ} {s d lanes at : ℕ} {a g : List ℤ} {b : List ℕ} → Signs (var rows) s lanes at a d g → Decided g b → SignParity rows s d lanes at a b
-sign-parities {rows} {s} {d} {lanes} {at} {a} {g} {b} c h =
-    record { is = λ k q. h .is k q ∙ ap (λ (y : Bool). cond y 1 0) (c .is k q) ∙ sym (unsatisfied-is (var rows) s d (column lanes a (at + k))) }

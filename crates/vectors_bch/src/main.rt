@@ -1,4 +1,4 @@
-// Replays the Rust's BCH answers. Standard input has vectors of 148 bytes, described in
+// Writes the generator, then replays the Rust's BCH answers. Standard input has vectors of 148 bytes, described in
 // compare/oracle/src/bin/bch.rs: how to make a word, and what the Rust's `encode` and `decode` made of
 // it.
 ghost use mathlib.Core.Path.{_≡_};
@@ -254,7 +254,42 @@ fn replay_all(vector: &mut [u8], message: &mut [u8], word: &mut [u8])
     print(compared, differ)
 }
 
+// The coefficient of x^i, 0 past the highest.
+fn coefficient(g: &[u8], i: usize) -> u8
+    ensures { λ r. ⌜ r < 2 ⌝ }
+{
+    if i < g.len() { g[i] % 2 } else { 0 }
+}
+
+fn hexadecimal(d: u8) -> u8
+    requires { ⌜ d < 16 ⌝ }
+{
+    if d < 10 { b'0' + d } else { b'a' + (d - 10) }
+}
+
+// The coefficients of x^i to x^(i + 3), as a hexadecimal digit.
+fn digit(g: &[u8], i: usize) -> u8
+    requires { ⌜ i < 193 ⌝ }
+{
+    let low = coefficient(g, i) + 2 * coefficient(g, i + 1);
+    let high = coefficient(g, i + 2) + 2 * coefficient(g, i + 3);
+    hexadecimal(low + 4 * high)
+}
+
+// The generator, multiplied out from Table 3.4-1, as one hexadecimal number: bit i is the coefficient of x^i.
+fn print_generator() {
+    let g = bch_table::generator();
+    let mut text = [b'\n'; 50];
+    let mut i: usize = 0;
+    while i < 49 {
+        text[i] = digit(&g, 192 - 4 * i);
+        i += 1;
+    }
+    io::write_all(1, &text);
+}
+
 fn main() {
+    print_generator();
     let mut vector = [0u8; 148];
     let mut message = [0u8; 65343];
     let mut word = [0u8; 65535];

@@ -4,7 +4,7 @@ use mathlib.Core.Path.{_∙_}
 use native.Mathlib.Omega.{arith}
 use borrow.Author.Needs.{needs}
 use Rattle.bch_table.specs.Step.{valueOf}
-use Rattle.bch.specs.Answers.{located-to}
+use Rattle.bch.specs.DecodeLaws.{located-to}
 use Rattle.bch.proofs.Locate.{of-remainder, too-long, all-found, some-missing}
 use Rattle.bch.proofs.correct.Statement.{statement}
 use Rattle.bch.proofs.correct.Tie as tie

@@ -5,7 +5,7 @@ use native.Mathlib.Nat.{lt-of-le-of-lt}
 use lib.Bits.{and-le-r}
 use lib.Dec.{lit<}
 use borrow.Author.Needs.{needs}
-use Rattle.laws.specs.Xor.{_⊕_}
+use Rattle.laws.specs.Definitions.{_⊕_}
 use Rattle.bch_locator.proofs.AtAlpha.{quotient, high, fold-is}
 use Rattle.bch_locator.proofs.fold.Statement.{statement}
 use Rattle.bch_locator.proofs.fold.Tie as tie

@@ -2,9 +2,8 @@
 -- Assumes nothing.
 use mathlib.Core.Path.{_≡_}
 use Prim.Native.Nat.{_≤_, _-_}
-use Rattle.gf16.specs.Alpha.{R16}
-use Rattle.gf16.specs.Field16.{gf16}
-use Rattle.algebra.specs.Ring.{ones-power}
+use Rattle.gf16.specs.Field16.{R16, gf16}
+use Rattle.algebra.specs.RingLaws.{ones-power}
 use Rattle.bch_locator.specs.Element.{toEl}
 use Rattle.bch_locator.proofs.Powers.{inverse-start, inverse-again, inverse-end}
 use borrow.Author.Needs.{needs}

@@ -2,8 +2,8 @@
 -- Assumes nothing.
 use mathlib.Core.Path.{_≡_}
 use Prim.Native.Nat.{_-_, _≤_}
-use Rattle.algebra.specs.Series.{sum}
-use Rattle.gf16.specs.Alpha.{R16}
+use Rattle.algebra.specs.SeriesLaws.{sum}
+use Rattle.gf16.specs.Field16.{R16}
 use Rattle.bch_locator.specs.Element.{toEl, poly}
 use Rattle.bch_locator.proofs.Search.{lanes-none, lanes-more, lanes-end}
 use borrow.Author.Needs.{needs}

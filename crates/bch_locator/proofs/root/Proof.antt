@@ -3,7 +3,7 @@
 use mathlib.Core.Path.{_≡_, refl}
 use Prim.Native.Nat.{_+_, _-_, _≤_, _<_}
 use Rattle.algebra.specs.Series.{pow}
-use Rattle.gf16.specs.Alpha.{R16, α}
+use Rattle.gf16.specs.Field16.{R16, α}
 use Rattle.bch_locator.specs.Element.{toEl}
 use Rattle.bch_locator.specs.Places.{Places-of}
 use Rattle.bch_locator.proofs.Search.{one-hit, one-miss, power-start, power-again, places-start, places-miss, places-hit, places-full, places-end}

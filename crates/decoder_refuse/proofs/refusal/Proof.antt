@@ -1,196 +1,174 @@
 -- `decoder_refuse::refusal` meets its contract: the first test that holds gives the number.
 -- Assumes nothing.
-use mathlib.Core.Path.{sym, _∙_, subst}
-use Prim.Native.Nat.{ℕ, _/_, _≤_}
+use mathlib.Core.Path.{_≡_, sym, ap, _∙_, subst}
+use mathlib.Core.Bool.{false}
+use Prim.Native.Nat.{_/_, _≤_}
 use native.Mathlib.Omega.{arith}
 use borrow.Author.Tests.{lt-ltb, le-ltb}
 use borrow.Author.Needs.{needs}
-use Rattle.ldpc_shape.specs.Shape.{pOf, eOf}
-use Rattle.decoder_refuse.specs.Accepted.{lanes-few, words-few, edges-few}
-use Rattle.ldpc_shape.specs.Accepted.{accepted, p-le, p-pos}
-use Rattle.decoder_refuse.specs.Refusal.{badWords, badLimit, badStep, badPart, tooShort, firstOf, refusalOf, first-code}
+use Rattle.ldpc_shape.specs.Shape.{sizesOf, codeRefusal}
+use Rattle.ldpc_shape.specs.Accepted.{Bounded, bounded}
+use Rattle.ldpc_shape.specs.declared.Sizes.{Sizes}
+use Rattle.decoder_refuse.specs.Accepted.{lanes-few, words-few, first-code, first-lanes, first-words, first-limit, first-step, first-part, first-short, first-none}
+use Rattle.decoder_refuse.specs.Refusal.{badLanes, badWords, badLimit, badStep, badPart, tooShort, firstRefusal}
 use Rattle.decoder_refuse.proofs.refusal.Statement.{statement}
 use Rattle.decoder_refuse.proofs.refusal.Tie as tie
 
+-- ---- the points behind each test that fails, and what it shows
+abbrev start : tie.Else1 → tie.Start
+start c = c .before .before .before .before
+
+abbrev sized : tie.Else2 → tie.After-sizes-of
+sized c = c .before .before
+
+abbrev behind-code : tie.Else2 → tie.Else1
+behind-code c = sized c .before
+
+abbrev behind-lanes : tie.Else3 → tie.Else2
+behind-lanes c = c .before .before
+
+abbrev behind-words : tie.Else4 → tie.Else3
+behind-words c = c .before .before
+
+abbrev behind-limit : tie.Else5 → tie.Else4
+behind-limit c = c .before .before
+
+abbrev behind-step : tie.Else6 → tie.Else5
+behind-step c = c .before .before .before
+
+code-so : (c : tie.Else1) → (let a = start c .args in codeRefusal (a .n) (a .lens .now) (a .addrs .now) ≡ 0)
+code-so c = sym (c .before .refusal .ensures) ∙ c .if1 .left
+
+sizes-so : (c : tie.After-sizes-of) → (let a = start (c .before) .args in c .sizes-of .result ≡ sizesOf (a .n) (a .lens .now) (a .addrs .now))
+sizes-so c = c .sizes-of .ensures
+
+lanes-so : (c : tie.Else2) → badLanes (start (behind-code c) .args .set .lanes) ≡ false
+lanes-so c = sym (c .before .bad-lanes .ensures) ∙ c .if2 .left
+
+words-so : (c : tie.Else3) → (let a = start (behind-code (behind-lanes c)) .args in badWords (a .n) (a .lent .soft) ≡ false)
+words-so c =
+    let a = start (behind-code (behind-lanes c)) .args in
+    sym (c .before .bad-words .ensures ∙ ap (λ (of : Sizes). badWords (of .n) (a .lent .soft)) (sizes-so (sized (behind-lanes c)))) ∙ c .if3 .left
+
+limit-so : (c : tie.Else4) → badLimit (start (behind-code (behind-lanes (behind-words c))) .args .set .limits .iterations) ≡ false
+unfolding badLimit
+limit-so c = le-ltb 65535 _ (c .if4 .left)
+
+step-so : (c : tie.Else5) → badStep (start (behind-code (behind-lanes (behind-words (behind-limit c)))) .args .set .schedule) ≡ false
+step-so c = sym (c .before .bad-step .ensures) ∙ c .if5 .left
+
+part-so : (c : tie.Else6) → (let a = start (behind-code (behind-lanes (behind-words (behind-limit (behind-step c))))) .args in badPart (a .n) (a .set .part) ≡ false)
+part-so c =
+    let at-lanes = behind-lanes (behind-words (behind-limit (behind-step c))) in
+    let a = start (behind-code at-lanes) .args in
+    sym (c .before .bad-part .ensures ∙ ap (λ (of : Sizes). badPart (of .n) (a .set .part)) (sizes-so (sized at-lanes))) ∙ c .if6 .left
+
+-- ---- the needs
 refusal-requires : tie.Need-refusal-requires
 refusal-requires c κs = search needs
 
 returns : tie.Need-returns
-unfolding refusalOf
-returns c = c .before .refusal .ensures ∙ sym (first-code _ _ _ _ _ _ _ (λ e. c .if1 .taken (c .before .refusal .ensures ∙ e)))
+unfolding firstRefusal
+returns c = c .before .refusal .ensures ∙ first-code _ _ _ _ _ _ _ (λ e. c .if1 .taken (c .before .refusal .ensures ∙ e))
+
+sizes-of-requires : tie.Need-sizes-of-requires
+sizes-of-requires c κs = code-so c
 
 bad-lanes-requires : tie.Need-bad-lanes-requires
 bad-lanes-requires c κs = search needs
 
 returns-2 : tie.Need-returns-2
-unfolding refusalOf firstOf badLimit
-returns-2 c =
-    let s = c .before .before .before .before .before .before in
-    sym
-    (λ i.
-    firstOf ((sym (c .before .before .before .refusal .ensures) ∙ c .before .before .if1 .left) i) ((sym (c .before .bad-lanes .ensures) ∙ c .if2 .taken) i)
-    (badWords (s .args .n) (s .args .lent .soft)) (badLimit (s .args .asked .limit)) (badStep (s .args .asked .layered) (s .args .asked .step))
-    (badPart (s .args .n) (s .args .asked .first) (s .args .asked .length))
-    (tooShort (s .args .n) (pOf (s .args .n) (s .args .lens .now)) (eOf (s .args .n) (s .args .lens .now) (s .args .addrs .now)) (s .args .asked .lanes)
-    (s .args .lent)))
+unfolding firstRefusal
+returns-2 c = first-lanes _ _ _ _ _ _ _ (code-so (c .before .before .before)) (sym (c .before .bad-lanes .ensures) ∙ c .if2 .taken)
 
 bad-words-requires : tie.Need-bad-words-requires
-bad-words-requires c κs = let A = accepted _ _ _ (sym (c .before .before .before .refusal .ensures) ∙ c .before .before .if1 .left) in omega (arith, A .rows)
+bad-words-requires c κs =
+    let B = bounded _ _ _ (code-so (behind-code c)) in
+    omega (arith, B .p-pos, B .p-le, ap (λ (of : Sizes). of .n) (sizes-so (sized c)))
 
 returns-3 : tie.Need-returns-3
-unfolding refusalOf firstOf badLimit
+unfolding firstRefusal
 returns-3 c =
-    let at-if1 = c .before .before .before .before in
-    let at-refusal = at-if1 .before in
-    let s = at-refusal .before .before .before in
-    sym
-    (λ i.
-    firstOf ((sym (at-refusal .refusal .ensures) ∙ at-if1 .if1 .left) i) ((sym (c .before .before .before .bad-lanes .ensures) ∙ c .before .before .if2 .left) i)
-    ((sym (c .before .bad-words .ensures) ∙ c .if3 .taken) i) (badLimit (s .args .asked .limit)) (badStep (s .args .asked .layered) (s .args .asked .step))
-    (badPart (s .args .n) (s .args .asked .first) (s .args .asked .length))
-    (tooShort (s .args .n) (pOf (s .args .n) (s .args .lens .now)) (eOf (s .args .n) (s .args .lens .now) (s .args .addrs .now)) (s .args .asked .lanes)
-    (s .args .lent)))
+    let at-lanes = c .before .before in
+    let a = start (behind-code at-lanes) .args in
+    first-words _ _ _ _ _ _ _ (code-so (behind-code at-lanes)) (lanes-so at-lanes)
+    (sym (c .before .bad-words .ensures ∙ ap (λ (of : Sizes). badWords (of .n) (a .lent .soft)) (sizes-so (sized at-lanes))) ∙ c .if3 .taken)
 
 returns-4 : tie.Need-returns-4
-unfolding refusalOf firstOf badLimit
+unfolding firstRefusal badLimit
 returns-4 c =
-    let at-if2 = c .before .before .before .before in
-    let at-bad-lanes = at-if2 .before in
-    let at-if1 = at-bad-lanes .before in
-    let at-refusal = at-if1 .before in
-    let s = at-refusal .before .before .before in
-    sym
-    (λ i.
-    firstOf ((sym (at-refusal .refusal .ensures) ∙ at-if1 .if1 .left) i) ((sym (at-bad-lanes .bad-lanes .ensures) ∙ at-if2 .if2 .left) i)
-    ((sym (c .before .before .before .bad-words .ensures) ∙ c .before .before .if3 .left) i) ((lt-ltb 65535 (s .args .asked .limit) (c .if4 .taken)) i)
-    (badStep (s .args .asked .layered) (s .args .asked .step)) (badPart (s .args .n) (s .args .asked .first) (s .args .asked .length))
-    (tooShort (s .args .n) (pOf (s .args .n) (s .args .lens .now)) (eOf (s .args .n) (s .args .lens .now) (s .args .addrs .now)) (s .args .asked .lanes)
-    (s .args .lent)))
+    let at-words = c .before .before in
+    let at-lanes = behind-lanes at-words in
+    first-limit _ _ _ _ _ _ _ (code-so (behind-code at-lanes)) (lanes-so at-lanes) (words-so at-words) (lt-ltb 65535 _ (c .if4 .taken))
 
 bad-step-requires : tie.Need-bad-step-requires
 bad-step-requires c κs = search needs
 
 returns-5 : tie.Need-returns-5
-unfolding refusalOf firstOf badLimit
+unfolding firstRefusal
 returns-5 c =
-    let at-if3 = c .before .before .before .before in
-    let at-bad-words = at-if3 .before in
-    let at-if2 = at-bad-words .before in
-    let at-bad-lanes = at-if2 .before in
-    let at-if1 = at-bad-lanes .before in
-    let at-refusal = at-if1 .before in
-    let s = at-refusal .before .before .before in
-    sym
-    (λ i.
-    firstOf ((sym (at-refusal .refusal .ensures) ∙ at-if1 .if1 .left) i) ((sym (at-bad-lanes .bad-lanes .ensures) ∙ at-if2 .if2 .left) i)
-    ((sym (at-bad-words .bad-words .ensures) ∙ at-if3 .if3 .left) i) ((le-ltb 65535 (s .args .asked .limit) (c .before .before .if4 .left)) i)
-    ((sym (c .before .bad-step .ensures) ∙ c .if5 .taken) i) (badPart (s .args .n) (s .args .asked .first) (s .args .asked .length))
-    (tooShort (s .args .n) (pOf (s .args .n) (s .args .lens .now)) (eOf (s .args .n) (s .args .lens .now) (s .args .addrs .now)) (s .args .asked .lanes)
-    (s .args .lent)))
+    let at-limit = c .before .before in
+    let at-words = behind-words at-limit in
+    let at-lanes = behind-lanes at-words in
+    first-step _ _ _ _ _ _ _ (code-so (behind-code at-lanes)) (lanes-so at-lanes) (words-so at-words) (limit-so at-limit) (sym (c .before .bad-step .ensures) ∙ c .if5 .taken)
 
 bad-part-requires : tie.Need-bad-part-requires
 bad-part-requires c κs = search needs
 
 returns-6 : tie.Need-returns-6
-unfolding refusalOf firstOf badLimit
+unfolding firstRefusal
 returns-6 c =
-    let at-if4 = c .before .before .before .before in
-    let at-if3 = at-if4 .before .before in
-    let at-bad-words = at-if3 .before in
-    let at-if2 = at-bad-words .before in
-    let at-bad-lanes = at-if2 .before in
-    let at-if1 = at-bad-lanes .before in
-    let at-refusal = at-if1 .before in
-    let s = at-refusal .before .before .before in
-    sym
-    (λ i.
-    firstOf ((sym (at-refusal .refusal .ensures) ∙ at-if1 .if1 .left) i) ((sym (at-bad-lanes .bad-lanes .ensures) ∙ at-if2 .if2 .left) i)
-    ((sym (at-bad-words .bad-words .ensures) ∙ at-if3 .if3 .left) i) ((le-ltb 65535 (s .args .asked .limit) (at-if4 .if4 .left)) i)
-    ((sym (c .before .before .before .bad-step .ensures) ∙ c .before .before .if5 .left) i) ((sym (c .before .bad-part .ensures) ∙ c .if6 .taken) i)
-    (tooShort (s .args .n) (pOf (s .args .n) (s .args .lens .now)) (eOf (s .args .n) (s .args .lens .now) (s .args .addrs .now)) (s .args .asked .lanes)
-    (s .args .lent)))
-
-checks-requires : tie.Need-checks-requires
-checks-requires c κs =
-    let at-if1 = c .before .before .before .before .before .before .before .before .before .before in
-    let at-refusal = at-if1 .before in
-    sym (at-refusal .refusal .ensures) ∙ at-if1 .if1 .left
-
-edges-requires : tie.Need-edges-requires
-edges-requires c κs =
-    let at-if1 = c .before .before .before .before .before .before .before .before .before .before .before in
-    let at-refusal = at-if1 .before in
-    sym (at-refusal .refusal .ensures) ∙ at-if1 .if1 .left
+    let at-step = c .before .before .before in
+    let at-limit = behind-limit at-step in
+    let at-words = behind-words at-limit in
+    let at-lanes = behind-lanes at-words in
+    let a = start (behind-code at-lanes) .args in
+    first-part _ _ _ _ _ _ _ (code-so (behind-code at-lanes)) (lanes-so at-lanes) (words-so at-words) (limit-so at-limit) (step-so at-step)
+    (sym (c .before .bad-part .ensures ∙ ap (λ (of : Sizes). badPart (of .n) (a .set .part)) (sizes-so (sized at-lanes))) ∙ c .if6 .taken)
 
 wide-requires : tie.Need-wide-requires
 wide-requires c κs = search needs
 
 too-short-requires : tie.Need-too-short-requires
 too-short-requires c κs =
-    let at-if3 = c .before .before .before .before .before .before .before .before .before in
-    let at-bad-words = at-if3 .before in
-    let at-if2 = at-bad-words .before in
-    let at-bad-lanes = at-if2 .before in
-    let at-if1 = at-bad-lanes .before in
-    let at-refusal = at-if1 .before in
-    let s = at-refusal .before .before .before in
-    let A = accepted _ _ _ (sym (at-refusal .refusal .ensures) ∙ at-if1 .if1 .left) in
-    let n-is = c .wide .ensures in (
-      omega (arith, p-pos _ _ _ A),
-      omega (arith, A .small, n-is),
-      omega (arith, p-le _ _ _ A, c .before .before .checks .ensures),
-      omega (arith, edges-few _ _ _ A, c .before .edges .ensures),
-      lanes-few _ (sym (at-bad-lanes .bad-lanes .ensures) ∙ at-if2 .if2 .left),
-      subst (λ (z : ℕ). s .args .lent .soft / z ≤ 4096) (sym n-is) (words-few (s .args .n) _ (sym (at-bad-words .bad-words .ensures) ∙ at-if3 .if3 .left)),
+    let at-words = behind-words (behind-limit (behind-step (c .before))) in
+    let at-lanes = behind-lanes at-words in
+    let a = start (behind-code at-lanes) .args in
+    let is = sizes-so (sized at-lanes) in (
+      subst Bounded (sym is) (bounded _ _ _ (code-so (behind-code at-lanes))),
+      omega (arith, lanes-few _ (lanes-so at-lanes), c .wide .ensures),
+      subst (λ (of : Sizes). a .lent .soft / of .n ≤ 4096) (sym is) (words-few (a .n) _ (words-so at-words)),
     )
 
+-- the last test, of the sizes and the lanes as they were worked out
+short-is : (c : tie.After-too-short) → (let a = start (behind-code (behind-lanes (behind-words (behind-limit (behind-step (c .before .before)))))) .args in
+    c .too-short .result ≡ tooShort (sizesOf (a .n) (a .lens .now) (a .addrs .now)) (a .set .lanes) (a .lent))
+short-is c =
+    let at-lanes = behind-lanes (behind-words (behind-limit (behind-step (c .before .before)))) in
+    let a = start (behind-code at-lanes) .args in
+    c .too-short .ensures ∙ (λ i. tooShort (sizes-so (sized at-lanes) i) (c .before .wide .ensures i) (a .lent))
+
 returns-7 : tie.Need-returns-7
-unfolding refusalOf firstOf badLimit
+unfolding firstRefusal
 returns-7 c =
-    let at-checks = c .before .before .before .before in
-    let at-if6 = at-checks .before in
-    let at-bad-part = at-if6 .before in
-    let at-if5 = at-bad-part .before in
-    let at-bad-step = at-if5 .before in
-    let at-if4 = at-bad-step .before in
-    let at-if3 = at-if4 .before .before in
-    let at-bad-words = at-if3 .before in
-    let at-if2 = at-bad-words .before in
-    let at-bad-lanes = at-if2 .before in
-    let at-if1 = at-bad-lanes .before in
-    let at-refusal = at-if1 .before in
-    let s = at-refusal .before .before .before in
-    sym
-    (λ i.
-    firstOf ((sym (at-refusal .refusal .ensures) ∙ at-if1 .if1 .left) i) ((sym (at-bad-lanes .bad-lanes .ensures) ∙ at-if2 .if2 .left) i)
-    ((sym (at-bad-words .bad-words .ensures) ∙ at-if3 .if3 .left) i) ((le-ltb 65535 (s .args .asked .limit) (at-if4 .if4 .left)) i)
-    ((sym (at-bad-step .bad-step .ensures) ∙ at-if5 .if5 .left) i) ((sym (at-bad-part .bad-part .ensures) ∙ at-if6 .if6 .left) i)
-    ((sym (c .before .too-short .ensures ∙ (λ j. tooShort (c .before .before .wide .ensures j) (at-checks .checks .ensures j) (c .before .before .before .edges .ensures j) (s .args .asked .lanes) (s .args .lent))) ∙ c .if7 .taken)
-    i))
+    let at-part = c .before .before .before in
+    let at-step = behind-step at-part in
+    let at-limit = behind-limit at-step in
+    let at-words = behind-words at-limit in
+    let at-lanes = behind-lanes at-words in
+    first-short _ _ _ _ _ _ _ (code-so (behind-code at-lanes)) (lanes-so at-lanes) (words-so at-words) (limit-so at-limit) (step-so at-step) (part-so at-part)
+    (sym (short-is (c .before)) ∙ c .if7 .taken)
 
 returns-8 : tie.Need-returns-8
-unfolding refusalOf firstOf badLimit
+unfolding firstRefusal
 returns-8 c =
-    let at-checks = c .before .before .before .before in
-    let at-if6 = at-checks .before in
-    let at-bad-part = at-if6 .before in
-    let at-if5 = at-bad-part .before in
-    let at-bad-step = at-if5 .before in
-    let at-if4 = at-bad-step .before in
-    let at-if3 = at-if4 .before .before in
-    let at-bad-words = at-if3 .before in
-    let at-if2 = at-bad-words .before in
-    let at-bad-lanes = at-if2 .before in
-    let at-if1 = at-bad-lanes .before in
-    let at-refusal = at-if1 .before in
-    let s = at-refusal .before .before .before in
-    sym
-    (λ i.
-    firstOf ((sym (at-refusal .refusal .ensures) ∙ at-if1 .if1 .left) i) ((sym (at-bad-lanes .bad-lanes .ensures) ∙ at-if2 .if2 .left) i)
-    ((sym (at-bad-words .bad-words .ensures) ∙ at-if3 .if3 .left) i) ((le-ltb 65535 (s .args .asked .limit) (at-if4 .if4 .left)) i)
-    ((sym (at-bad-step .bad-step .ensures) ∙ at-if5 .if5 .left) i) ((sym (at-bad-part .bad-part .ensures) ∙ at-if6 .if6 .left) i)
-    ((sym (c .before .too-short .ensures ∙ (λ j. tooShort (c .before .before .wide .ensures j) (at-checks .checks .ensures j) (c .before .before .before .edges .ensures j) (s .args .asked .lanes) (s .args .lent))) ∙ c .if7 .left)
-    i))
+    let at-part = c .before .before .before in
+    let at-step = behind-step at-part in
+    let at-limit = behind-limit at-step in
+    let at-words = behind-words at-limit in
+    let at-lanes = behind-lanes at-words in
+    first-none _ _ _ _ _ _ _ (code-so (behind-code at-lanes)) (lanes-so at-lanes) (words-so at-words) (limit-so at-limit) (step-so at-step) (part-so at-part)
+    (sym (short-is (c .before)) ∙ c .if7 .left)
 
 pub refusal-spec : {M : Type 1} → statement M
 refusal-spec =
@@ -198,6 +176,7 @@ refusal-spec =
     (tie.spec
     refusal-requires
     returns
+    sizes-of-requires
     bad-lanes-requires
     returns-2
     bad-words-requires
@@ -207,8 +186,6 @@ refusal-spec =
     returns-5
     bad-part-requires
     returns-6
-    checks-requires
-    edges-requires
     wide-requires
     too-short-requires
     returns-7

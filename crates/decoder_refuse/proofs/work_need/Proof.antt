@@ -9,13 +9,17 @@ use Rattle.decoder_refuse.proofs.work_need.Statement.{statement}
 use Rattle.decoder_refuse.proofs.work_need.Tie as tie
 
 mul-result : tie.Need-mul-result
-mul-result c = search needs
+mul-result c = omega (arith, c .before .pre .0 .e-le)
 
 add-result : tie.Need-add-result
-add-result c = search needs
+add-result c = omega (arith, c .before .before .pre .0 .e-le, c .before .before .pre .0 .n-le)
 
 mul-result-2 : tie.Need-mul-result-2
-mul-result-2 c = omega (arith, mul-le-mul-right {m = c .args .n + 3 * c .args .e} {n = 18044880} (c .args .lanes) (omega (arith, c .pre)), c .pre)
+mul-result-2 c =
+    let s = c .before .before in
+    let of = s .args .of in
+    let B = s .pre .0 in
+    omega (arith, mul-le-mul-right {m = of .n + 3 * of .e} {n = 18044880} (s .args .lanes) (omega (arith, B .n-le, B .e-le)), s .pre .1)
 
 returns : tie.Need-returns
 unfolding workNeed

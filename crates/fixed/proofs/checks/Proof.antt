@@ -8,10 +8,10 @@ use lib.ListN.{length}
 use mir.Syntax.{w8}
 use mir.Val.{toZ, ofZ}
 use Rattle.laws.specs.Signed.{plain}
-use Rattle.lane_memory.specs.Room.{Room}
+use Rattle.lane16.specs.Memory.{CheckMemory, memory-to, check-memory}
 use Rattle.simd.specs.Words.{CheckNode}
-use Rattle.fixed_code.specs.Lists.{memory-to, room}
-use Rattle.fixed.specs.Sequential.{stepped, InTurn, turn-start, turn-again, turn-end}
+use Rattle.fixed.specs.Sequential.{InTurn, turn-start, turn-again, turn-end}
+use Rattle.iteration.specs.Once.{stepped}
 use Rattle.fixed.proofs.checks.Statement.{statement}
 use Rattle.fixed.proofs.checks.Tie as tie
 
@@ -47,8 +47,8 @@ check-node-requires c κs =
     let inside = s .pre .1 .0 (h .loop .x) (loop-test .taken) in
     let r = c .before .before .before .before .start in
     let d = c .before .before .before .degree in (
-      subst (λ (l : List ℕ). Room l (r .result) (d .result) (s .args .n) (s .args .lanes) (h .loop .work)) (sym (s .pre .0 .1))
-          (room (stepped (s .args .first) (s .args .q) (h .loop .x)) (r .result) (d .result) (memory-to (h .loop .inv .1 .0) (s .pre .0 .0)) inside (r .ensures)
+      subst (λ (l : List ℕ). CheckMemory l (r .result) (d .result) (s .args .n) (s .args .lanes) (h .loop .work)) (sym (s .pre .0 .1))
+          (check-memory (stepped (s .args .first) (s .args .q) (h .loop .x)) (r .result) (d .result) (memory-to (h .loop .inv .1 .0) (s .pre .0 .0)) inside (r .ensures)
           (omega (arith, r .ensures, d .ensures))),
       (omega (arith, h .loop .inv .1 .1 .0 .0, s .pre .1 .1 .0), omega (arith, h .loop .inv .1 .1 .0 .1, s .pre .1 .1 .1)),
     )

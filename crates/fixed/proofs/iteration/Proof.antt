@@ -2,7 +2,7 @@
 use native.Mathlib.Omega.{arith}
 use borrow.Author.Needs.{needs}
 use Rattle.laws.specs.Signed.{plain}
-use Rattle.fixed_code.specs.Lists.{rows-part}
+use Rattle.iteration.specs.ListsLaws.{rows-part}
 use Rattle.fixed.specs.Sequential.{iterated}
 use Rattle.fixed.proofs.iteration.Statement.{statement}
 use Rattle.fixed.proofs.iteration.Tie as tie

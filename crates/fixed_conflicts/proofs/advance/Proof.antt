@@ -4,18 +4,18 @@ use native.Mathlib.Omega.{arith}
 use mathlib.Core.Path.{ap}
 use Prim.Native.Nat.{ℕ, _+_, _*_, _-_, _≤_}
 use lib.ListN.{getD}
-use Rattle.fixed_conflicts.specs.Marks.{Advanced, advanced-start, advanced-again, advanced-end}
+use Rattle.fixed_conflicts.specs.Marks.{NextRow, next-row-start, next-row-again, next-row-end}
 use Rattle.fixed_conflicts.proofs.advance.Statement.{statement}
 use Rattle.fixed_conflicts.proofs.advance.Tie as tie
 
 abbrev Inv-loop : tie.InvT-loop
-Inv-loop table₀ counts g q l₀ table l = (l ≤ q) × Advanced table₀ counts g l table
+Inv-loop table₀ counts g q l₀ table l = (l ≤ q) × NextRow table₀ counts g l table
 
 abbrev μ-loop : tie.MeasureT-loop
 μ-loop table₀ counts g q l₀ table l = q - l
 
 loop-holds : tie.Need-loop-holds Inv-loop μ-loop
-loop-holds c = let a = c .before .args in (search needs, advanced-start (a .table .now) (a .counts .now) (a .g))
+loop-holds c = let a = c .before .args in (search needs, next-row-start (a .table .now) (a .counts .now) (a .g))
 
 span-requires : tie.Need-span-requires Inv-loop μ-loop
 span-requires c κs = search needs
@@ -67,7 +67,7 @@ loop-again c =
     let h = c .before .before .before .before in
     let q = c .before .before .before .loop-test .taken in (
       omega (arith, q),
-      advanced-again (h .loop .inv .1) (omega (arith, q, s .pre .0 .1 .1)) (omega (arith, q, s .pre .0))
+      next-row-again (h .loop .inv .1) (omega (arith, q, s .pre .0 .1 .1)) (omega (arith, q, s .pre .0))
           (ap (λ (z : ℕ). z + getD (s .args .counts .now) (h .loop .l) 0) (c .before .span .ensures .0)),
     )
 
@@ -75,7 +75,7 @@ same-length : tie.Need-same-length Inv-loop μ-loop
 same-length c = search needs
 
 returns : tie.Need-returns Inv-loop μ-loop
-returns c = advanced-end (omega (arith, c .before .loop .inv .0, c .loop-test .left)) (c .before .loop .inv .1)
+returns c = next-row-end (omega (arith, c .before .loop .inv .0, c .loop-test .left)) (c .before .loop .inv .1)
 
 pub advance-spec : {M : Type 1} → statement M
 advance-spec =

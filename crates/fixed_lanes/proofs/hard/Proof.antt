@@ -5,9 +5,10 @@ use mathlib.Core.Path.{refl, ap, sym, _∙_}
 use Prim.Native.Nat.{_-_, _≤_}
 use lib.ListN.{length-set}
 use lib.IntN.{ℤ}
-use Rattle.lane_math.specs.Iteration.{hard}
-use Rattle.lane_memory.specs.Column.{column}
-use Rattle.simd.specs.Words.{within, within-at}
+use Rattle.iteration.specs.Iteration.{hard}
+use Rattle.lane16.specs.Column.{column}
+use Rattle.iteration.specs.CheckLaws.{within-at}
+use Rattle.iteration.specs.Check.{within}
 use Rattle.fixed_lanes.specs.Place.{inside-rows}
 use Rattle.fixed_lanes.specs.Read.{Deciding, deciding-start, deciding-again, deciding-end}
 use Rattle.laws.specs.Signed.{plain}

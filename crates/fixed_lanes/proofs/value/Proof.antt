@@ -5,7 +5,7 @@ use lib.ListN.{getD}
 use lib.IntN.{pos}
 use borrow.Author.Needs.{sfits-of}
 use Rattle.laws.specs.Signed.{plain}
-use Rattle.lane_memory.specs.Column.{column}
+use Rattle.lane16.specs.Column.{column}
 use Rattle.fixed_lanes.proofs.value.Statement.{statement}
 use Rattle.fixed_lanes.proofs.value.Tie as tie
 

@@ -4,8 +4,8 @@ use borrow.Author.Needs.{needs}
 use mathlib.Core.Path.{_≡_, refl}
 use Prim.Native.Nat.{_+_, _-_, _≤_}
 use lib.ListN.{length}
-use Rattle.lane_memory.specs.Room.{var}
-use Rattle.fixed_layered.specs.Run.{edge-room}
+use Rattle.iteration.specs.Lists.{var}
+use Rattle.fixed_layered.specs.RunMemory.{edge-room}
 use Rattle.fixed_layered.specs.Rows.{Gathers, sumAt, after, gathers-start, gathers-again, gathers-end}
 use Rattle.fixed_layered.proofs.gather_check.Statement.{statement}
 use Rattle.fixed_layered.proofs.gather_check.Tie as tie

@@ -6,7 +6,7 @@ use Prim.Native.Nat.{ℕ, _+_, _*_, _-_, _≤_, _<_}
 use native.Mathlib.Nat.{mul-le-mul-right}
 use mathlib.Core.Bool.{true}
 use lib.ListN.{length, set}
-use Rattle.lane_memory.specs.Room.{row-room, row-fits}
+use Rattle.lane16.specs.Memory.{row-room, row-fits}
 use Rattle.fixed_layered.specs.Rows.{EdgeDone}
 use Rattle.fixed_layered.proofs.gather_edge.Statement.{statement}
 use Rattle.fixed_layered.proofs.gather_edge.Tie as tie
@@ -55,7 +55,7 @@ mul-gather c = let s = c .before .before .before .before .before in
     let v = c .before .before .variable in
     let y : v .result - s .args .base ≤ 374 = omega (arith, v .ensures, s .pre .1 .0 .1 .1 .1) in
     let z : (v .result - s .args .base) * s .args .lanes ≤ 374 * s .args .lanes = mul-le-mul-right (s .args .lanes) y in
-    record { fits = omega (arith, s .pre .0 .0 .few-lanes) }
+    record { fits = omega (arith, s .pre .1 .0 .0, s .good) }
 
 gather-requires : tie.Need-gather-requires
 gather-requires c κs = let s = c .before .before .before .before .before in

@@ -5,20 +5,19 @@ use mathlib.Core.Path.{_≡_, refl, ap, subst}
 use mathlib.Core.List.{List}
 use Prim.Native.Nat.{ℕ, _+_, _-_, _≤_}
 use lib.ListN.{length, getD}
-use Rattle.lane_memory.specs.Column.{column}
-use Rattle.lane_memory.specs.Room.{var}
-use Rattle.fixed_code.specs.Lists.{edgesIn, codeIn}
-use Rattle.fixed_layered.specs.Full.{placeOf}
-use Rattle.fixed.specs.Sequential.{stepped}
+use Rattle.lane16.specs.Column.{column}
+use Rattle.iteration.specs.Lists.{var, edgesIn, codeIn}
+use Rattle.iteration.specs.Full.{placeOf}
+use Rattle.iteration.specs.Once.{stepped}
 use Rattle.fixed_layered.specs.Gather.{gatherAt}
-use Rattle.fixed_layered.specs.Run.{place-first, place-next, place-room}
-use Rattle.fixed_layered.specs.Runs.{row-part}
+use Rattle.fixed_layered.specs.RunMemory.{few-turns, place-first, place-next, place-room}
+use Rattle.fixed_layered.specs.Layers.{row-part}
 use Rattle.fixed_layered.specs.Rows.{Gathers, sumAt, runSum, row-start, row-again, more}
 use Rattle.fixed_layered.proofs.gather_row.Statement.{statement}
 use Rattle.fixed_layered.proofs.gather_row.Tie as tie
 
 abbrev Inv-loop : tie.InvT-loop
-Inv-loop sums₀ seen₀ index rows work base from upto n p lanes first q m place₀ x₀ sums seen place x =
+Inv-loop sums₀ seen₀ index rows work n p q lanes first m base from upto place₀ x₀ sums seen place x =
     (x ≤ m) ×
     ((length sums ≡ length sums₀) ×
     ((length seen ≡ length seen₀) ×
@@ -26,7 +25,7 @@ Inv-loop sums₀ seen₀ index rows work base from upto n p lanes first q m plac
     (runSum n (edgesIn p index) (codeIn p index) (stepped first q) base lanes work x) seen sums)))
 
 abbrev μ-loop : tie.MeasureT-loop
-μ-loop sums₀ seen₀ index rows work base from upto n p lanes first q m place₀ x₀ sums seen place x = m - x
+μ-loop sums₀ seen₀ index rows work n p q lanes first m base from upto place₀ x₀ sums seen place x = m - x
 
 loop-holds : tie.Need-loop-holds Inv-loop μ-loop
 loop-holds c =
@@ -38,8 +37,8 @@ loop-holds c =
         (
           refl,
           (
-            place-first (a .p) (a .index .now) (a .first) (a .q),
-            row-start (a .n) (edgesIn (a .p) (a .index .now)) (codeIn (a .p) (a .index .now)) (stepped (a .first) (a .q)) (a .base) (a .lanes) (a .work .now)
+            place-first (a .of .p) (a .index .now) (a .run .first) (a .of .q),
+            row-start (a .of .n) (edgesIn (a .of .p) (a .index .now)) (codeIn (a .of .p) (a .index .now)) (stepped (a .run .first) (a .of .q)) (a .row .base) (a .of .lanes) (a .work .now)
                 (a .seen .now) (a .sums .now) (s .pre .1 .1 .1 .1),
           ),
         ),
@@ -91,7 +90,7 @@ add-gather-check c =
     let inside = s .pre .0 .0 .inside (h .loop .x) y in
     let r = c .before .before .before .before .start in
     let d = c .before .before .before .degree in
-    let f : r .result + d .result ≡ getD (a .index .now) (stepped (a .first) (a .q) (h .loop .x) + 1) 0 = omega (arith, r .ensures, d .ensures) in
+    let f : r .result + d .result ≡ getD (a .index .now) (stepped (a .run .first) (a .of .q) (h .loop .x) + 1) 0 = omega (arith, r .ensures, d .ensures) in
     let t = c .before .before .least in
     let w = row-part (s .pre .0 .0) (s .pre .0 .1) (s .pre .1 .0) y (r .ensures) f (t .ensures) in
     record { fits = omega (arith, w .part-room .edges, w .least, ap length (s .pre .0 .1), s .pre .0 .0 .few-edges) }
@@ -106,7 +105,7 @@ sub-gather-check c =
     let inside = s .pre .0 .0 .inside (h .loop .x) y in
     let r = c .before .before .before .before .start in
     let d = c .before .before .before .degree in
-    let f : r .result + d .result ≡ getD (a .index .now) (stepped (a .first) (a .q) (h .loop .x) + 1) 0 = omega (arith, r .ensures, d .ensures) in
+    let f : r .result + d .result ≡ getD (a .index .now) (stepped (a .run .first) (a .of .q) (h .loop .x) + 1) 0 = omega (arith, r .ensures, d .ensures) in
     let t = c .before .before .least in
     let w = row-part (s .pre .0 .0) (s .pre .0 .1) (s .pre .1 .0) y (r .ensures) f (t .ensures) in
     w .least
@@ -121,7 +120,7 @@ add-gather-check-2 c =
     let inside = s .pre .0 .0 .inside (h .loop .x) y in
     let r = c .before .before .before .before .start in
     let d = c .before .before .before .degree in
-    let f : r .result + d .result ≡ getD (a .index .now) (stepped (a .first) (a .q) (h .loop .x) + 1) 0 = omega (arith, r .ensures, d .ensures) in
+    let f : r .result + d .result ≡ getD (a .index .now) (stepped (a .run .first) (a .of .q) (h .loop .x) + 1) 0 = omega (arith, r .ensures, d .ensures) in
     let t = c .before .before .least in
     let w = row-part (s .pre .0 .0) (s .pre .0 .1) (s .pre .1 .0) y (r .ensures) f (t .ensures) in
     record { fits = omega (arith, w .least, w .below, place-room (h .loop .x) (h .loop .place) (r .result) (d .result) (s .pre .0 .0) y (r .ensures) f (h .loop .inv .1 .1 .1 .0), s .pre .0 .0 .few-edges) }
@@ -136,7 +135,7 @@ gather-check-requires c κs =
     let inside = s .pre .0 .0 .inside (h .loop .x) y in
     let r = c .before .before .before .before .start in
     let d = c .before .before .before .degree in
-    let f : r .result + d .result ≡ getD (a .index .now) (stepped (a .first) (a .q) (h .loop .x) + 1) 0 = omega (arith, r .ensures, d .ensures) in
+    let f : r .result + d .result ≡ getD (a .index .now) (stepped (a .run .first) (a .of .q) (h .loop .x) + 1) 0 = omega (arith, r .ensures, d .ensures) in
     let t = c .before .before .least in
     let w = row-part (s .pre .0 .0) (s .pre .0 .1) (s .pre .1 .0) y (r .ensures) f (t .ensures) in
     let i = h .loop .inv in
@@ -158,7 +157,7 @@ add-place c =
     let inside = s .pre .0 .0 .inside (h .loop .x) y in
     let r = c .before .before .before .before .before .before .before .before .start in
     let d = c .before .before .before .before .before .before .before .degree in
-    let f : r .result + d .result ≡ getD (a .index .now) (stepped (a .first) (a .q) (h .loop .x) + 1) 0 = omega (arith, r .ensures, d .ensures) in
+    let f : r .result + d .result ≡ getD (a .index .now) (stepped (a .run .first) (a .of .q) (h .loop .x) + 1) 0 = omega (arith, r .ensures, d .ensures) in
     record { fits = omega (arith, place-room (h .loop .x) (h .loop .place) (r .result) (d .result) (s .pre .0 .0) y (r .ensures) f (h .loop .inv .1 .1 .1 .0), s .pre .0 .0 .few-edges) }
 
 add-x : tie.Need-add-x Inv-loop μ-loop
@@ -169,7 +168,7 @@ add-x c =
     let h = c .before .before .before .before .before .before .before .before .before .before in
     let y = loop-test .taken in
     let inside = s .pre .0 .0 .inside (h .loop .x) y in
-    record { fits = omega (arith, y, s .fits .m .fits) }
+    record { fits = omega (arith, few-turns (h .loop .x) (s .pre .0 .0) y) }
 
 loop-less : tie.Need-loop-less Inv-loop μ-loop
 loop-less c =
@@ -191,7 +190,7 @@ loop-again c =
     let inside = s .pre .0 .0 .inside (h .loop .x) y in
     let r = c .before .before .before .before .before .before .before .before .start in
     let d = c .before .before .before .before .before .before .before .degree in
-    let f : r .result + d .result ≡ getD (a .index .now) (stepped (a .first) (a .q) (h .loop .x) + 1) 0 = omega (arith, r .ensures, d .ensures) in
+    let f : r .result + d .result ≡ getD (a .index .now) (stepped (a .run .first) (a .of .q) (h .loop .x) + 1) 0 = omega (arith, r .ensures, d .ensures) in
     let t = c .before .before .before .before .before .before .least in
     let w = row-part (s .pre .0 .0) (s .pre .0 .1) (s .pre .1 .0) y (r .ensures) f (t .ensures) in
     let i = h .loop .inv in
@@ -202,15 +201,15 @@ loop-again c =
         (
           omega (arith, k .kept, i .1 .1 .0),
           (
-            place-next (a .p) (a .index .now) (a .first) (a .q) (h .loop .x) (h .loop .place) (r .result) (d .result) inside (r .ensures) f (i .1 .1 .1 .0),
-            row-again (a .n) (edgesIn (a .p) (a .index .now)) (a .work .now) (s .pre .1 .0) y (w .up) (w .most) (w .least) (w .all) (w .start-is) (i .1 .1 .1 .0)
+            place-next (a .of .p) (a .index .now) (a .run .first) (a .of .q) (h .loop .x) (h .loop .place) (r .result) (d .result) inside (r .ensures) f (i .1 .1 .1 .0),
+            row-again (a .of .n) (edgesIn (a .of .p) (a .index .now)) (a .work .now) (s .pre .1 .0) y (w .up) (w .most) (w .least) (w .all) (w .start-is) (i .1 .1 .1 .0)
                 (i .1 .1 .1 .1)
                 (subst
                 (λ (l : List ℕ).
-                Gathers (a .lanes) (h .loop .place + a .from + (t .result - a .from))
+                Gathers (a .of .lanes) (h .loop .place + a .row .from + (t .result - a .row .from))
                 (λ i j.
-                gatherAt (a .n) (length l) (var l) (a .base + j) (r .result + a .from) (h .loop .place + a .from) (column (a .lanes) (a .work .now) i)
-                (t .result - a .from) (sumAt (a .lanes) (h .loop .seen) (h .loop .sums) i j))
+                gatherAt (a .of .n) (length l) (var l) (a .row .base + j) (r .result + a .row .from) (h .loop .place + a .row .from) (column (a .of .lanes) (a .work .now) i)
+                (t .result - a .row .from) (sumAt (a .of .lanes) (h .loop .seen) (h .loop .sums) i j))
                 (k .last .1 .0) (k .last .0))
                 (s .pre .0 .1) (k .ensures)),
           ),
@@ -229,11 +228,11 @@ returns c =
     let s = c .before .before .before .before .before in
     let a = s .args in
     let h = c .before in
-    let e : h .loop .x ≡ a .m = omega (arith, h .loop .inv .0, c .loop-test .left) in
+    let e : h .loop .x ≡ a .run .m = omega (arith, h .loop .inv .0, c .loop-test .left) in
     subst
     (λ (x : ℕ).
-    Gathers (a .lanes) (placeOf (codeIn (a .p) (a .index .now)) (stepped (a .first) (a .q)) x)
-    (runSum (a .n) (edgesIn (a .p) (a .index .now)) (codeIn (a .p) (a .index .now)) (stepped (a .first) (a .q)) (a .base) (a .lanes) (a .work .now) x)
+    Gathers (a .of .lanes) (placeOf (codeIn (a .of .p) (a .index .now)) (stepped (a .run .first) (a .of .q)) x)
+    (runSum (a .of .n) (edgesIn (a .of .p) (a .index .now)) (codeIn (a .of .p) (a .index .now)) (stepped (a .run .first) (a .of .q)) (a .row .base) (a .of .lanes) (a .work .now) x)
     (h .loop .seen) (h .loop .sums))
     e (h .loop .inv .1 .1 .1 .1)
 

@@ -7,58 +7,52 @@ use lib.ListN.{length}
 use mir.Syntax.{w8}
 use mir.Val.{toZ, ofZ}
 use Rattle.laws.specs.Signed.{plain}
-use Rattle.fixed_layered.specs.Runs.{LayersMade, layers-start, layers-again, layers-end, in-layer-to}
+use Rattle.fixed_layered.specs.Layers.{LayersMade, layers-start, layers-again, layers-end, in-layer-to}
 use Rattle.fixed_layered.proofs.layers.Statement.{statement}
 use Rattle.fixed_layered.proofs.layers.Tie as tie
 
 abbrev Inv-loop : tie.InvT-loop
-Inv-loop index rows work₀ t₀ u₀ sums₀ table few offset n p lanes q step l₀ work t u sums l =
+Inv-loop index work₀ t₀ u₀ sums₀ table of offset q l₀ work t u sums l =
     (l ≤ q) ×
     ((length work ≡ length work₀) ×
-    (((length t ≡ length t₀) × ((length u ≡ length u₀) × (length sums ≡ length sums₀))) × LayersMade n p lanes (toZ w8 offset) index q step work₀ l work))
+    (((length t ≡ length t₀) × ((length u ≡ length u₀) × (length sums ≡ length sums₀))) × LayersMade (of .n) (of .p) (of .lanes) (toZ w8 offset) index q (of .step) work₀ l work))
 
 abbrev μ-loop : tie.MeasureT-loop
-μ-loop index rows work₀ t₀ u₀ sums₀ table few offset n p lanes q step l₀ work t u sums l = q - l
+μ-loop index work₀ t₀ u₀ sums₀ table of offset q l₀ work t u sums l = q - l
 
 loop-holds : tie.Need-loop-holds Inv-loop μ-loop
 loop-holds c =
-    let s = c .before .before .before in
-    let a = c .before .before .before .args in
-    (search needs, (refl, ((refl, (refl, refl)), layers-start (a .n) (a .p) (a .lanes) (toZ w8 (ofZ w8 (a .offset))) (a .index .now) (a .q) (a .step) (a .work .now))))
-
-shared-requires : tie.Need-shared-requires Inv-loop μ-loop
-shared-requires c κs = let s = c .before .before .before .before .before in (s .pre .0 .0 .long, (s .pre .0 .0 .few-rows, omega (arith, c .loop-test .taken, s .pre .0 .0 .few-layers)))
+    let s = c .before .before in
+    let a = s .args in
+    (search needs, (refl, ((refl, (refl, refl)), layers-start (a .of .n) (a .of .p) (a .of .lanes) (toZ w8 (ofZ w8 (a .offset))) (a .index .now) (a .of .q) (a .of .step) (a .work .now))))
 
 runs-requires : tie.Need-runs-requires Inv-loop μ-loop
 runs-requires c κs =
-    let loop-test = c .before .before .before .before .before .before .before .loop-test in
-    let s = c .before .before .before .before .before .before .before .before .before .before .before .before in
-    let h = c .before .before .before .before .before .before .before .before in
-    let q = loop-test .taken in
-    let k = c .before .before .before .before .before .before .shared in
+    let at-loop-test = c .before .before .before .before in
+    let h = at-loop-test .before in
+    let s = h .before .before .before in
     let long = h .loop .inv .1 .1 .0 in (
-      (in-layer-to (h .loop .inv .1 .0) (s .pre .0 .0 .layer (h .loop .l) q), s .pre .0 .1),
-      (
-        (s .pre .0 .0 .shares (h .loop .l) q (k .result .rows) (k .result .any) (k .ensures), (s .pre .0 .0 .long, omega (arith, q, s .pre .0 .0 .few-layers))),
-        (k .ensures .none, (omega (arith, long .0, s .pre .1 .0), (omega (arith, long .1 .0, s .pre .1 .1 .0), omega (arith, long .1 .1, s .pre .1 .1 .1)))),
-      ),
+      in-layer-to (h .loop .inv .1 .0) (s .pre .0 .0 (h .loop .l) (at-loop-test .loop-test .taken)),
+      (s .pre .0 .1, (omega (arith, long .0, s .pre .1 .0), (omega (arith, long .1 .0, s .pre .1 .1 .0), omega (arith, long .1 .1, s .pre .1 .1 .1)))),
     )
 
 add-l : tie.Need-add-l Inv-loop μ-loop
-add-l c = search needs
+add-l c =
+    let at-loop-test = c .before .before .before .before .before .before .before .before .before in
+    let s = at-loop-test .before .before .before .before in
+    record { fits = omega (arith, at-loop-test .loop-test .taken, s .pre .0 .1 .few-layers) }
 
 loop-less : tie.Need-loop-less Inv-loop μ-loop
-loop-less c =
-    let loop-test = c .before .before .before .before .before .before .before .before .before .before .before .before .loop-test in
-    omega (arith, loop-test .taken)
+loop-less c = omega (arith, c .before .before .before .before .before .before .before .before .before .loop-test .taken)
 
 loop-again : tie.Need-loop-again Inv-loop μ-loop
 loop-again c =
-    let loop-test = c .before .before .before .before .before .before .before .before .before .before .before .before .loop-test in
-    let h = c .before .before .before .before .before .before .before .before .before .before .before .before .before in
-    let k = c .before .before .before .before .runs in
+    let at-runs = c .before .before .before .before in
+    let at-loop-test = at-runs .before .before .before .before .before in
+    let h = at-loop-test .before in
+    let k = at-runs .runs in
     let long = h .loop .inv .1 .1 .0 in (
-      omega (arith, loop-test .taken),
+      omega (arith, at-loop-test .loop-test .taken),
       (
         omega (arith, k .kept, h .loop .inv .1 .0),
         (
@@ -81,7 +75,7 @@ same-length-4 : tie.Need-same-length-4 Inv-loop μ-loop
 same-length-4 c = c .before .loop .inv .1 .1 .0 .1 .1
 
 returns : tie.Need-returns Inv-loop μ-loop
-returns c = let s = c .before .before .before .before .before in
+returns c = let s = c .before .before .before .before in
     let h = c .before in
     layers-end (plain (s .args .offset) (s .fits .offset)) (omega (arith, h .loop .inv .0, c .loop-test .left)) (h .loop .inv .1 .1 .1)
 
@@ -92,7 +86,6 @@ layers-spec =
     Inv-loop
     μ-loop
     loop-holds
-    shared-requires
     runs-requires
     add-l
     loop-less

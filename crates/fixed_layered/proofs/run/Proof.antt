@@ -3,14 +3,34 @@ use borrow.Author.Needs.{needs}
 use Prim.Native.Nat.{_/_}
 use borrow.Author.Tests.{not-true}
 use Rattle.laws.specs.Signed.{plain}
-use Rattle.fixed_layered.specs.Run.{in-run-to}
-use Rattle.fixed_layered.specs.Runs.{run-offset}
+use Rattle.iteration.specs.ListsLaws.{rows-part}
+use Rattle.fixed_layered.specs.RunMemory.{in-run-to}
+use Rattle.fixed_layered.specs.Layers.{run-offset}
 use Rattle.fixed_layered.specs.Checks.{turn-made, run-law}
 use Rattle.fixed_layered.proofs.run.Statement.{statement}
 use Rattle.fixed_layered.proofs.run.Tie as tie
 
+add-base : tie.Need-add-base
+add-base c = search needs
+
+mul-rows : tie.Need-mul-rows
+mul-rows c = search needs
+
+sub-rows : tie.Need-sub-rows
+sub-rows c = search needs
+
+part-rows-start : tie.Need-part-rows-start
+part-rows-start c = search needs
+
+part-rows-end : tie.Need-part-rows-end
+part-rows-end c = search needs
+
 checks-requires : tie.Need-checks-requires
-checks-requires c κs = let s = c .before .before .before .before .before .before .before in ((s .pre .0 .0 .memory, s .pre .0 .1), (s .pre .0 .0 .inside, (s .pre .1 .1 .1 .0, s .pre .1 .1 .1 .1 .0)))
+checks-requires c κs =
+    let s = c .before .before .before .before .before .before .before .before .before in (
+      (s .pre .0 .memory, rows-part (s .args .of .p) (s .args .index .now)),
+      (s .pre .0 .inside, (s .pre .1 .1 .1 .0, s .pre .1 .1 .1 .1 .0)),
+    )
 
 same-length : tie.Need-same-length
 same-length c = search needs
@@ -23,18 +43,26 @@ same-length-3 c = search needs
 
 returns : tie.Need-returns
 returns c =
-    let if1 = c .before .before .before .before .before .before .before .if1 in
-    let s = c .before .before .before .before .before .before .before .before .before .before .before in
-    let none = s .pre .1 .1 .0 (not-true (s .args .any) (if1 .taken)) in
-    run-offset (plain (s .args .offset) (s .fits .offset)) (turn-made (s .pre .0 .0) (λ v. s .pre .1 .0 .0 .once v (none (v / 374))) (c .before .before .before .checks .ensures))
+    let at-checks = c .before .before .before in
+    let at-if1 = at-checks .before .before .before .before in
+    let s = at-if1 .before .before .before .before .before .before in
+    let none = s .pre .1 .1 .0 (not-true (s .args .run .shared) (at-if1 .if1 .taken)) in
+    run-offset (plain (s .args .offset) (s .fits .offset)) (turn-made (s .pre .0) (λ v. s .pre .1 .0 .0 .once v (none (v / 374))) (at-checks .checks .ensures))
 
 shared-run-requires : tie.Need-shared-run-requires
-shared-run-requires c κs = let s = c .before .before .before .before .before .before .before in (s .pre .0, (s .pre .1 .0 .0 .once, (s .pre .1 .1 .1 .0, s .pre .1 .1 .1 .1 .0)))
+shared-run-requires c κs =
+    let s = c .before .before .before .before .before .before .before .before .before in (
+      (s .pre .0, rows-part (s .args .of .p) (s .args .index .now)),
+      (s .pre .1 .0 .0 .once, (s .pre .1 .1 .1 .0, s .pre .1 .1 .1 .1 .0)),
+    )
 
 write-rows-requires : tie.Need-write-rows-requires
-write-rows-requires c κs = let s = c .before .before .before .before .before .before .before .before .before .before .before .before .before in
-    let k = c .before .before .before .before .before .shared-run in
-    ((in-run-to (k .kept .1 .1 .0) (s .pre .0 .0), s .pre .0 .1), (s .pre .1 .0, s .pre .1 .1 .1 .1 .1))
+write-rows-requires c κs =
+    let at-shared = c .before .before .before .before .before in
+    let s = at-shared .before .before .before .before .before .before .before .before .before .before in (
+      (in-run-to (at-shared .shared-run .kept .1 .1 .0) (s .pre .0), rows-part (s .args .of .p) (s .args .index .now)),
+      (s .pre .1 .0, s .pre .1 .1 .1 .1 .1),
+    )
 
 same-length-4 : tie.Need-same-length-4
 same-length-4 c = search needs
@@ -50,14 +78,20 @@ same-length-7 c = search needs
 
 returns-2 : tie.Need-returns-2
 returns-2 c =
-    let shared-run = c .before .before .before .before .before .before .before .before .shared-run in
-    let s = c .before .before .before .before .before .before .before .before .before .before .before .before .before .before .before .before in
-    run-offset (plain (s .args .offset) (s .fits .offset)) (run-law (s .pre .0 .0) (s .pre .1 .0 .0 .low) (shared-run .ensures) (c .before .before .write-rows .ensures))
+    let at-write = c .before .before in
+    let at-shared = at-write .before .before .before .before .before .before in
+    let s = at-shared .before .before .before .before .before .before .before .before .before .before in
+    run-offset (plain (s .args .offset) (s .fits .offset)) (run-law (s .pre .0) (s .pre .1 .0 .0 .low) (at-shared .shared-run .ensures) (at-write .write-rows .ensures))
 
 pub run-spec : {M : Type 1} → statement M
 run-spec =
     tie.close
     (tie.spec
+    add-base
+    mul-rows
+    sub-rows
+    part-rows-start
+    part-rows-end
     checks-requires
     same-length
     same-length-2

@@ -5,7 +5,8 @@ use mathlib.Core.Path.{_≡_, refl}
 use Prim.Native.Nat.{_+_, _*_, _-_, _≤_, _<_}
 use native.Mathlib.Nat.{mul-le-mul-right}
 use lib.ListN.{length}
-use Rattle.lane_memory.specs.Room.{var, row-room, value-row}
+use Rattle.lane16.specs.Memory.{row-room, value-row}
+use Rattle.iteration.specs.Lists.{var}
 use Rattle.fixed_layered.specs.Rows.{CheckSettled, settled-check-start, settled-check-again, settled-check-end}
 use Rattle.fixed_layered.proofs.settle_check.Statement.{statement}
 use Rattle.fixed_layered.proofs.settle_check.Tie as tie
@@ -34,7 +35,7 @@ mul-at c = let s = c .before .before .before .before in
     let v = c .variable in
     let y : v .result - s .args .base ≤ 374 = omega (arith, v .ensures, s .pre .1 .1 (c .before .before .loop .k) (c .before .loop-test .taken) .1) in
     let z : (v .result - s .args .base) * s .args .lanes ≤ 374 * s .args .lanes = mul-le-mul-right (s .args .lanes) y in
-    record { fits = omega (arith, s .pre .0 .few-lanes) }
+    record { fits = omega (arith, s .pre .1 .0, s .good) }
 
 settle-requires : tie.Need-settle-requires Inv-loop μ-loop
 settle-requires c κs = let s = c .before .before .before .before .before in

@@ -5,25 +5,24 @@ use mathlib.Core.Path.{_≡_, refl, ap, subst}
 use mathlib.Core.List.{List}
 use Prim.Native.Nat.{ℕ, _+_, _-_, _≤_}
 use lib.ListN.{length, getD}
-use Rattle.lane_memory.specs.Room.{var}
-use Rattle.fixed_code.specs.Lists.{edgesIn, codeIn}
-use Rattle.fixed.specs.Sequential.{stepped}
-use Rattle.fixed_layered.specs.Run.{in-run-to}
-use Rattle.fixed_layered.specs.Runs.{row-part}
+use Rattle.iteration.specs.Lists.{var, edgesIn, codeIn}
+use Rattle.iteration.specs.Once.{stepped}
+use Rattle.fixed_layered.specs.RunMemory.{few-turns, in-run-to}
+use Rattle.fixed_layered.specs.Layers.{row-part}
 use Rattle.fixed_layered.specs.Rows.{CheckSettled, RowSettled, settled-row-start, settled-row-again, settled-row-end}
 use Rattle.fixed_layered.proofs.settle_row.Statement.{statement}
 use Rattle.fixed_layered.proofs.settle_row.Tie as tie
 
 abbrev Inv-loop : tie.InvT-loop
-Inv-loop work₀ sums index rows base from upto n p lanes first q m x₀ work x =
+Inv-loop work₀ sums index rows n p q lanes first m base from upto x₀ work x =
     (x ≤ m) × ((length work ≡ length work₀) × RowSettled n (edgesIn p index) (codeIn p index) (stepped first q) base lanes sums work₀ x work)
 
 abbrev μ-loop : tie.MeasureT-loop
-μ-loop work₀ sums index rows base from upto n p lanes first q m x₀ work x = m - x
+μ-loop work₀ sums index rows n p q lanes first m base from upto x₀ work x = m - x
 
 loop-holds : tie.Need-loop-holds Inv-loop μ-loop
 loop-holds c = let a = c .before .before .args in
-    (search needs, (refl, settled-row-start (a .n) (edgesIn (a .p) (a .index .now)) (codeIn (a .p) (a .index .now)) (stepped (a .first) (a .q)) (a .base) (a .lanes) (a .sums .now) (a .work .now)))
+    (search needs, (refl, settled-row-start (a .of .n) (edgesIn (a .of .p) (a .index .now)) (codeIn (a .of .p) (a .index .now)) (stepped (a .run .first) (a .of .q)) (a .row .base) (a .of .lanes) (a .sums .now) (a .work .now)))
 
 mul-c : tie.Need-mul-c Inv-loop μ-loop
 mul-c c = let s = c .before .before .before .before in
@@ -70,7 +69,7 @@ add-settle-check c =
     let inside = s .pre .0 .0 .inside (h .loop .x) y in
     let r = c .before .before .before .start in
     let d = c .before .before .degree in
-    let f : r .result + d .result ≡ getD (a .index .now) (stepped (a .first) (a .q) (h .loop .x) + 1) 0 = omega (arith, r .ensures, d .ensures) in
+    let f : r .result + d .result ≡ getD (a .index .now) (stepped (a .run .first) (a .of .q) (h .loop .x) + 1) 0 = omega (arith, r .ensures, d .ensures) in
     let t = c .before .least in
     let w = row-part (in-run-to {b = h .loop .work} (h .loop .inv .1 .0) (s .pre .0 .0)) (s .pre .0 .1) (s .pre .1 .0) y (r .ensures) f (t .ensures) in
     record { fits = omega (arith, w .part-room .edges, w .least, ap length (s .pre .0 .1), s .pre .0 .0 .few-edges) }
@@ -85,7 +84,7 @@ sub-settle-check c =
     let inside = s .pre .0 .0 .inside (h .loop .x) y in
     let r = c .before .before .before .start in
     let d = c .before .before .degree in
-    let f : r .result + d .result ≡ getD (a .index .now) (stepped (a .first) (a .q) (h .loop .x) + 1) 0 = omega (arith, r .ensures, d .ensures) in
+    let f : r .result + d .result ≡ getD (a .index .now) (stepped (a .run .first) (a .of .q) (h .loop .x) + 1) 0 = omega (arith, r .ensures, d .ensures) in
     let t = c .before .least in
     let w = row-part (in-run-to {b = h .loop .work} (h .loop .inv .1 .0) (s .pre .0 .0)) (s .pre .0 .1) (s .pre .1 .0) y (r .ensures) f (t .ensures) in
     w .least
@@ -100,7 +99,7 @@ settle-check-requires c κs =
     let inside = s .pre .0 .0 .inside (h .loop .x) y in
     let r = c .before .before .before .start in
     let d = c .before .before .degree in
-    let f : r .result + d .result ≡ getD (a .index .now) (stepped (a .first) (a .q) (h .loop .x) + 1) 0 = omega (arith, r .ensures, d .ensures) in
+    let f : r .result + d .result ≡ getD (a .index .now) (stepped (a .run .first) (a .of .q) (h .loop .x) + 1) 0 = omega (arith, r .ensures, d .ensures) in
     let t = c .before .least in
     let w = row-part (in-run-to {b = h .loop .work} (h .loop .inv .1 .0) (s .pre .0 .0)) (s .pre .0 .1) (s .pre .1 .0) y (r .ensures) f (t .ensures) in
     (w .part-room, (s .pre .1 .1, w .in-row))
@@ -113,7 +112,7 @@ add-x c =
     let h = c .before .before .before .before .before .before .before in
     let y = loop-test .taken in
     let inside = s .pre .0 .0 .inside (h .loop .x) y in
-    record { fits = omega (arith, y, s .fits .m .fits) }
+    record { fits = omega (arith, few-turns (h .loop .x) (s .pre .0 .0) y) }
 
 loop-less : tie.Need-loop-less Inv-loop μ-loop
 loop-less c =
@@ -135,7 +134,7 @@ loop-again c =
     let inside = s .pre .0 .0 .inside (h .loop .x) y in
     let r = c .before .before .before .before .before .start in
     let d = c .before .before .before .before .degree in
-    let f : r .result + d .result ≡ getD (a .index .now) (stepped (a .first) (a .q) (h .loop .x) + 1) 0 = omega (arith, r .ensures, d .ensures) in
+    let f : r .result + d .result ≡ getD (a .index .now) (stepped (a .run .first) (a .of .q) (h .loop .x) + 1) 0 = omega (arith, r .ensures, d .ensures) in
     let t = c .before .before .before .least in
     let w = row-part (in-run-to {b = h .loop .work} (h .loop .inv .1 .0) (s .pre .0 .0)) (s .pre .0 .1) (s .pre .1 .0) y (r .ensures) f (t .ensures) in
     let k = c .before .settle-check in (
@@ -143,7 +142,7 @@ loop-again c =
       (
         omega (arith, k .kept, h .loop .inv .1 .0),
         settled-row-again (s .pre .1 .0) y (w .up) (w .most) (w .least) (w .all) (w .start-is) (h .loop .inv .1 .1)
-            (subst (λ (l : List ℕ). CheckSettled (var l) (a .base) (r .result + a .from) (a .lanes) (a .sums .now) (h .loop .work) (t .result - a .from) (k .last .0)) (s .pre .0 .1) (k .ensures)),
+            (subst (λ (l : List ℕ). CheckSettled (var l) (a .row .base) (r .result + a .row .from) (a .of .lanes) (a .sums .now) (h .loop .work) (t .result - a .row .from) (k .last .0)) (s .pre .0 .1) (k .ensures)),
       ),
     )
 

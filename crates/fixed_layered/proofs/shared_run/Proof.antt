@@ -8,25 +8,25 @@ use lib.ListN.{length, getD}
 use mir.Syntax.{w8}
 use mir.Val.{toZ, ofZ}
 use Rattle.laws.specs.Signed.{plain}
-use Rattle.lane_memory.specs.Room.{sharedIn, Room}
+use Rattle.lane16.specs.Memory.{CheckMemory, check-memory, memory-to}
+use Rattle.iteration.specs.Once.{sharedIn, stepped}
 use Rattle.simd_layered.specs.Checked.{Checked}
-use Rattle.fixed_code.specs.Lists.{codeIn, room, memory-to}
-use Rattle.fixed_layered.specs.Full.{placeOf}
-use Rattle.fixed.specs.Sequential.{stepped}
-use Rattle.fixed_layered.specs.Run.{place-first, place-next, place-room}
+use Rattle.iteration.specs.Lists.{codeIn}
+use Rattle.iteration.specs.Full.{placeOf}
+use Rattle.fixed_layered.specs.RunMemory.{few-turns, place-first, place-next, place-room}
 use Rattle.fixed_layered.specs.Checks.{ChecksMade, checks-start, checks-again, checks-end}
 use Rattle.fixed_layered.proofs.shared_run.Statement.{statement}
 use Rattle.fixed_layered.proofs.shared_run.Tie as tie
 
 abbrev Inv-loop : tie.InvT-loop
-Inv-loop index rows work₀ t₀ u₀ flags n p lanes offset first q m place₀ x₀ work t u place x =
+Inv-loop index rows work₀ t₀ u₀ flags offset n p q lanes first m place₀ x₀ work t u place x =
     (x ≤ m) ×
     ((length work ≡ length work₀) ×
     (((length t ≡ length t₀) × (length u ≡ length u₀)) ×
     ((place ≡ placeOf (codeIn p index) (stepped first q) x) × ChecksMade (sharedIn flags) n p lanes (toZ w8 offset) index first q work₀ x work)))
 
 abbrev μ-loop : tie.MeasureT-loop
-μ-loop index rows work₀ t₀ u₀ flags n p lanes offset first q m place₀ x₀ work t u place x = m - x
+μ-loop index rows work₀ t₀ u₀ flags offset n p q lanes first m place₀ x₀ work t u place x = m - x
 
 loop-holds : tie.Need-loop-holds Inv-loop μ-loop
 loop-holds c =
@@ -37,8 +37,8 @@ loop-holds c =
         (
           (refl, refl),
           (
-            place-first (a .p) (a .index .now) (a .first) (a .q),
-            checks-start (sharedIn (a .flags .now)) (a .n) (a .p) (a .lanes) (toZ w8 (ofZ w8 (a .offset))) (a .index .now) (a .first) (a .q) (a .work .now),
+            place-first (a .of .p) (a .index .now) (a .run .first) (a .of .q),
+            checks-start (sharedIn (a .flags .now)) (a .of .n) (a .of .p) (a .of .lanes) (toZ w8 (ofZ w8 (a .offset))) (a .index .now) (a .run .first) (a .of .q) (a .work .now),
           ),
         ),
       ),
@@ -66,8 +66,8 @@ check-shared-requires c κs =
     let r = c .before .before .before .before .start in
     let d = c .before .before .before .degree in (
       (
-        subst (λ (l : List ℕ). Room l (r .result) (d .result) (s .args .n) (s .args .lanes) (h .loop .work)) (sym (s .pre .0 .1))
-            (room (stepped (s .args .first) (s .args .q) (h .loop .x)) (r .result) (d .result) (memory-to (h .loop .inv .1 .0) (s .pre .0 .0 .memory)) inside (r .ensures)
+        subst (λ (l : List ℕ). CheckMemory l (r .result) (d .result) (s .args .of .n) (s .args .of .lanes) (h .loop .work)) (sym (s .pre .0 .1))
+            (check-memory (stepped (s .args .run .first) (s .args .of .q) (h .loop .x)) (r .result) (d .result) (memory-to (h .loop .inv .1 .0) (s .pre .0 .0 .memory)) inside (r .ensures)
             (omega (arith, r .ensures, d .ensures))),
         s .pre .0 .0 .few-bits,
       ),
@@ -100,7 +100,7 @@ add-x : tie.Need-add-x Inv-loop μ-loop
 add-x c =
     let at-loop-test = c .before .before .before .before .before .before .before .before .before in
     let s = at-loop-test .before .before .before .before in
-    record { fits = omega (arith, at-loop-test .loop-test .taken, s .fits .m .fits) }
+    record { fits = omega (arith, few-turns (at-loop-test .before .loop .x) (s .pre .0 .0) (at-loop-test .loop-test .taken)) }
 
 loop-less : tie.Need-loop-less Inv-loop μ-loop
 loop-less c =
@@ -119,7 +119,7 @@ loop-again c =
     let a = s .args in
     let k = c .before .before .before .check-shared in
     let e = r .ensures in
-    let f : r .result + d .result ≡ getD (a .index .now) (stepped (a .first) (a .q) (h .loop .x) + 1) 0 = omega (arith, r .ensures, d .ensures) in
+    let f : r .result + d .result ≡ getD (a .index .now) (stepped (a .run .first) (a .of .q) (h .loop .x) + 1) 0 = omega (arith, r .ensures, d .ensures) in
     let g = h .loop .inv .1 .1 .1 .0 in (
       omega (arith, y),
       (
@@ -127,11 +127,11 @@ loop-again c =
         (
           (omega (arith, k .kept, h .loop .inv .1 .1 .0 .0), omega (arith, k .kept, h .loop .inv .1 .1 .0 .1)),
           (
-            place-next (a .p) (a .index .now) (a .first) (a .q) (h .loop .x) (h .loop .place) (r .result) (d .result) inside e f g,
+            place-next (a .of .p) (a .index .now) (a .run .first) (a .of .q) (h .loop .x) (h .loop .place) (r .result) (d .result) inside e f g,
             checks-again inside e f g (place-room (h .loop .x) (h .loop .place) (r .result) (d .result) (s .pre .0 .0) y e f g) (h .loop .inv .1 .1 .1 .1)
                 (subst
                 (λ (l : List ℕ).
-                Checked (sharedIn (s .args .flags .now)) l (r .result) (d .result) (a .n) (a .lanes) (h .loop .place) (toZ w8 (ofZ w8 (a .offset))) (h .loop .work)
+                Checked (sharedIn (s .args .flags .now)) l (r .result) (d .result) (a .of .n) (a .of .lanes) (h .loop .place) (toZ w8 (ofZ w8 (a .offset))) (h .loop .work)
                 (k .last .1 .1 .1 .0))
                 (s .pre .0 .1) (k .ensures)),
           ),

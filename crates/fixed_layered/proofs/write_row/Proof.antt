@@ -7,7 +7,7 @@ use borrow.Author.Tests.{not-true, not-false}
 use lib.ListN.{getD, length-replicate}
 use Rattle.fixed_conflicts.specs.Table.{zeros}
 use Rattle.fixed_layered.specs.Rows.{row-written}
-use Rattle.fixed_layered.specs.Runs.{grouped}
+use Rattle.fixed_layered.specs.Layers.{grouped}
 use Rattle.fixed_layered.proofs.write_row.Statement.{statement}
 use Rattle.fixed_layered.proofs.write_row.Tie as tie
 
@@ -43,7 +43,7 @@ gather-row-requires c κs =
       s .pre .0,
       (
         (grouped (s .args .g) e (s .pre .1 .0 .1 .1 .1 .1) (s .pre .1 .0 .0) (at-span .span .ensures .0) (c .before .before .before .span2 .ensures .0)),
-        (omega (arith, s .pre .0 .0 .memory .few-lanes, s .pre .1 .1), (length-replicate 374 false, zeros 374)),
+        (s .pre .1 .1, (length-replicate 374 false, zeros 374)),
       ),
     )
 
@@ -58,7 +58,7 @@ settle-row-requires c κs =
       s .pre .0,
       (
         (grouped (s .args .g) e (s .pre .1 .0 .1 .1 .1 .1) (s .pre .1 .0 .0) (at-span .span .ensures .0) (at-span2 .span2 .ensures .0)),
-        omega (arith, k .kept, s .pre .0 .0 .memory .few-lanes, s .pre .1 .1),
+        omega (arith, k .kept, s .pre .1 .1),
       ),
     )
 

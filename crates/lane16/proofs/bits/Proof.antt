@@ -6,14 +6,14 @@ use Prim.Native.Nat.{ℕ, _-_, _≤_, _<_}
 use lib.ListN.{length, length-set}
 use borrow.Author.Needs.{sfits-of}
 use Rattle.laws.specs.Signed.{plain}
-use Rattle.lane_math.specs.Iteration.{hard}
-use Rattle.lane16.specs.Lanes.{z, n}
+use Rattle.iteration.specs.Iteration.{hard}
+use Rattle.lane16.specs.Lanes.{intAt, natAt}
 use Rattle.laws.specs.Stores.{grown}
 use Rattle.lane16.proofs.bits.Statement.{statement}
 use Rattle.lane16.proofs.bits.Tie as tie
 
 abbrev Inv-loop : tie.InvT-loop
-Inv-loop a v₀ i₀ v i = (i ≤ 16) × ((length v ≡ 16) × ((k : ℕ) → k < i → n v k ≡ hard (z a k)))
+Inv-loop a v₀ i₀ v i = (i ≤ 16) × ((length v ≡ 16) × ((k : ℕ) → k < i → natAt v k ≡ hard (intAt a k)))
 
 abbrev μ-loop : tie.MeasureT-loop
 μ-loop a v₀ i₀ v i = 16 - i
@@ -44,8 +44,8 @@ loop-again c =
       search needs,
       (
         simp length-set (omega arith),
-        grown 0 (λ (k x : ℕ). x ≡ hard (z a k)) (h .loop .v) i _ (omega arith) (h .loop .inv .1 .1)
-            (c .bit .ensures ∙ ap hard (plain (z a i) (sfits-of (c .before .bit-arg .given)))),
+        grown 0 (λ (k x : ℕ). x ≡ hard (intAt a k)) (h .loop .v) i _ (omega arith) (h .loop .inv .1 .1)
+            (c .bit .ensures ∙ ap hard (plain (intAt a i) (sfits-of (c .before .bit-arg .given)))),
       ),
     )
 

@@ -6,14 +6,15 @@ use Prim.Native.Nat.{ℕ, _-_, _≤_, _<_}
 use lib.ListN.{length, length-set}
 use lib.IntN.{ℤ, pos}
 use borrow.Author.Needs.{sfits-of}
-use Rattle.laws.specs.Signed.{negative, times, plain}
-use Rattle.lane16.specs.Lanes.{z}
+use Rattle.laws.specs.Signed.{plain}
+use Rattle.laws.specs.Definitions.{negative, times}
+use Rattle.lane16.specs.Lanes.{intAt}
 use Rattle.laws.specs.Stores.{grown}
 use Rattle.lane16.proofs.flip.Statement.{statement}
 use Rattle.lane16.proofs.flip.Tie as tie
 
 abbrev Inv-loop : tie.InvT-loop
-Inv-loop g x v₀ i₀ v i = (i ≤ 16) × ((length v ≡ 16) × ((k : ℕ) → k < i → negative (z v k) ≡ times (negative (z g k)) (negative (z x k))))
+Inv-loop g x v₀ i₀ v i = (i ≤ 16) × ((length v ≡ 16) × ((k : ℕ) → k < i → negative (intAt v k) ≡ times (negative (intAt g k)) (negative (intAt x k))))
 
 abbrev μ-loop : tie.MeasureT-loop
 μ-loop g x v₀ i₀ v i = 16 - i
@@ -48,10 +49,10 @@ loop-again c =
       search needs,
       (
         simp length-set (omega arith),
-        grown (pos 0) (λ (k : ℕ) (y : ℤ). negative y ≡ times (negative (z g k)) (negative (z x k))) (h .loop .v) i _ (omega arith) (h .loop .inv .1 .1)
+        grown (pos 0) (λ (k : ℕ) (y : ℤ). negative y ≡ times (negative (intAt g k)) (negative (intAt x k))) (h .loop .v) i _ (omega arith) (h .loop .inv .1 .1)
             (ap negative (plain (c .flip .result) (sfits-of (c .flip .ok)))
             ∙ c .flip .ensures
-            ∙ (λ j. times (negative (plain (z g i) (sfits-of (c .before .before .flip-arg .given)) j)) (negative (plain (z x i) (sfits-of (c .before .flip-arg2 .given)) j)))),
+            ∙ (λ j. times (negative (plain (intAt g i) (sfits-of (c .before .before .flip-arg .given)) j)) (negative (plain (intAt x i) (sfits-of (c .before .flip-arg2 .given)) j)))),
       ),
     )
 

@@ -5,7 +5,8 @@ use lib.IntN.{ℤ, pos}
 use lib.Signed.{ltZ}
 use mir.Syntax.{w8}
 use mir.Val.{toZ, ofZ}
-use Rattle.laws.specs.Signed.{negative, plain, sign-test}
+use Rattle.laws.specs.Signed.{plain, sign-test}
+use Rattle.laws.specs.Definitions.{negative}
 use Rattle.lane_math.proofs.bit.Statement.{statement}
 use Rattle.lane_math.proofs.bit.Tie as tie
 

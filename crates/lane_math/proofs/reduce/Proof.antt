@@ -4,8 +4,9 @@ use mathlib.Core.Path.{_≡_, ap, _∙_}
 use Prim.Native.Nat.{min}
 use native.Mathlib.Omega.{arith}
 use lib.IntN.{ℤ, pos, _-ℤ_}
-use Rattle.laws.specs.Signed.{maxZ, plain}
-use Rattle.lane_math.specs.Value.{satZ}
+use Rattle.laws.specs.Signed.{plain}
+use Rattle.laws.specs.Definitions.{maxZ}
+use Rattle.iteration.specs.Value.{satZ}
 use Rattle.lane_math.proofs.reduce.Statement.{statement}
 use Rattle.lane_math.proofs.reduce.Tie as tie
 

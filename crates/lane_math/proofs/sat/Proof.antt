@@ -5,8 +5,9 @@ use lib.IntN.{ℤ, pos, negsuc}
 use mir.Syntax.{w16}
 use mir.Val.{toZ, ofZ}
 use mir.ValLaws.{toZ-ofZ}
-use Rattle.laws.specs.Signed.{minZ, maxZ, plain, widen}
-use Rattle.lane_math.specs.Value.{satZ}
+use Rattle.laws.specs.Signed.{plain, widen}
+use Rattle.laws.specs.Definitions.{minZ, maxZ}
+use Rattle.iteration.specs.Value.{satZ}
 use Rattle.lane_math.specs.Fits.{sat-fits}
 use Rattle.lane_math.proofs.sat.Statement.{statement}
 use Rattle.lane_math.proofs.sat.Tie as tie

@@ -5,7 +5,7 @@ use lib.IntN.{_-ℤ_}
 use mir.Syntax.{w16}
 use mir.ValLaws.{toZ-ofZ}
 use Rattle.laws.specs.Signed.{plain, wide, widen, sub-fits16}
-use Rattle.lane_math.specs.Value.{satZ}
+use Rattle.iteration.specs.Value.{satZ}
 use Rattle.lane_math.proofs.sat_sub.Statement.{statement}
 use Rattle.lane_math.proofs.sat_sub.Tie as tie
 

@@ -1,11 +1,12 @@
 -- `ldpc::new` meets its contract. Assumes nothing.
-use Rattle.ldpc_shape.specs.Worked.{fits}
+use Rattle.ldpc_shape.specs.Accepted.{sizes-bounded}
 use Rattle.ldpc.proofs.Exits.{with-number, new-refused, new-short, new-ready, new-done}
 use lib.Seq.{length-take-le}
 use mathlib.Core.Path.{sym, _∙_}
 use native.Mathlib.Omega.{arith}
 use borrow.Author.Needs.{needs}
-use Rattle.ldpc.specs.Answers.{madeNumber, new-number}
+use Rattle.ldpc.specs.Answers.{madeNumber}
+use Rattle.ldpc.specs.AnswersLaws.{new-number}
 use Rattle.ldpc.proofs.new.Statement.{statement}
 use Rattle.ldpc.proofs.new.Tie as tie
 
@@ -14,102 +15,97 @@ refusal-requires c κs = search needs
 
 returns : tie.Need-returns
 returns c =
-    let s = c .before .before .before .before .before in
+    let at-refusal = c .before in
+    let s = at-refusal .before .before .before .before in
     with-number madeNumber (new-number _ _ _ _)
-    (new-refused (s .args .n) (s .args .lens .now) (s .args .addrs .now) (s .args .lists .now) (c .before .refusal .result) (c .before .refusal .ensures) (c .if1 .taken))
+    (new-refused (s .args .n) (s .args .lens .now) (s .args .addrs .now) (s .args .lists .now) (at-refusal .refusal .result) (at-refusal .refusal .ensures) (c .if1 .taken))
 
-cast-k : tie.Need-cast-k
-cast-k c =
-    let s = c .before .before .before .before .before in
-    omega (arith, fits (s .args .n) (s .args .lens .now) (s .args .addrs .now) (sym (c .before .refusal .ensures) ∙ (c .if1 .left)))
+sizes-of-requires : tie.Need-sizes-of-requires
+sizes-of-requires c κs = sym (c .before .refusal .ensures) ∙ (c .if1 .left)
 
-mul-k : tie.Need-mul-k
-mul-k c =
-    let s = c .before .before .before .before .before in
-    omega (arith, fits (s .args .n) (s .args .lens .now) (s .args .addrs .now) (sym (c .before .refusal .ensures) ∙ (c .if1 .left)))
+add-size : tie.Need-add-size
+add-size c =
+    let at-sizes-of = c .before in
+    let at-if1 = at-sizes-of .before in
+    let at-refusal = at-if1 .before in
+    omega (arith, sizes-bounded _ _ _ _ (at-sizes-of .sizes-of .ensures) (sym (at-refusal .refusal .ensures) ∙ (at-if1 .if1 .left)))
 
-sub-p : tie.Need-sub-p
-sub-p c =
-    let s = c .before .before .before .before .before in
-    omega (arith, fits (s .args .n) (s .args .lens .now) (s .args .addrs .now) (sym (c .before .refusal .ensures) ∙ (c .if1 .left)))
-
-cast-e : tie.Need-cast-e
-cast-e c =
-    let s = c .before .before .before .before .before in
-    omega (arith, fits (s .args .n) (s .args .lens .now) (s .args .addrs .now) (sym (c .before .refusal .ensures) ∙ (c .if1 .left)))
-
-mul-e : tie.Need-mul-e
-mul-e c =
-    let s = c .before .before .before .before .before in
-    omega (arith, fits (s .args .n) (s .args .lens .now) (s .args .addrs .now) (sym (c .before .refusal .ensures) ∙ (c .if1 .left)))
-
-mul-e-2 : tie.Need-mul-e-2
-mul-e-2 c =
-    let s = c .before .before .before .before .before in
-    omega (arith, fits (s .args .n) (s .args .lens .now) (s .args .addrs .now) (sym (c .before .refusal .ensures) ∙ (c .if1 .left)))
-
-add-e : tie.Need-add-e
-add-e c =
-    let s = c .before .before .before .before .before in
-    omega (arith, fits (s .args .n) (s .args .lens .now) (s .args .addrs .now) (sym (c .before .refusal .ensures) ∙ (c .if1 .left)))
-
-sub-e : tie.Need-sub-e
-sub-e c =
-    let s = c .before .before .before .before .before in
-    omega (arith, fits (s .args .n) (s .args .lens .now) (s .args .addrs .now) (sym (c .before .refusal .ensures) ∙ (c .if1 .left)))
-
-add-wide : tie.Need-add-wide
-add-wide c =
-    let s = c .before .before .before .before .before in
-    omega (arith, fits (s .args .n) (s .args .lens .now) (s .args .addrs .now) (sym (c .before .refusal .ensures) ∙ (c .if1 .left)))
-
-add-wide-2 : tie.Need-add-wide-2
-add-wide-2 c =
-    let s = c .before .before .before .before .before in
-    omega (arith, fits (s .args .n) (s .args .lens .now) (s .args .addrs .now) (sym (c .before .refusal .ensures) ∙ (c .if1 .left)))
-
-wide-requires : tie.Need-wide-requires
-wide-requires c κs = search needs
+add-size-2 : tie.Need-add-size-2
+add-size-2 c =
+    let at-sizes-of = c .before .before in
+    let at-if1 = at-sizes-of .before in
+    let at-refusal = at-if1 .before in
+    omega (arith, sizes-bounded _ _ _ _ (at-sizes-of .sizes-of .ensures) (sym (at-refusal .refusal .ensures) ∙ (at-if1 .if1 .left)))
 
 returns-2 : tie.Need-returns-2
 returns-2 c =
-    let s = c .before .before .before .before .before .before .before in
+    let at-sizes-of = c .before .before .before in
+    let at-if1 = at-sizes-of .before in
+    let at-refusal = at-if1 .before in
+    let s = at-refusal .before .before .before .before in
     with-number madeNumber (new-number _ _ _ _)
     (new-short (s .args .n) (s .args .lens .now) (s .args .addrs .now) (s .args .lists .now)
-    (sym (c .before .before .before .refusal .ensures) ∙ (c .before .before .if1 .left)) (c .before .wide .result) (c .before .wide .ensures) (c .if2 .taken))
+    (sym (at-refusal .refusal .ensures) ∙ (at-if1 .if1 .left)) (at-sizes-of .sizes-of .result) (at-sizes-of .sizes-of .ensures) (c .if2 .taken))
 
 slice-relend-prefix-build : tie.Need-slice-relend-prefix-build
 slice-relend-prefix-build c = search needs
 
 slice-aggregate-build : tie.Need-slice-aggregate-build
 slice-aggregate-build c =
-    let s = c .before .before .before .before .before .before .before .before in
-    sym (length-take-le (c .before .before .wide .result) (s .args .lists .now) (c .before .if2 .left))
+    let s = c .before .before .before .before .before .before .before .before .before .before in
+    sym (length-take-le _ (s .args .lists .now) (c .before .if2 .left))
 
 build-requires : tie.Need-build-requires
 build-requires c κs =
-    let at-wide = c .before .before in
-    let at-if1 = at-wide .before in
+    let at-sizes-of = c .before .before .before .before in
+    let at-if1 = at-sizes-of .before in
     let at-refusal = at-if1 .before in
-    let s = c .before .before .before .before .before .before .before .before in (
-      (sym (at-refusal .refusal .ensures) ∙ (at-if1 .if1 .left)),
-      new-ready (s .args .n) (s .args .lens .now) (s .args .addrs .now) (s .args .lists .now) (sym (at-refusal .refusal .ensures) ∙ (at-if1 .if1 .left))
-          (at-wide .wide .result) (at-wide .wide .ensures) (c .before .if2 .left),
-    )
+    let s = at-refusal .before .before .before .before in
+    let ok = sym (at-refusal .refusal .ensures) ∙ (at-if1 .if1 .left) in
+    (ok, new-ready (s .args .n) (s .args .lens .now) (s .args .addrs .now) (s .args .lists .now) ok (at-sizes-of .sizes-of .result) (at-sizes-of .sizes-of .ensures) (c .before .if2 .left))
+
+cast-t13 : tie.Need-cast-t13
+cast-t13 c =
+    let at-sizes-of = c .before .before .before .before .before .before .before .before in
+    let at-if1 = at-sizes-of .before in
+    let at-refusal = at-if1 .before in
+    omega (arith, sizes-bounded _ _ _ _ (at-sizes-of .sizes-of .ensures) (sym (at-refusal .refusal .ensures) ∙ (at-if1 .if1 .left)))
+
+cast-t14 : tie.Need-cast-t14
+cast-t14 c =
+    let at-sizes-of = c .before .before .before .before .before .before .before .before .before in
+    let at-if1 = at-sizes-of .before in
+    let at-refusal = at-if1 .before in
+    omega (arith, sizes-bounded _ _ _ _ (at-sizes-of .sizes-of .ensures) (sym (at-refusal .refusal .ensures) ∙ (at-if1 .if1 .left)))
+
+cast-t15 : tie.Need-cast-t15
+cast-t15 c =
+    let at-sizes-of = c .before .before .before .before .before .before .before .before .before .before in
+    let at-if1 = at-sizes-of .before in
+    let at-refusal = at-if1 .before in
+    omega (arith, sizes-bounded _ _ _ _ (at-sizes-of .sizes-of .ensures) (sym (at-refusal .refusal .ensures) ∙ (at-if1 .if1 .left)))
+
+cast-t16 : tie.Need-cast-t16
+cast-t16 c =
+    let at-sizes-of = c .before .before .before .before .before .before .before .before .before .before .before in
+    let at-if1 = at-sizes-of .before in
+    let at-refusal = at-if1 .before in
+    omega (arith, sizes-bounded _ _ _ _ (at-sizes-of .sizes-of .ensures) (sym (at-refusal .refusal .ensures) ∙ (at-if1 .if1 .left)))
 
 same-length : tie.Need-same-length
 same-length c = search needs
 
 returns-3 : tie.Need-returns-3
 returns-3 c =
-    let at-if2 = c .before .before .before .before in
-    let at-wide = at-if2 .before in
-    let at-if1 = at-wide .before in
+    let at-build = c .before .before .before .before .before .before in
+    let at-if2 = at-build .before .before in
+    let at-sizes-of = at-if2 .before .before .before in
+    let at-if1 = at-sizes-of .before in
     let at-refusal = at-if1 .before in
-    let s = c .before .before .before .before .before .before .before .before .before .before .before in
+    let s = at-refusal .before .before .before .before in
     with-number madeNumber (new-number _ _ _ _)
     (new-done (s .args .n) (s .args .lens .now) (s .args .addrs .now) (s .args .lists .now) (sym (at-refusal .refusal .ensures) ∙ (at-if1 .if1 .left))
-    (at-wide .wide .result) (at-wide .wide .ensures) (at-if2 .if2 .left) _ (c .before .before .build .ensures))
+    (at-sizes-of .sizes-of .result) (at-sizes-of .sizes-of .ensures) (at-if2 .if2 .left) _ (at-build .build .ensures))
 
 pub new-spec : {M : Type 1} → statement M
 new-spec =
@@ -117,20 +113,16 @@ new-spec =
     (tie.spec
     refusal-requires
     returns
-    cast-k
-    mul-k
-    sub-p
-    cast-e
-    mul-e
-    mul-e-2
-    add-e
-    sub-e
-    add-wide
-    add-wide-2
-    wide-requires
+    sizes-of-requires
+    add-size
+    add-size-2
     returns-2
     slice-relend-prefix-build
     slice-aggregate-build
     build-requires
+    cast-t13
+    cast-t14
+    cast-t15
+    cast-t16
     same-length
     returns-3)

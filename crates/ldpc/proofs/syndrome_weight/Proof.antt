@@ -2,7 +2,8 @@
 use Rattle.ldpc.proofs.Exits.{weight-refused, weight-other, weight-done}
 use mathlib.Core.Path.{sym, ap, _∙_}
 use borrow.Author.Needs.{needs}
-use Rattle.ldpc.specs.Answers.{countedNumber, weight-number}
+use Rattle.ldpc.specs.Answers.{countedNumber}
+use Rattle.ldpc.specs.AnswersLaws.{weight-number}
 use Rattle.ldpc.proofs.syndrome_weight.Statement.{statement}
 use Rattle.ldpc.proofs.syndrome_weight.Tie as tie
 

@@ -1,5 +1,5 @@
 -- `ldpc_encode::add_row` meets its contract. Assumes nothing.
-use Rattle.ldpc_encode.specs.Sums.{Added, turnedBit}
+use Rattle.ldpc_encode.specs.Sums.{AddedToSums, turnedBit}
 use mathlib.Core.Path.{subst}
 use Rattle.ldpc_encode.proofs.Bits.{Left, row-hit, row-miss, row-end}
 use Rattle.ldpc_encode.specs.Sums.{rowBit}
@@ -56,7 +56,7 @@ loop-again c =
       omega arith,
       ap length (w .6) ∙ w .3 .ensures .long,
       row-hit (s .args .q) (s .args .l) (s .args .w .now) (s .args .row .now) (l .i) (l .x) _ (s .args .x .now) (c .before .residue .result) (w .2 .result) (search needs) (c .before .residue .ensures .0) (w .0 .taken)
-          (w .2 .ensures .0) (subst (λ y. Added (l .x) y (turnedBit (s .args .w .now) (w .2 .result))) (sym (w .6)) (w .3 .ensures)) (l .inv .2),
+          (w .2 .ensures .0) (subst (λ y. AddedToSums (l .x) y (turnedBit (s .args .w .now) (w .2 .result))) (sym (w .6)) (w .3 .ensures)) (l .inv .2),
     ))
     (λ w. (
       omega arith,

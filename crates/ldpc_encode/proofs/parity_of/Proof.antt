@@ -1,8 +1,8 @@
 -- `ldpc_encode::parity_of` meets its contract. Assumes nothing.
-use Prim.Native.Nat.{_%_}
-use Rattle.ldpc_encode.proofs.Residue.{Done, infoOnes, rows-fit, adds, k-fits, s-fits, info-is, done-start, done-again, parity-done}
+use Rattle.ldpc_shape.specs.declared.Sizes.{Sizes}
+use Rattle.ldpc_encode.proofs.Residue.{Done, infoOnes, adds, k-fits, s-fits, info-is, done-start, done-again, parity-done}
 use lib.ListN.{length}
-use Prim.Native.Nat.{ℕ, _≤_, _-_}
+use Prim.Native.Nat.{ℕ, _≤_, _-_, _%_}
 use mathlib.Core.Path.{_≡_, refl, ap, _∙_}
 use borrow.Author.Needs.{needs}
 use native.Mathlib.Omega.{arith}
@@ -10,43 +10,37 @@ use Rattle.ldpc_encode.proofs.parity_of.Statement.{statement}
 use Rattle.ldpc_encode.proofs.parity_of.Tie as tie
 
 abbrev Inv-loop : tie.InvT-loop
-Inv-loop n lens addrs info out₀ q s l₀ out l = (l ≤ s) × (length out ≡ length out₀) × Done s l out (infoOnes n lens addrs info)
+Inv-loop n lens addrs info out₀ s q l₀ out l = (l ≤ s) × (length out ≡ length out₀) × Done s l out (infoOnes n lens addrs info)
 
 abbrev μ-loop : tie.MeasureT-loop
-μ-loop n lens addrs info out₀ q s l₀ out l = s - l
+μ-loop n lens addrs info out₀ s q l₀ out l = s - l
+
+sizes-of-requires : tie.Need-sizes-of-requires Inv-loop μ-loop
+sizes-of-requires c κs =
+    let s = c .before .before .before .before in
+    s .pre .0
 
 cast-q : tie.Need-cast-q Inv-loop μ-loop
 cast-q c =
-    let s = c .before .before .before .before in
-    omega (arith, rows-fit (s .args .n) (s .args .lens .now) (s .args .addrs .now) (s .pre .0))
-
-sub-q : tie.Need-sub-q Inv-loop μ-loop
-sub-q c =
-    let s = c .before .before .before .before in
-    omega (arith, rows-fit (s .args .n) (s .args .lens .now) (s .args .addrs .now) (s .pre .0))
-
-wide-requires : tie.Need-wide-requires Inv-loop μ-loop
-wide-requires c κs = search needs
+    let s = c .before .before .before .before .before in
+    omega (arith, s-fits _ _ _ (s .pre .0) _ (ap (λ (z : Sizes). z .q) (c .sizes-of .ensures)) .0)
 
 loop-holds : tie.Need-loop-holds Inv-loop μ-loop
 loop-holds c =
     let s = c .before .before .before .before .before in
-    (omega arith, refl, done-start (c .wide .result) (s .args .out .now) (infoOnes (s .args .n) (s .args .lens .now) (s .args .addrs .now) (s .args .info .now)))
+    (omega arith, refl, done-start _ (s .args .out .now) (infoOnes (s .args .n) (s .args .lens .now) (s .args .addrs .now) (s .args .info .now)))
 
 sums-of-requires : tie.Need-sums-of-requires Inv-loop μ-loop
 sums-of-requires c κs =
-    let s = c .before .before .before .before .before .before .before in (
-      k-fits (s .args .n) (s .args .lens .now) (s .args .addrs .now) (s .pre .0) (s .args .info .now) (s .pre .1),
-      adds (s .args .n) (s .args .lens .now) (s .args .addrs .now) (s .pre .0),
-      omega (arith, (c .before .before .wide .ensures)),
-    )
+    let s = c .before .before .before .before .before .before .before in
+    (k-fits _ _ _ (s .pre .0) (s .args .info .now) (s .pre .1), adds _ _ _ (s .pre .0), search needs)
 
 scatter-requires : tie.Need-scatter-requires Inv-loop μ-loop
 scatter-requires c κs =
     let at-loop = c .before .before .before .before in
-    let at-wide = at-loop .before in
-    let s = c .before .before .before .before .before .before .before .before .before .before in
-    let f = s-fits (s .args .n) (s .args .lens .now) (s .args .addrs .now) (s .pre .0) (at-wide .wide .result) (at-wide .wide .ensures) in
+    let at-sizes-of = at-loop .before in
+    let s = at-sizes-of .before .before .before .before .before in
+    let f = s-fits _ _ _ (s .pre .0) _ (ap (λ (z : Sizes). z .q) (at-sizes-of .sizes-of .ensures)) in
     ((at-loop .loop .inv .1) ∙ (s .pre .2) ∙ f .1, search needs, f .0)
 
 add-l : tie.Need-add-l Inv-loop μ-loop
@@ -59,17 +53,18 @@ loop-again : tie.Need-loop-again Inv-loop μ-loop
 loop-again c =
     let at-scatter = c .before .before in
     let at-sums-of = at-scatter .before .before .before in
-    let at-wide = at-sums-of .before .before .before in
-    let s = c .before .before .before .before .before .before .before .before .before .before .before .before .before in
-    let l = c .before .before .before .before .before .before .before .loop in (
+    let at-loop = at-sums-of .before .before in
+    let at-sizes-of = at-loop .before in
+    let s = at-sizes-of .before .before .before .before .before in
+    let sizes = at-sizes-of .sizes-of in
+    let l = at-loop .loop in (
       omega arith,
       (at-scatter .scatter .ensures .long) ∙ (l .inv .1),
-      done-again (at-wide .wide .result) (l .l) (at-sums-of .sums-of .result) (l .out) _
+      done-again (sizes .result .q) (l .l) (at-sums-of .sums-of .result) (l .out) _
           (infoOnes (s .args .n) (s .args .lens .now) (s .args .addrs .now) (s .args .info .now)) (search needs) (at-scatter .scatter .ensures)
           (λ i h.
           (at-sums-of .sums-of .ensures) i h
-          ∙ ap (λ (z : ℕ). z % 2)
-          (info-is (s .args .n) (s .args .lens .now) (s .args .addrs .now) (s .pre .0) (at-wide .wide .result) (at-wide .wide .ensures) (s .args .info .now) (l .l) i))
+          ∙ ap (λ (z : ℕ). z % 2) (info-is _ _ _ (s .pre .0) (sizes .result .q) (ap (λ (z : Sizes). z .q) (sizes .ensures)) (s .args .info .now) (l .l) i))
           (l .inv .2),
     )
 
@@ -81,11 +76,13 @@ same-length c = search needs
 
 returns : tie.Need-returns Inv-loop μ-loop
 returns c =
-    let wide = c .before .before .before .before .before .before .wide in
-    let s = c .before .before .before .before .before .before .before .before .before .before .before in
-    let l = c .before .before .before .before .before .loop in
-    (c .before .before .sum-up .ensures)
-    ∙ parity-done (s .args .n) (s .args .lens .now) (s .args .addrs .now) (s .pre .0) (wide .result) (wide .ensures) (s .args .info .now) (l .out)
+    let at-sum-up = c .before .before in
+    let at-loop = at-sum-up .before .before .before in
+    let at-sizes-of = at-loop .before in
+    let s = at-sizes-of .before .before .before .before .before in
+    let l = at-loop .loop in
+    (at-sum-up .sum-up .ensures)
+    ∙ parity-done _ _ _ (s .pre .0) _ (ap (λ (z : Sizes). z .q) (at-sizes-of .sizes-of .ensures)) (s .args .info .now) (l .out)
     ((l .inv .1) ∙ (s .pre .2)) (l .l) (search needs) (l .inv .2)
 
 pub parity-of-spec : {M : Type 1} → statement M
@@ -94,9 +91,8 @@ parity-of-spec =
     (tie.spec
     Inv-loop
     μ-loop
+    sizes-of-requires
     cast-q
-    sub-q
-    wide-requires
     loop-holds
     sums-of-requires
     scatter-requires

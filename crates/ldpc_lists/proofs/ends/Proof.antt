@@ -1,5 +1,5 @@
 -- `ldpc_lists::ends` meets its contract. Assumes nothing.
-use Rattle.ldpc_lists.specs.Ends.{Ends, ending, ending-le, ending-next, ends-again, ends-last, ends-start, ending-start}
+use Rattle.ldpc_lists.specs.Ends.{EndsSet, ending, ending-le, ending-next, ends-again, ends-last, ends-start, ending-start}
 use lib.Seq.{getD-set-same}
 use lib.ListN.{length, length-set}
 use native.Mathlib.Nat.{mod-lt}
@@ -11,7 +11,7 @@ use Rattle.ldpc_lists.proofs.ends.Statement.{statement}
 use Rattle.ldpc_lists.proofs.ends.Tie as tie
 
 abbrev Inv-loop : tie.InvT-loop
-Inv-loop lists₀ counts q checks e₀ i₀ lists e i = (i ≤ checks) × (length lists ≡ length lists₀) × (e ≡ ending counts q i) × Ends counts q lists i
+Inv-loop lists₀ counts q checks e₀ i₀ lists e i = (i ≤ checks) × (length lists ≡ length lists₀) × (e ≡ ending counts q i) × EndsSet counts q lists i
 
 abbrev μ-loop : tie.MeasureT-loop
 μ-loop lists₀ counts q checks e₀ i₀ lists e i = checks - i
@@ -95,7 +95,7 @@ returns c =
     let s = c .before .before .before in
     let l = c .before .loop in
     let e : (l .i) ≡ (s .args .checks) = omega arith in (
-      ends-last (s .args .counts .now) (s .args .q) (l .lists) (s .args .checks) (l .e) (subst (Ends (s .args .counts .now) (s .args .q) (l .lists)) e (l .inv .3)),
+      ends-last (s .args .counts .now) (s .args .q) (l .lists) (s .args .checks) (l .e) (subst (EndsSet (s .args .counts .now) (s .args .q) (l .lists)) e (l .inv .3)),
       getD-set-same (l .lists) (s .args .checks) (l .e) 0 (omega (arith, (l .inv .1), (s .pre .3))) ∙ (l .inv .2) ∙ ap (ending (s .args .counts .now) (s .args .q)) e,
     )
 

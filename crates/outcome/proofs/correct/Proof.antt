@@ -5,6 +5,12 @@ use borrow.Author.Needs.{needs}
 use Rattle.outcome.proofs.correct.Statement.{statement}
 use Rattle.outcome.proofs.correct.Tie as tie
 
+cast-first : tie.Need-cast-first
+cast-first c = search needs
+
+cast-size : tie.Need-cast-size
+cast-size c = search needs
+
 add-end : tie.Need-add-end
 add-end c = search needs
 
@@ -29,16 +35,18 @@ same-length c = search needs
 returns : tie.Need-returns
 returns c =
     let d = c .before .before .before in
-    let a = d .before .before .before .args in
+    let a = d .before .before .before .before .before .args in
     let e = d .decode .ensures in (
-      c .result-of .ensures ∙ result-whole (a .first) (a .size) (a .word .now) _ (e .answer),
-      corrected-whole (a .first) (a .size) (a .word .now) (d .decode .last .0) (e .word),
+      c .result-of .ensures ∙ result-whole (a .part) (a .word .now) _ (e .answer),
+      corrected-whole (a .part) (a .word .now) (d .decode .last .0) (e .word),
     )
 
 pub correct-spec : {M : Type 1} → statement M
 correct-spec =
     tie.close
     (tie.spec
+    cast-first
+    cast-size
     add-end
     sub-decode
     part-decode-start

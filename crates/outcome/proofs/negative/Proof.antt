@@ -3,9 +3,9 @@ use borrow.Author.Needs.{sfits-of, needs}
 use Rattle.laws.specs.Signed.{plain}
 use mathlib.Core.Path.{_≡_, refl, ap, _∙_}
 use Prim.Native.Nat.{ℕ, _+_, _-_, _≤_}
-use Rattle.lane_memory.specs.Room.{var}
-use Rattle.lane_math.specs.Iteration.{negatives, hard}
-use Rattle.outcome.specs.Index.{values, negatives-le, negatives-again}
+use Rattle.iteration.specs.Lists.{var}
+use Rattle.iteration.specs.Iteration.{negatives, hard}
+use Rattle.outcome.specs.Soft.{values, negatives-le, negatives-again}
 use native.Mathlib.Omega.{arith}
 use Rattle.outcome.proofs.negative.Statement.{statement}
 use Rattle.outcome.proofs.negative.Tie as tie

@@ -3,7 +3,7 @@ use mathlib.Core.Path.{ap, _∙_}
 use Prim.Native.Nat.{ℕ, _+_}
 use lib.Dec.{eqb}
 use lib.ListN.{length}
-use Rattle.outcome.specs.Index.{values, check-edges, unmet-of}
+use Rattle.outcome.specs.Soft.{values, check-edges, unmet-of}
 use borrow.Author.Needs.{needs}
 use Rattle.outcome.proofs.odd.Statement.{statement}
 use Rattle.outcome.proofs.odd.Tie as tie
@@ -34,7 +34,7 @@ negative-requires c κs =
     let d = c .before in
     let s = d .before .before .before in
     let a = s .args in
-    check-edges (a .p) (length (a .soft .now)) (a .c) (d .before .start .result) (d .degree .result) (a .index .now) (s .pre .0) (d .before .start .ensures)
+    check-edges (a .p) (length (a .soft .now)) (a .c) (d .before .start .result) (d .degree .result) (a .lists .now) (s .pre .0) (d .before .start .ensures)
     (ap (λ (z : ℕ). z + d .degree .result) (d .before .start .ensures) ∙ d .degree .ensures) (s .pre .1)
 
 returns : tie.Need-returns
@@ -43,7 +43,7 @@ returns c =
     let s = d .before .before .before in
     let a = s .args in
     ap (λ (z : ℕ). eqb z 1)
-    (unmet-of (a .p) (length (a .soft .now)) (a .c) (d .before .start .result) (d .degree .result) (a .index .now) (s .pre .0) (d .before .start .ensures)
+    (unmet-of (a .p) (length (a .soft .now)) (a .c) (d .before .start .result) (d .degree .result) (a .lists .now) (s .pre .0) (d .before .start .ensures)
     (ap (λ (z : ℕ). z + d .degree .result) (d .before .start .ensures) ∙ d .degree .ensures) (c .negative .result) (values (a .soft .now)) (c .negative .ensures))
 
 pub odd-spec : {M : Type 1} → statement M

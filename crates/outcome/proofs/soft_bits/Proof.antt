@@ -2,8 +2,8 @@
 use borrow.Author.Needs.{sfits-of, needs}
 use lib.IntN.{ℤ}
 use Rattle.laws.specs.Signed.{plain}
-use Rattle.lane_math.specs.Iteration.{hard}
-use Rattle.outcome.specs.Index.{begin-values}
+use Rattle.iteration.specs.Iteration.{hard}
+use Rattle.outcome.specs.Soft.{begin-values}
 use Rattle.outcome.specs.Laws.{bits-start, bits-again, bits-end}
 use mathlib.Core.Path.{_≡_, sym, ap, _∙_}
 use Prim.Native.Nat.{ℕ, _-_, _≤_, _<_}

@@ -11,17 +11,17 @@ use lib.IntN.{ℤ}
 use lib.Ieee.{Float}
 use lib.ListN.{length}
 use Rattle.quantise.specs.declared.Quantised.the-variants.{Done, Refused}
-use Rattle.quantise.specs.Soft.{refusalOf, answerOf, writtenOf, outputOf}
+use Rattle.quantise.specs.Soft.{quantiseRefusal, answerOf, writtenOf, outputOf}
 use Rattle.quantise.proofs.quantise.Statement.{statement}
 use Rattle.quantise.proofs.quantise.Tie as tie
 
-too-short : (llr : List Float) (scale : Float) (out : List ℤ) → length out < length llr → (Refused 13 ≡ answerOf (refusalOf llr out)) × ((out ≡ outputOf llr scale out) × (13 ≡ refusalOf llr out))
+too-short : (llr : List Float) (scale : Float) (out : List ℤ) → length out < length llr → (Refused 13 ≡ answerOf (quantiseRefusal llr out)) × ((out ≡ outputOf llr scale out) × (13 ≡ quantiseRefusal llr out))
 too-short llr scale out h =
     let t = sym (lt-ltb (length out) (length llr) h) in
     (ap (λ (b : Bool). answerOf (cond b 13 0)) t, (ap (λ (b : Bool). cond (eqb (cond b 13 0) 0) (writtenOf llr scale out) out) t, ap (λ (b : Bool). cond b 13 0) t))
 
 long-enough : (llr : List Float) (scale : Float) (out l : List ℤ) → length llr ≤ length out → l ≡ writtenOf llr scale out
-    → (Done ≡ answerOf (refusalOf llr out)) × ((l ≡ outputOf llr scale out) × (0 ≡ refusalOf llr out))
+    → (Done ≡ answerOf (quantiseRefusal llr out)) × ((l ≡ outputOf llr scale out) × (0 ≡ quantiseRefusal llr out))
 long-enough llr scale out l h w =
     let t = sym (le-ltb (length out) (length llr) h) in
     (ap (λ (b : Bool). answerOf (cond b 13 0)) t, (w ∙ ap (λ (b : Bool). cond (eqb (cond b 13 0) 0) (writtenOf llr scale out) out) t, ap (λ (b : Bool). cond b 13 0) t))

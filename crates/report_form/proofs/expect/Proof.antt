@@ -5,7 +5,7 @@ use native.Mathlib.Omega.{arith}
 use borrow.Author.Needs.{needs}
 use Prim.Native.Nat.{_<_}
 use lib.ListN.{getD}
-use Rattle.report_form.specs.Form.{reads-right, reads-wrong}
+use Rattle.report_form.specs.Form.{reads-right, reads-wrong, reads-none}
 use Rattle.report_form.proofs.Bytes.{inside, byte-found, byte-missing}
 use Rattle.report_form.proofs.expect.Statement.{statement}
 use Rattle.report_form.proofs.expect.Tie as tie
@@ -32,7 +32,7 @@ returns-2 : tie.Need-returns-2
 returns-2 c =
     let s = c .before .before .before .before in
     let a = c .before .before .before .before .args in
-    reads-right (c .before .before .if1 .taken)
+    reads-none
     (byte-missing (a .text .now) (a .at) (a .b) (λ e. c .if2 .left (c .before .byte-at .ensures ∙ e)))
 
 returns-3 : tie.Need-returns-3

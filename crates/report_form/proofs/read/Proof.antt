@@ -7,8 +7,6 @@ use borrow.Author.Tests.{not-true, not-false}
 use mir.Syntax.{w8}
 use mir.Val.{toZ, ofZ}
 use mir.ValLaws.{toZ-ofZ}
-use Rattle.report_form.specs.Form.{found-there, missing-there, right-before, listed-there}
-use Rattle.report_form.specs.Forms.{rows, RowsWithin, rows-within}
 use Rattle.report_form.proofs.Whole.{head-reads, head-bound, no-head, body-reads, no-body, words-at, words-here, one-description, settings-as}
 use Rattle.report_form.proofs.read.Statement.{statement}
 use Rattle.report_form.proofs.read.Tie as tie
@@ -51,7 +49,7 @@ read-words-requires c κs =
     let at-read-field = at-expect2 .before in
     let at-expect = at-read-field .before in
     head-bound (at-read-field .read-field .result .value)
-    (found-there (head-reads (at-expect .expect .ensures) (at-read-field .read-field .ensures) (at-expect2 .expect2 .ensures))
+    ((head-reads (at-expect .expect .ensures) (at-read-field .read-field .ensures) (at-expect2 .expect2 .ensures)) .found
     (not-false (at-expect2 .expect2 .result .right) (c .before .before .if1 .left)))
 
 refused-requires-2 : tie.Need-refused-requires-2
@@ -70,8 +68,8 @@ returns-2 c =
     inl
     (record {
       none = no-body n
-          (found-there (head-reads (at-expect .expect .ensures) (at-read-field .read-field .ensures) (at-expect2 .expect2 .ensures)) (not-false (at-expect2 .expect2 .result .right) (at-if1 .if1 .left)))
-          (missing-there (body-reads n (at-read-rows .read-rows .ensures) (at-read-settings .read-settings .ensures) (at-read-words .read-words .ensures)) (not-true (at-read-words .read-words .result .right) (c .before .if2 .taken)));
+          ((head-reads (at-expect .expect .ensures) (at-read-field .read-field .ensures) (at-expect2 .expect2 .ensures)) .found (not-false (at-expect2 .expect2 .result .right) (at-if1 .if1 .left)))
+          ((body-reads n (at-read-rows .read-rows .ensures) (at-read-settings .read-settings .ensures) (at-read-words .read-words .ensures)) .missing refl (not-true (at-read-words .read-words .result .right) (c .before .if2 .taken)));
       answer = c .refused2 .ensures;
       kept = refl;
     })
@@ -81,7 +79,7 @@ fill-words-requires c κs =
     let at-read-words = c .before .before .before in
     let at-read-field = at-read-words .before .before .before .before .before .before in
     let s = at-read-field .before .before .before in
-    (s .pre, words-here (at-read-field .read-field .result .value) (found-there (at-read-words .read-words .ensures) (not-false (at-read-words .read-words .result .right) (c .before .if2 .left))))
+    (s .pre, words-here (at-read-field .read-field .result .value) (at-read-words .read-words .ensures .found (not-false (at-read-words .read-words .result .right) (c .before .if2 .left))))
 
 same-length : tie.Need-same-length
 same-length c =
@@ -104,14 +102,14 @@ returns-3 c =
     let e = at-read-settings .read-settings .result in
     let r = at-read-rows .read-rows .result in
     let ok = not-false (at-read-words .read-words .result .right) (at-if2 .if2 .left) in
-    let ok′ = right-before (at-read-words .read-words .ensures) ok in
-    let ok″ = right-before (at-read-settings .read-settings .ensures) ok′ in
-    let f = found-there (at-read-words .read-words .ensures) ok in
+    let ok′ = at-read-words .read-words .ensures .right ok in
+    let ok″ = at-read-settings .read-settings .ensures .right ok′ in
+    let f = at-read-words .read-words .ensures .found ok in
     inr
-    (one-description n (r .count) (r .lengths) (r .total) (r .addresses) (e .lanes) (e .iterations) (toZ w8 (ofZ w8 (e .offset))) (e .layered) (e .step) (e .rounds) (e .first) (e .bits) (at-read-words .read-words .result .value)
-    (found-there (head-reads (at-expect .expect .ensures) (at-read-field .read-field .ensures) (at-expect2 .expect2 .ensures)) (not-false (at-expect2 .expect2 .result .right) (at-if1 .if1 .left)))
-    (listed-there rows RowsWithin rows-within (at-read-rows .read-rows .ensures) ok″)
-    (settings-as (found-there (at-read-settings .read-settings .ensures) ok′) (sym (toZ-ofZ w8 (e .offset) (record { sfits = c .struct-told .given .1 .1 .1 .0 .1 }))))
+    (one-description n (r .count) (r .lengths) (r .total) (r .addresses) (e .lanes) (e .«iteration_limit») (toZ w8 (ofZ w8 (e .offset))) (e .layered) (e .step) (e .«round_limit») (e .«part_first») (e .«part_length») (at-read-words .read-words .result .value)
+    ((head-reads (at-expect .expect .ensures) (at-read-field .read-field .ensures) (at-expect2 .expect2 .ensures)) .found (not-false (at-expect2 .expect2 .result .right) (at-if1 .if1 .left)))
+    (at-read-rows .read-rows .ensures .found ok″ .0)
+    (settings-as (at-read-settings .read-settings .ensures .found ok′) (sym (toZ-ofZ w8 (e .offset) (record { sfits = c .struct-told .given .1 .1 .1 .0 .1 }))))
     f
     (s .args .words .now) (at-fill-words .fill-words .last .1 .1 .1 .0) (s .pre) (at-fill-words .fill-words .ensures (f .it .0) (words-at n f)))
 

@@ -1,10 +1,11 @@
 -- `report_form::read_digits` meets its contract. The loop's invariant: the number spells the bytes so far, and is at most one digit over the bound.
 -- Assumes nothing.
-use mathlib.Core.Path.{sym, _∙_, subst}
+use mathlib.Core.Path.{refl, sym, _∙_, subst}
 use Prim.Native.Nat.{ℕ, _+_, _-_, _*_}
 use borrow.Author.Needs.{needs}
 use native.Mathlib.Omega.{arith}
 use lib.ListN.{length, getD}
+use Rattle.report_form.specs.Form.{reads-none, reads-right}
 use Rattle.report_form.proofs.Bytes.{inside}
 use Rattle.report_form.proofs.Spell.{Spelled, digit-bounds, spelled-start, spelled-again, spelled-over, spelled-end}
 use Rattle.report_form.proofs.read_digits.Statement.{statement}
@@ -44,7 +45,7 @@ returns : tie.Need-returns Inv-loop μ-loop
 returns c =
     let at-loop = c .before .before .before in
     let s = at-loop .before .before .before in
-    let a = c .before .before .before .before .before .before .args in record { answer = spelled-over (a .text .now) (a .at) (a .most) (at-loop .loop .value) (at-loop .loop .i) (at-loop .loop .inv) (c .if2 .taken) }
+    let a = c .before .before .before .before .before .before .args in reads-none (spelled-over (a .text .now) (a .at) (a .most) (at-loop .loop .value) (at-loop .loop .i) (at-loop .loop .inv) (c .if2 .taken))
 
 mul-value : tie.Need-mul-value Inv-loop μ-loop
 mul-value c =
@@ -102,7 +103,7 @@ returns-2 : tie.Need-returns-2 Inv-loop μ-loop
 returns-2 c =
     let at-loop = c .before .before .before in
     let s = at-loop .before .before .before in
-    let a = c .before .before .before .before .before .before .args in record { answer = spelled-over (a .text .now) (a .at) (a .most) (at-loop .loop .value) (at-loop .loop .i) (at-loop .loop .inv) (c .if3 .taken) }
+    let a = c .before .before .before .before .before .before .args in reads-none (spelled-over (a .text .now) (a .at) (a .most) (at-loop .loop .value) (at-loop .loop .i) (at-loop .loop .inv) (c .if3 .taken))
 
 cast-t16 : tie.Need-cast-t16 Inv-loop μ-loop
 cast-t16 c =
@@ -114,7 +115,7 @@ returns-3 c =
     let at-loop = c .before .before .before in
     let s = at-loop .before .before .before in
     let a = c .before .before .before .before .before .before .args in
-    record { answer = spelled-end (a .text .now) (a .at) (a .most) (at-loop .loop .value) (at-loop .loop .i) (at-loop .loop .inv) (c .if3 .left) (sym (c .before .before .digit-at .ensures) ∙ c .before .if1 .left) }
+    reads-right refl (spelled-end (a .text .now) (a .at) (a .most) (at-loop .loop .value) (at-loop .loop .i) (at-loop .loop .inv) (c .if3 .left) (sym (c .before .before .digit-at .ensures) ∙ c .before .if1 .left))
 
 pub read-digits-spec : {M : Type 1} → statement M
 read-digits-spec =

@@ -5,7 +5,7 @@ use borrow.Author.Needs.{needs}
 use borrow.Author.Tests.{not-true, not-false}
 use native.Mathlib.Omega.{arith}
 use lib.ListN.{getD}
-use Rattle.report_form.specs.Form.{reads-right, reads-wrong}
+use Rattle.report_form.specs.Form.{reads-there, reads-right, reads-wrong, reads-none}
 use Rattle.report_form.proofs.Bytes.{inside}
 use Rattle.report_form.proofs.Spell.{digit-bounds, digit-missing, zero-found, zero-missing}
 use Rattle.report_form.proofs.read_number.Statement.{statement}
@@ -27,7 +27,7 @@ read-digits-requires c κs =
 returns : tie.Need-returns
 returns c =
     let if1 = c .before .before .before .before .before .if1 in
-    reads-right (if1 .taken) (c .read-digits .ensures .answer)
+    reads-there (if1 .taken) (c .read-digits .ensures)
 
 add-next : tie.Need-add-next
 add-next c =
@@ -52,7 +52,7 @@ returns-3 c =
     let at-if1 = c .before .before .before .before .before .before in
     let s = at-if1 .before .before in
     let a = c .before .before .before .before .before .before .before .before .args in
-    reads-right (at-if1 .if1 .taken)
+    reads-none
     (zero-missing (a .text .now) (a .at) (a .most) (sym (c .before .before .before .byte-at .ensures) ∙ c .before .before .if3 .left)
     (sym (c .before .digit-at2 .ensures) ∙ not-false (c .before .digit-at2 .result) (c .if4 .left)))
 
@@ -60,7 +60,7 @@ returns-4 : tie.Need-returns-4
 returns-4 c =
     let s = c .before .before .before .before in
     let a = c .before .before .before .before .args in
-    reads-right (c .before .before .if1 .taken) (digit-missing (a .text .now) (a .at) (a .most) (sym (c .before .digit-at .ensures) ∙ c .if2 .left))
+    reads-none (digit-missing (a .text .now) (a .at) (a .most) (sym (c .before .digit-at .ensures) ∙ c .if2 .left))
 
 returns-5 : tie.Need-returns-5
 returns-5 c = reads-wrong (c .if1 .left)

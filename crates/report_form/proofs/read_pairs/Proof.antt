@@ -1,12 +1,12 @@
 -- `report_form::read_pairs` meets its contract. The loop's invariant: the pairs so far, the least position that may come, and their number.
 -- Assumes nothing.
+use mathlib.Core.Path.{refl}
 use mathlib.Core.Logic.{inl, inr}
 use Prim.Native.Nat.{_-_}
 use borrow.Author.Needs.{needs}
 use borrow.Author.Tests.{not-true, not-false}
 use native.Mathlib.Omega.{arith}
 use lib.ListN.{drop}
-use Rattle.report_form.specs.Form.{found-there, missing-there}
 use Rattle.report_form.proofs.Lists.{goes-mark, goes-room, goes-end}
 use Rattle.report_form.proofs.Pairs.{PairsSoFar, pairs-start, pairs-again, pairs-none, pairs-wrong, pairs-hopeless, pairs-read}
 use Rattle.report_form.proofs.read_pairs.Statement.{statement}
@@ -38,7 +38,7 @@ returns c =
     pairs-hopeless (s .args .n)
     (pairs-none (s .args .n) (at-loop .loop .least) (at-loop .loop .count) _ _ (at-loop .loop .inv)
     (goes-mark (s .args .text .now) (at-loop .loop .count) 64 (at-loop .loop .i) 9 (at-goes-on .goes-on .ensures) (c .before .before .before .if1 .taken))
-    (missing-there (at-read-pair .read-pair .ensures) (not-true (at-read-pair .read-pair .result .right) (c .if2 .taken))))
+    (at-read-pair .read-pair .ensures .missing refl (not-true (at-read-pair .read-pair .result .right) (c .if2 .taken))))
 
 returns-2 : tie.Need-returns-2 Inv-loop μ-loop
 returns-2 c =
@@ -51,7 +51,7 @@ returns-2 c =
     pairs-hopeless (s .args .n)
     (pairs-wrong (s .args .n) (at-loop .loop .least) (at-loop .loop .count) (p .position) (p .value) _ _ _ (at-loop .loop .inv)
     (goes-mark (s .args .text .now) (at-loop .loop .count) 64 (at-loop .loop .i) 9 (at-goes-on .goes-on .ensures) (at-if1 .if1 .taken))
-    (found-there (at-read-pair .read-pair .ensures) (not-false (p .right) (c .before .if2 .left))) (inl (c .if3 .taken)))
+    (at-read-pair .read-pair .ensures .found (not-false (p .right) (c .before .if2 .left))) (inl (c .if3 .taken)))
 
 returns-3 : tie.Need-returns-3 Inv-loop μ-loop
 returns-3 c =
@@ -64,7 +64,7 @@ returns-3 c =
     pairs-hopeless (s .args .n)
     (pairs-wrong (s .args .n) (at-loop .loop .least) (at-loop .loop .count) (p .position) (p .value) _ _ _ (at-loop .loop .inv)
     (goes-mark (s .args .text .now) (at-loop .loop .count) 64 (at-loop .loop .i) 9 (at-goes-on .goes-on .ensures) (at-if1 .if1 .taken))
-    (found-there (at-read-pair .read-pair .ensures) (not-false (p .right) (c .before .before .if2 .left))) (inr (c .if4 .taken)))
+    (at-read-pair .read-pair .ensures .found (not-false (p .right) (c .before .before .if2 .left))) (inr (c .if4 .taken)))
 
 add-least : tie.Need-add-least Inv-loop μ-loop
 add-least c =
@@ -96,7 +96,7 @@ loop-again c =
     let s = at-loop .before .before in
     let p = at-read-pair .read-pair .result in
     pairs-again (s .args .n) (at-loop .loop .least) (at-loop .loop .count) (p .position) (p .value) _ _ _ (at-loop .loop .inv)
-    (found-there (at-read-pair .read-pair .ensures) (not-false (p .right) (c .before .before .if2 .left)))
+    (at-read-pair .read-pair .ensures .found (not-false (p .right) (c .before .before .if2 .left)))
     (goes-room (s .args .text .now) (at-loop .loop .count) 64 (at-loop .loop .i) 9 (at-goes-on .goes-on .ensures) (at-if1 .if1 .taken)) (c .before .if3 .left) (c .if4 .left)
 
 expect-requires : tie.Need-expect-requires Inv-loop μ-loop

@@ -1,11 +1,11 @@
 -- `report_form::read_row` meets its contract. The loop's invariant: the addresses so far, laid into the array.
 -- Assumes nothing.
+use mathlib.Core.Path.{refl}
 use Prim.Native.Nat.{_-_}
 use borrow.Author.Needs.{needs}
 use borrow.Author.Tests.{not-true, not-false}
 use native.Mathlib.Omega.{arith}
 use lib.ListN.{drop}
-use Rattle.report_form.specs.Form.{found-there, missing-there}
 use Rattle.report_form.proofs.Lists.{goes-mark, goes-room, goes-end}
 use Rattle.report_form.proofs.RowLists.{RowSoFar, row-start, row-again, row-none, row-read}
 use Rattle.report_form.proofs.read_row.Statement.{statement}
@@ -40,7 +40,7 @@ returns c =
     let s = at-expect .before .before in
     row-none (s .args .into) (s .args .from) (at-loop .loop .count) (at-loop .loop .addresses) (at-expect .expect .ensures) (at-loop .loop .inv)
     (goes-mark (s .args .text .now) (at-loop .loop .count) 4 (at-loop .loop .i) 9 (at-goes-on .goes-on .ensures) (c .before .before .before .if1 .taken))
-    (missing-there (at-read-field .read-field .ensures) (not-true (at-read-field .read-field .result .right) (c .if2 .taken)))
+    (at-read-field .read-field .ensures .missing refl (not-true (at-read-field .read-field .result .right) (c .if2 .taken)))
 
 add-place : tie.Need-add-place Inv-loop μ-loop
 add-place c =
@@ -59,7 +59,7 @@ cast-place c =
 cast-addresses : tie.Need-cast-addresses Inv-loop μ-loop
 cast-addresses c =
     let read-field = c .before .before .read-field in
-    let f = found-there (read-field .ensures) (not-false (read-field .result .right) (c .if2 .left)) in
+    let f = read-field .ensures .found (not-false (read-field .result .right) (c .if2 .left)) in
     omega (arith, f .within, f .says)
 
 mul-addresses : tie.Need-mul-addresses Inv-loop μ-loop
@@ -97,7 +97,7 @@ loop-again c =
     let at-loop = at-goes-on .before in
     let s = at-loop .before .before .before in
     row-again (s .args .into) (s .args .from) (at-loop .loop .count) (at-read-field .read-field .result .value) (at-loop .loop .addresses) (at-loop .loop .inv)
-    (found-there (at-read-field .read-field .ensures) (not-false (at-read-field .read-field .result .right) (c .if2 .left)))
+    (at-read-field .read-field .ensures .found (not-false (at-read-field .read-field .result .right) (c .if2 .left)))
     (goes-room (s .args .text .now) (at-loop .loop .count) 4 (at-loop .loop .i) 9 (at-goes-on .goes-on .ensures) (c .before .before .before .if1 .taken))
 
 expect-requires-2 : tie.Need-expect-requires-2 Inv-loop μ-loop

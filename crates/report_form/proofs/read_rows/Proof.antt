@@ -1,11 +1,11 @@
 -- `report_form::read_rows` meets its contract. The loop's invariant: the rows so far, laid into the arrays.
 -- Assumes nothing.
+use mathlib.Core.Path.{refl}
 use Prim.Native.Nat.{_-_}
 use borrow.Author.Needs.{needs}
 use borrow.Author.Tests.{not-true, not-false}
 use native.Mathlib.Omega.{arith}
 use lib.ListN.{drop}
-use Rattle.report_form.specs.Form.{found-there, missing-there}
 use Rattle.report_form.proofs.Lists.{goes-mark, goes-room, goes-end}
 use Rattle.report_form.proofs.RowLists.{RowsSoFar, rows-start, rows-total, rows-again, rows-none, rows-read}
 use Rattle.report_form.proofs.read_rows.Statement.{statement}
@@ -36,7 +36,7 @@ returns c =
     let s = at-goes-on .before .before .before in
     let e = c .before .before .before .before .before .loop in
     rows-none (e .count) (e .lengths) (e .total) (e .addresses) (e .inv) (goes-mark (s .args .text .now) (e .count) 3 (e .i) 82 (at-goes-on .goes-on .ensures) (c .before .before .before .if1 .taken))
-    (missing-there (at-read-row .read-row .ensures) (not-true (at-read-row .read-row .result .right) (c .if2 .taken)))
+    (at-read-row .read-row .ensures .missing refl (not-true (at-read-row .read-row .result .right) (c .if2 .taken)))
 
 cast-place : tie.Need-cast-place Inv-loop μ-loop
 cast-place c =
@@ -66,7 +66,7 @@ add-total c =
     let at-goes-on = at-if1 .before in
     let s = at-goes-on .before .before .before in
     let e = c .before .before .before .before .before .before .loop in
-    let f = found-there (at-read-row .read-row .ensures) (not-false (at-read-row .read-row .result .right) (c .before .if2 .left)) in
+    let f = at-read-row .read-row .ensures .found (not-false (at-read-row .read-row .result .right) (c .before .if2 .left)) in
     omega (
       arith,
       rows-total (e .count) (e .lengths) (e .total) (e .addresses) (e .inv),
@@ -97,7 +97,7 @@ loop-again c =
     let s = at-goes-on .before .before .before in
     let e = c .before .before .before .before .before .before .loop in
     let r = at-read-row .read-row .result in
-    rows-again (e .count) (e .lengths) (e .total) (e .addresses) (r .count) (r .addresses) (e .inv) (found-there (at-read-row .read-row .ensures) (not-false (r .right) (c .before .if2 .left)))
+    rows-again (e .count) (e .lengths) (e .total) (e .addresses) (r .count) (r .addresses) (e .inv) (at-read-row .read-row .ensures .found (not-false (r .right) (c .before .if2 .left)))
     (goes-room (s .args .text .now) (e .count) 3 (e .i) 82 (at-goes-on .goes-on .ensures) (at-if1 .if1 .taken))
 
 returns-2 : tie.Need-returns-2 Inv-loop μ-loop

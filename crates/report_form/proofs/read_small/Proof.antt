@@ -11,7 +11,7 @@ use lib.ListN.{drop}
 use mir.Syntax.{w8}
 use mir.Val.{toZ, ofZ}
 use mir.ValLaws.{toZ-pos, toZ-ofZ}
-use Rattle.report_form.specs.Form.{Reads, reads-found, reads-missing, reads-spoiled, found-there}
+use Rattle.report_form.specs.Form.{Reads, reads-found, reads-missing, reads-spoiled}
 use Rattle.report_form.specs.Forms.{smalls}
 use Rattle.report_form.proofs.Bytes.{inside, head-at, byte-here}
 use Rattle.report_form.proofs.Smalls.{plus-found, plus-missing, minus-found, minus-missing, minus-zero}
@@ -26,7 +26,7 @@ read-number-requires c κs = search needs
 
 cast-t11 : tie.Need-cast-t11
 cast-t11 c =
-    let f = found-there (c .before .read-number .ensures) (c .if2 .taken) in
+    let f = c .before .read-number .ensures .found (c .if2 .taken) in
     omega (arith, f .within, f .says)
 
 returns : tie.Need-returns
@@ -34,7 +34,7 @@ returns c =
     let s = c .before .before .before .before .before in
     let a = c .before .before .before .before .before .args in
     let v = c .before .read-number .result in
-    let f = found-there (c .before .read-number .ensures) (c .if2 .taken) in
+    let f = c .before .read-number .ensures .found (c .if2 .taken) in
     reads-found (c .before .read-number .ensures) (c .if2 .taken)
     (plus-found (drop (a .at) (a .text .now)) (drop (v .next) (a .text .now)) (v .value) _ (sym (toZ-pos w8 (v .value) (omega (arith, f .within, f .says)))))
 
@@ -49,7 +49,7 @@ read-number-requires-2 c κs = search needs
 
 minus-requires : tie.Need-minus-requires
 minus-requires c κs =
-    let f = found-there (c .before .before .read-number2 .ensures) (c .before .if3 .taken) in
+    let f = c .before .before .read-number2 .ensures .found (c .before .if3 .taken) in
     (omega (arith, c .if4 .taken), omega (arith, f .within, f .says))
 
 returns-2 : tie.Need-returns-2

@@ -1,11 +1,12 @@
 -- `report_form::read_words` meets its contract. The loop's invariant: the words so far and their number.
 -- Assumes nothing.
+use mathlib.Core.Path.{refl}
 use Prim.Native.Nat.{_-_}
 use borrow.Author.Needs.{needs}
 use borrow.Author.Tests.{not-true, not-false}
 use native.Mathlib.Omega.{arith}
 use lib.ListN.{drop}
-use Rattle.report_form.specs.Form.{found-there, missing-there, reads-off}
+use Rattle.report_form.specs.Form.{reads-off}
 use Rattle.report_form.proofs.Lists.{goes-mark, goes-room, goes-end}
 use Rattle.report_form.proofs.Words.{WordsSoFar, words-start, words-again, words-none, words-read, at-end, not-end}
 use Rattle.report_form.proofs.read_words.Statement.{statement}
@@ -36,7 +37,7 @@ returns c =
     let s = at-loop .before .before in
     words-none (s .args .n) (at-loop .loop .count) (at-loop .loop .inv)
     (goes-mark (s .args .text .now) (at-loop .loop .count) 16 (at-loop .loop .i) 87 (at-goes-on .goes-on .ensures) (c .before .before .before .if1 .taken))
-    (missing-there (at-read-word .read-word .ensures) (not-true (at-read-word .read-word .result .right) (c .if2 .taken)))
+    (at-read-word .read-word .ensures .missing refl (not-true (at-read-word .read-word .result .right) (c .if2 .taken)))
 
 add-count : tie.Need-add-count Inv-loop μ-loop
 add-count c =
@@ -58,7 +59,7 @@ loop-again c =
     let at-goes-on = at-read-word .before .before in
     let at-loop = at-goes-on .before in
     let s = at-loop .before .before in
-    words-again (s .args .n) (at-loop .loop .count) (at-loop .loop .inv) (found-there (at-read-word .read-word .ensures) (not-false (at-read-word .read-word .result .right) (c .if2 .left)))
+    words-again (s .args .n) (at-loop .loop .count) (at-loop .loop .inv) (at-read-word .read-word .ensures .found (not-false (at-read-word .read-word .result .right) (c .if2 .left)))
     (goes-room (s .args .text .now) (at-loop .loop .count) 16 (at-loop .loop .i) 87 (at-goes-on .goes-on .ensures) (c .before .before .before .if1 .taken))
 
 returns-2 : tie.Need-returns-2 Inv-loop μ-loop

@@ -1,6 +1,6 @@
 -- `report_lines::write_word` meets its contract.
 -- Assumes nothing.
-use Rattle.laws.specs.Decimal.{decimal}
+use Rattle.laws.specs.Definitions.{decimal}
 use Rattle.report_lines.specs.Lines.{stateText}
 use Rattle.report_lines.specs.Wrote.{wrote-line}
 use Rattle.report_lines.specs.Sizes.{field-length, state-length}

@@ -2,7 +2,7 @@
 use native.Mathlib.Omega.{arith}
 use borrow.Author.Needs.{needs}
 use mathlib.Core.Path.{sym, subst}
-use Rattle.lane_memory.specs.Room.{Width}
+use Rattle.lane16.specs.Memory.{Width}
 use Rattle.simd.specs.Pass.{replied-width}
 use Rattle.simd.proofs.reply_lanes.Statement.{statement}
 use Rattle.simd.proofs.reply_lanes.Tie as tie

@@ -5,7 +5,8 @@ use mathlib.Core.Path.{_≡_, refl}
 use Prim.Native.Nat.{_+_, _-_, _≤_, _<_}
 use lib.ListN.{length, getD-replicate}
 use lib.IntN.{pos}
-use Rattle.lane_memory.specs.Room.{var, load-room, value-row, row-fits}
+use Rattle.lane16.specs.Memory.{load-room, value-row, row-fits}
+use Rattle.iteration.specs.Lists.{var}
 use Rattle.simd.specs.Pass.{Scan, scan-start, scan-again, scan-end}
 use Rattle.simd.proofs.scan.Statement.{statement}
 use Rattle.simd.proofs.scan.Tie as tie

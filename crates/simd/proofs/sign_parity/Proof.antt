@@ -1,6 +1,6 @@
 -- `simd::sign_parity` meets its contract. Assumes nothing.
 use borrow.Author.Needs.{needs}
-use Rattle.simd.specs.Words.{sign-parities}
+use Rattle.simd.specs.WordsLaws.{sign-parities}
 use Rattle.simd.proofs.sign_parity.Statement.{statement}
 use Rattle.simd.proofs.sign_parity.Tie as tie
 

@@ -4,7 +4,8 @@ use native.Mathlib.Omega.{arith}
 use Prim.Native.Nat.{_-_, _≤_, _<_}
 use lib.ListN.{getD-replicate}
 use lib.IntN.{pos}
-use Rattle.lane_memory.specs.Room.{var, load-room, value-row}
+use Rattle.lane16.specs.Memory.{load-room, value-row}
+use Rattle.iteration.specs.Lists.{var}
 use Rattle.simd.specs.Pass.{Signs, signs-start, signs-again, signs-end}
 use Rattle.simd.proofs.signs.Statement.{statement}
 use Rattle.simd.proofs.signs.Tie as tie

@@ -8,8 +8,10 @@ use lib.IntN.{ℤ}
 use mir.Syntax.{w8}
 use mir.Val.{toZ, ofZ}
 use Rattle.laws.specs.Signed.{plain}
-use Rattle.lane_memory.specs.Column.{Upto, upto-start, upto-again, upto-end}
-use Rattle.lane_memory.specs.Room.{var, sharedIn, room-to}
+use Rattle.lane16.specs.ColumnLaws.{Upto, upto-start, upto-again, upto-end}
+use Rattle.lane16.specs.Memory.{check-memory-to}
+use Rattle.iteration.specs.Once.{sharedIn}
+use Rattle.iteration.specs.Lists.{var}
 use Rattle.simd_layered.specs.Checked.{runColumn, Checked, checked}
 use Rattle.simd_layered.proofs.check_shared.Statement.{statement}
 use Rattle.simd_layered.proofs.check_shared.Tie as tie
@@ -39,7 +41,7 @@ chunk-requires : tie.Need-chunk-requires Inv-loop μ-loop
 chunk-requires c κs =
     let s = c .before .before .before .before .before .before in
     let h = c .before .before .before .before in (
-      (room-to (h .loop .inv .1 .0) (s .pre .0 .0), s .pre .0 .1),
+      (check-memory-to (h .loop .inv .1 .0) (s .pre .0 .0), s .pre .0 .1),
       ((c .before .before .before .loop-test .taken, (omega (arith, h .loop .inv .1 .1 .0 .0, s .pre .1 .0), omega (arith, h .loop .inv .1 .1 .0 .1, s .pre .1 .1 .0))), s .pre .1 .1 .1),
     )
 

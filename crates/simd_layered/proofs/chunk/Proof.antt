@@ -3,8 +3,9 @@ use native.Mathlib.Omega.{arith}
 use borrow.Author.Needs.{needs}
 use lib.ListN.{length}
 use Rattle.laws.specs.Signed.{plain}
-use Rattle.lane_memory.specs.Column.{part-offset}
-use Rattle.lane_memory.specs.Room.{var, sharedIn}
+use Rattle.lane16.specs.ColumnLaws.{part-offset}
+use Rattle.iteration.specs.Once.{sharedIn}
+use Rattle.iteration.specs.Lists.{var}
 use Rattle.simd_layered.specs.Checked.{runColumn}
 use Rattle.simd_layered.proofs.chunk.Statement.{statement}
 use Rattle.simd_layered.proofs.chunk.Tie as tie

@@ -1,6 +1,6 @@
 -- `simd_layered::store_value` meets its contract. Assumes nothing.
 use borrow.Author.Needs.{needs}
-use Rattle.lane_memory.specs.Room.{sharedIn}
+use Rattle.iteration.specs.Once.{sharedIn}
 use Rattle.simd_layered.specs.Checked.{stored-none, stored-unless}
 use Rattle.simd_layered.proofs.store_value.Statement.{statement}
 use Rattle.simd_layered.proofs.store_value.Tie as tie

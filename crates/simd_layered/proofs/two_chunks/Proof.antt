@@ -5,8 +5,10 @@ use mathlib.Core.Path.{refl, sym}
 use Prim.Native.Nat.{_+_}
 use lib.ListN.{length}
 use Rattle.laws.specs.Signed.{plain}
-use Rattle.lane_memory.specs.Column.{part-offset}
-use Rattle.lane_memory.specs.Room.{var, sharedIn, room-to, Width}
+use Rattle.lane16.specs.ColumnLaws.{part-offset}
+use Rattle.lane16.specs.Memory.{check-memory-to, Width}
+use Rattle.iteration.specs.Once.{sharedIn}
+use Rattle.iteration.specs.Lists.{var}
 use Rattle.simd.specs.Pass.{scan-to}
 use Rattle.simd_layered.specs.Checked.{runColumn, two-parts}
 use Rattle.simd_layered.proofs.two_chunks.Statement.{statement}
@@ -36,7 +38,7 @@ finish-requires-2 c κs =
     let s = c .before .before .before .before .before .before .before .before .before .before .before .before .before .before .before in
     let k = c .before .before .before .before .before .before .before .before .before .before .scan-two in
     let f = c .before .before .before .finish in (
-      (room-to (f .kept .1 .1 .1 .0) (s .pre .0 .0), s .pre .0 .1),
+      (check-memory-to (f .kept .1 .1 .1 .0) (s .pre .0 .0), s .pre .0 .1),
       (
         (omega (arith, s .pre .1 .0 .0), (sixteen, omega (arith, k .kept, s .pre .1 .0 .1 .1))),
         (s .pre .1 .1, scan-to _ (λ j q. sym (f .ensures .outside (s .args .at + 16 + j) (omega (arith, s .pre .1 .0 .0, q)) (λ l h e. omega (arith, h, e)))) (k .ensures .1)),

@@ -1,2 +1,0 @@
--- One iteration, by the schedule.
-pub mod Iterate

@@ -1,0 +1,2 @@
+-- The order in which lanes take words.
+pub mod Order

@@ -1,0 +1,2 @@
+-- A run's settings and its plan.
+pub mod Plan

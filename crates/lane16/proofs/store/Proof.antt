@@ -1,0 +1,77 @@
+-- `lane16::store` meets its contract. Assumes nothing.
+use borrow.Author.Needs.{needs}
+use native.Mathlib.Omega.{arith}
+use mathlib.Core.Path.{refl}
+use Prim.Native.Nat.{_+_, _*_, _-_, _≤_}
+use lib.ListN.{length-set}
+use borrow.Author.Needs.{sfits-of}
+use Rattle.laws.specs.Signed.{plain}
+use Rattle.lane16.specs.Lanes.{intAt}
+use Rattle.lane16.specs.ColumnLaws.{Storing, storing-start, storing-again, storing-end}
+use Rattle.lane16.proofs.store.Statement.{statement}
+use Rattle.lane16.proofs.store.Tie as tie
+
+abbrev Inv-loop : tie.InvT-loop
+Inv-loop a₀ u lanes at w x base i₀ a i = (i ≤ w) × Storing base x a₀ a i
+
+abbrev μ-loop : tie.MeasureT-loop
+μ-loop a₀ u lanes at w x base i₀ a i = w - i
+
+mul-base : tie.Need-mul-base Inv-loop μ-loop
+mul-base c = search needs
+
+add-base : tie.Need-add-base Inv-loop μ-loop
+add-base c = search needs
+
+loop-holds : tie.Need-loop-holds Inv-loop μ-loop
+loop-holds c = let s = c in (search needs, storing-start (s .args .u * s .args .lanes + s .args .at) (s .args .t5) (s .args .a .now))
+
+array-copy-out-a : tie.Need-array-copy-out-a Inv-loop μ-loop
+array-copy-out-a c = search needs
+
+add-t15 : tie.Need-add-t15 Inv-loop μ-loop
+add-t15 c = search needs
+
+slice-set-from-a : tie.Need-slice-set-from-a Inv-loop μ-loop
+slice-set-from-a c = search needs
+
+add-i : tie.Need-add-i Inv-loop μ-loop
+add-i c = search needs
+
+loop-less : tie.Need-loop-less Inv-loop μ-loop
+loop-less c = search needs
+
+loop-again : tie.Need-loop-again Inv-loop μ-loop
+loop-again c =
+    let h = c .before .before in
+    let a = h .before .args in
+    let i = h .loop .i in (
+      search needs,
+      storing-again _ (h .loop .inv .1) (omega arith) (simp length-set) refl (plain (intAt (a .t5) i) (sfits-of (c .a .given))),
+    )
+
+same-length : tie.Need-same-length Inv-loop μ-loop
+same-length c = search needs
+
+returns : tie.Need-returns Inv-loop μ-loop
+returns c =
+    let h = c .before in
+    storing-end (h .loop .inv .1) (omega arith) (omega arith)
+
+pub store-spec : {M : Type 1} → statement M
+store-spec =
+    tie.close
+    (tie.spec
+    Inv-loop
+    μ-loop
+    mul-base
+    add-base
+    loop-holds
+    array-copy-out-a
+    add-t15
+    slice-set-from-a
+    add-i
+    loop-less
+    loop-again
+    same-length
+    returns)
