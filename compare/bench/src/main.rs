@@ -1,5 +1,7 @@
 //! Times the archive and the original on the same input in one process, in turn, and writes tables and charts. See docs/BENCH.md.
 
+#[cfg(before)]
+mod beside;
 mod chart;
 mod codes;
 mod growth;
@@ -9,7 +11,8 @@ mod runs;
 mod time;
 
 const USAGE: &str =
-    "bench codes | growth | runs [CHART.svg] [SCHEDULE] [LANES] | noise [CHART.svg] [WORDS]";
+    "bench codes | growth | runs [CHART.svg] [SCHEDULE] [LANES] | noise [CHART.svg] [WORDS]
+bench beside [SCHEDULE] [LANES]: built with RAXDOV_BEFORE, an earlier libraxdov.a";
 
 fn main() {
     let words: Vec<String> = std::env::args().skip(1).collect();
@@ -24,6 +27,11 @@ fn main() {
             chart,
             words.get(2).map_or("", String::as_str),
             words.get(3).and_then(|w| w.parse().ok()),
+        ),
+        #[cfg(before)]
+        Some("beside") => beside::bench(
+            words.get(1).map_or("", String::as_str),
+            words.get(2).and_then(|w| w.parse().ok()),
         ),
         Some("noise") => noise::bench(
             chart,

@@ -13,7 +13,7 @@ use oracle::ldpc::Code;
 use oracle::ldpc::fixed::{Decoder, Params};
 use std::hint::black_box;
 
-const LANES: [u32; 5] = [1, 8, 16, 32, 64];
+pub const LANES: [u32; 5] = [1, 8, 16, 32, 64];
 
 /// The original's decoder with its buffers, kept between calls.
 trait Decodes {
@@ -51,19 +51,29 @@ pub fn space(r: &mut Random, table: &Table, words: usize, lanes: u32) -> Space {
     }
 }
 
-/// Both sides on the same words: the archive's word-iterations a second, and the original's.
-fn both(
+/// A row of a table: what is run, and where it goes.
+pub struct Row {
+    pub code: Code,
+    pub table: Table,
+    pub words: usize,
+    pub soft: Vec<i8>,
+    pub set: Settings,
+    pub to: Space,
+    mix: bool,
+}
+
+/// Words of which none converges, or, mixed, each in its own time, three times as many as lanes.
+pub fn row(
     r: &mut Random,
     plan: &Plan,
     lanes: u32,
     layered: u32,
     step: u32,
+    limit: u32,
     mix: bool,
-    what: &str,
-) -> (f64, f64) {
+) -> Row {
     let code = plan.code();
     let table = plan.lent(r);
-    // no word converges in 20 iterations, or each does in its own time
     let words = if mix {
         3 * lanes as usize
     } else {
@@ -77,7 +87,7 @@ fn both(
     };
     let set = Settings {
         lanes,
-        limit: 20,
+        limit,
         layered,
         step,
         offset: 1,
@@ -85,29 +95,60 @@ fn both(
         first: 0,
         length: length as u32,
     };
-    let mut to = space(r, &table, words, lanes);
-    let lent = Lent::of(&soft, r);
-    let list: Vec<&[i8]> = soft.chunks(44_880).collect();
+    let to = space(r, &table, words, lanes);
+    Row {
+        code,
+        table,
+        words,
+        soft,
+        set,
+        to,
+        mix,
+    }
+}
+
+impl Row {
+    /// What was run, after a run: the words and their iterations.
+    pub fn told(&self) -> String {
+        let (given, kept) = (f64::from(self.to.tally.now()[2]), self.to.tally.now()[3]);
+        if self.mix {
+            format!(
+                "{}, {:.1} iterations a word, {kept} kept",
+                self.words,
+                given / self.words as f64
+            )
+        } else {
+            format!("{}, {} iterations each", self.words, self.set.limit)
+        }
+    }
+}
+
+/// Both sides on the same words: the archive's word-iterations a second, and the original's.
+fn both(
+    r: &mut Random,
+    plan: &Plan,
+    lanes: u32,
+    layered: u32,
+    step: u32,
+    mix: bool,
+    what: &str,
+) -> (f64, f64) {
+    let mut row = row(r, plan, lanes, layered, step, 20, mix);
+    let lent = Lent::of(&row.soft, r);
+    let list: Vec<&[i8]> = row.soft.chunks(44_880).collect();
+    let length = row.set.length as usize;
     let mut theirs = decoder(lanes);
     let p = pair(
         if lanes > 16 { 9 } else { 15 },
         1,
-        || assert_eq!(archive::run(&table, &lent, set, &mut to), 0),
+        || assert_eq!(archive::run(&row.table, &lent, row.set, &mut row.to), 0),
         || {
-            for mut bits in theirs.decode(&code, &list, harness::run::params(set)) {
+            for mut bits in theirs.decode(&row.code, &list, harness::run::params(row.set)) {
                 black_box(oracle::bch::decode(&mut bits[..length]).is_ok());
             }
         },
     );
-    let (given, kept) = (f64::from(to.tally.now()[2]), to.tally.now()[3]);
-    let told = if mix {
-        format!(
-            "{words}, {:.1} iterations a word, {kept} kept",
-            given / words as f64
-        )
-    } else {
-        format!("{words}, 20 iterations each")
-    };
+    let (given, told) = (f64::from(row.to.tally.now()[2]), row.told());
     println!(
         "| {told} | {what} | {lanes} | {:.0} | {:.0} | {:.2} | {:.2} to {:.2} |",
         given / p.ours.least,

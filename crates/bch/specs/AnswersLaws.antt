@@ -9,8 +9,8 @@ use lib.ListN.{length, take, drop, length-append}
 use lib.Seq.{take-length, take-at, drop-at, drop-drop}
 use Rattle.laws.specs.Lists.{lent-from, back-from}
 use Rattle.algebra.specs.Gf.{El}
-use Rattle.bch_remainder.specs.Word.{parityOf, remainderOf, parityBits, Codeword, encoded}
-use Rattle.bch_remainder.specs.Laws.{encoded-codeword, length-bits, remainder-codeword}
+use Rattle.bch_remainder.specs.Word.{parityOf, remainderOf, parityBits, Codeword}
+use Rattle.bch_remainder.specs.Laws.{encoded, encoded-codeword, length-bits, remainder-codeword}
 use Rattle.bch.specs.Distance.{highBits}
 use Rattle.bch.specs.Decode.{flips, answerBy, leftBy, Located, register, answerOf, leftOf}
 use Rattle.bch.specs.DecodeLaws.{located-by, located-only}

@@ -14,7 +14,7 @@ use Rattle.laws.specs.Poly.{rem-lt, rem-add, rem-small, rem-digits, rem-shift, 
 use Rattle.bch_table.specs.Generator.{generator}
 use Rattle.bch_table.specs.GeneratorLaws.{generator-top}
 use Rattle.bch_table.specs.Step.{stepOf}
-use Rattle.bch_remainder.specs.Word.{number, number-from, parityOf, remainderOf, Codeword, bitsOf, parityBits, encoded}
+use Rattle.bch_remainder.specs.Word.{number, number-from, parityOf, remainderOf, Codeword, bitsOf, parityBits}
 
 -- ---- numbers of words
 number-from-is : (a : ℕ) (w : List ℕ) → number-from a w ≡ a * 2 ^ length w + number w
@@ -158,6 +158,10 @@ unfolding remainderOf
 codeword-remainder w = divides-rem 192 generator (length w) (number w) generator-top (number-lt w)
 
 -- encoding gives a codeword
+-- a message and its parity
+abbrev pub encoded : List ℕ → List ℕ
+encoded m = m ++ parityBits (parityOf m)
+
 encoded-remainder : (m : List ℕ) → remainderOf (encoded m) ≡ 0
 encoded-remainder m =
     remainder-split m (parityBits (parityOf m)) (length-bits 192 (parityOf m))

@@ -7,8 +7,8 @@ use Rattle.iteration.specs.Check.{Word}
 use Rattle.iteration.specs.Iteration.{Code}
 use Rattle.schedule.specs.Run.{Words, Result}
 use Rattle.schedule.specs.Alone.{after, ends}
-use Rattle.schedule.specs.Status.{Status, waiting, holding, done, status, spent, sum, largest, given, longest}
-use Rattle.schedule.specs.WholeRun.{Whole-run, As-alone}
+use Rattle.schedule.specs.Status.{Status, waiting, holding, done, status, spent, sum, largest}
+use Rattle.schedule.specs.WholeRun.{given, longest, Whole-run, As-alone}
 use Rattle.schedule.specs.Places.{sum-ext}
 use Rattle.schedule.specs.Theorem.{spent-within}
 use Rattle.outcome.specs.Outcome.{Outcome, metOf, bitsOf, outcomeOf, alone}

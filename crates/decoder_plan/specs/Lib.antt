@@ -1,2 +1,3 @@
--- A run's settings and its plan.
+-- A run's settings and its plan; behind them what the refusals leave of a plan.
 pub mod Plan
+pub mod Fair

@@ -1,8 +1,6 @@
--- A run's schedule taken apart, what an accepted run goes by, and what the refusals leave of it.
-use mathlib.Core.Path.{_≡_}
+-- A run's schedule taken apart, and what an accepted run goes by.
 use mathlib.Core.Bool.{Bool, true, false}
-use Prim.Native.Nat.{ℕ, _+_, _/_, _≤_, _<_}
-use Rattle.ldpc_shape.specs.Accepted.{Bounded}
+use Prim.Native.Nat.{ℕ, _/_}
 use Rattle.ldpc_shape.specs.declared.Sizes.{Sizes}
 use Rattle.decoder_plan.specs.declared.Schedule.{Schedule}
 use Rattle.decoder_plan.specs.declared.Schedule.the-variants.{Sequential, Layered}
@@ -30,15 +28,3 @@ planOf sizes soft set =
       offset = set .offset;
       part = set .part;
     }
-
--- what the refusals leave of a plan
-pub record Fair (plan : Plan) : Type 0 where
-  pub code : Bounded (plan .sizes)
-  pub some-lanes : 0 < plan .lanes
-  pub few-lanes : plan .lanes ≤ 64
-  pub few-words : plan .words ≤ 4096
-  pub limit-fits : plan .limits .iterations ≤ 65535
-  pub step-some : isLayered (plan .schedule) ≡ true → 0 < stepOf (plan .schedule)
-  pub part-long : 193 ≤ plan .part .length
-  pub part-short : plan .part .length ≤ 65535
-  pub part-within : plan .part .first + plan .part .length ≤ plan .sizes .n

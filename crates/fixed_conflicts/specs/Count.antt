@@ -9,7 +9,7 @@ use native.Mathlib.Decide.{ℕ-discrete, decLt}
 use borrow.Author.Tests.{eqb-true, eqb-false, eq-eqb, ne-eqb}
 use lib.Dec.{eqb}
 use lib.ListN.{length, take, drop, getD}
-use Rattle.laws.specs.Definitions.{same}
+use Rattle.laws.specs.Choice.{same}
 use Rattle.ldpc_shape.specs.Shape.{rowsOf, total, countMod}
 use Rattle.ldpc_edges.specs.Code.{Edge, edge, met, ofBits, ofRows, only}
 use Rattle.fixed_conflicts.specs.Edges.{rowOf, row-next}

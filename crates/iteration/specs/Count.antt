@@ -1,4 +1,4 @@
--- How many checks a word leaves unsatisfied, and one of them: what a count promises.
+-- Whether a word leaves a check unsatisfied, and what holds of the check that a record names.
 use mathlib.Core.Path.{_≡_}
 use Prim.Native.Nat.{ℕ, _<_}
 use lib.IntN.{ℤ}
@@ -13,8 +13,3 @@ unmetAt code L c = unsatisfied (code .rows) (code .row-start c) (degree code c) 
 pub record Names (code : Code) (p : ℕ) (x : Word) (check : ℕ) : Type 0 where
   pub some : 0 < unsatisfiedCount code p (x .L) → (check < p) × (unmetAt code (x .L) check ≡ 1)
   pub none : unsatisfiedCount code p (x .L) ≡ 0 → check ≡ 0
-
--- what a count promises: how many of p checks the values x leave unsatisfied, and one of them
-pub record Counted (code : Code) (p : ℕ) (x : Word) (count check : ℕ) : Type 0 where
-  pub all : count ≡ unsatisfiedCount code p (x .L)
-  pub named : Names code p x check

@@ -1,4 +1,4 @@
--- Checks counted one after the other.
+-- What a count of unsatisfied checks promises; checks counted one after the other.
 use mathlib.Core.Path.{_≡_, refl, sym, ap, _∙_}
 use mathlib.Core.Bool.{Bool, true, false, cond}
 use Prim.Native.Nat.{ℕ, zero, suc, _+_, _≤_}
@@ -8,7 +8,12 @@ use borrow.Author.Tests.{eqb-true, eqb-false}
 use lib.Dec.{eqb}
 use Rattle.iteration.specs.Check.{Word}
 use Rattle.iteration.specs.Iteration.{Code, unsatisfied, unsatisfiedCount}
-use Rattle.iteration.specs.Count.{unmetAt, Counted}
+use Rattle.iteration.specs.Count.{unmetAt, Names}
+
+-- what a count promises: how many of p checks the values x leave unsatisfied, and one of them
+pub record Counted (code : Code) (p : ℕ) (x : Word) (count check : ℕ) : Type 0 where
+  pub all : count ≡ unsatisfiedCount code p (x .L)
+  pub named : Names code p x check
 
 module _ (code : Code) (x : Word) where
   pub unmet-le : (c : ℕ) → unmetAt code (x .L) c ≤ 1

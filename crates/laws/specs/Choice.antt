@@ -10,7 +10,6 @@ use mathlib.Mathlib.Data.Bool.Basic.{or-eq-false-eq-eq-false-and-eq-false}
 use Prim.Native.Nat.{ℕ}
 use borrow.Author.Tests.{eqb-true, eqb-false, eq-eqb, ne-eqb}
 use lib.Dec.{eqb}
-use Rattle.laws.specs.Definitions.{same}
 
 -- a fact of `cond b x y`
 pub by-cond : {A : Type 0} (P : A → Type 0) (b : Bool) (x y : A) → (b ≡ true → P x) → (b ≡ false → P y) → P (cond b x y)
@@ -34,6 +33,10 @@ pub eqb-sym : (v w : ℕ) → eqb v w ≡ eqb w v
 eqb-sym v w =
     by-bool (λ b. eqb v w ≡ b → b ≡ eqb w v) (eqb v w)
     (λ _ e. sym (eq-eqb w v (sym (eqb-true v w e)))) (λ _ e. sym (ne-eqb w v (λ q. eqb-false v w e (sym q)))) refl
+
+-- ---- 1 where two numbers are equal, else 0
+abbrev pub same : ℕ → ℕ → ℕ
+same v w = cond (eqb v w) 1 0
 
 pub same-self : (w : ℕ) → same w w ≡ 1
 same-self w = ap {B = ℕ} (λ b. cond b 1 0) (eq-eqb w w refl)

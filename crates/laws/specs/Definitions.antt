@@ -1,5 +1,5 @@
--- What definitions of other crates use and the kit's library lacks, to be believed: xor and binary polynomials; signed numbers; equal numbers
--- counted, a function changed at one place; numbers as text. Their laws stand in the files of this crate that Lib lists behind this one.
+-- What definitions of other crates use and the kit's library lacks, to be believed: xor and binary polynomials; signed numbers; a function
+-- changed at one place; numbers as text. Their laws stand in the files of this crate that Lib lists behind this one.
 use mathlib.Core.Path.{_≡_}
 use mathlib.Core.Bool.{Bool, true, false, not, cond}
 use mathlib.Core.List.{List, [], _∷_, _++_}
@@ -55,10 +55,6 @@ negative (negsuc n) = true
 abbrev pub times : Bool → Bool → Bool
 times true b = not b
 times false b = b
-
--- ---- 1 where two numbers are equal, else 0
-abbrev pub same : ℕ → ℕ → ℕ
-same v w = cond (eqb v w) 1 0
 
 -- ---- the function f with x at u
 unfoldable pub put : {A : Type 0} → (ℕ → A) → ℕ → A → ℕ → A

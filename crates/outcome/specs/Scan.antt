@@ -8,8 +8,8 @@ use borrow.Author.Tests.{eqb-true, eqb-false, eq-eqb, ne-eqb}
 use lib.Dec.{eqb}
 use Rattle.iteration.specs.Check.{Word}
 use Rattle.iteration.specs.Iteration.{Code, unsatisfiedCount}
-use Rattle.iteration.specs.CountLaws.{unmet-le, unmet-step, unmet-few, counted-again}
-use Rattle.iteration.specs.Count.{unmetAt, Counted}
+use Rattle.iteration.specs.CountLaws.{unmet-le, unmet-step, unmet-few, counted-again, Counted}
+use Rattle.iteration.specs.Count.{unmetAt}
 use Rattle.outcome.specs.Outcome.{unmetOf, metOf}
 
 module _ (code : Code) (x : Word) where

@@ -7,7 +7,8 @@ ghost use lib.Dec.{eqb};
 ghost use lib.ListN.{length};
 ghost use Rattle.iteration.specs.Iteration.{negatives};
 ghost use Rattle.iteration.specs.Lists.{var, Lists, codeIn};
-ghost use Rattle.iteration.specs.Count.{unmetAt, Counted};
+ghost use Rattle.iteration.specs.Count.{unmetAt};
+ghost use Rattle.iteration.specs.CountLaws.{Counted};
 ghost use Rattle.outcome.specs.Outcome.{begin, bitsOf, metOf, corrected, bchResult, bchOf, stateOf, isFinished, keptOf, lostOf};
 ghost use Rattle.outcome.specs.Soft.{Edges, values, Lent};
 

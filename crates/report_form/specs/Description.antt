@@ -1,6 +1,5 @@
 -- What a text asks the report for, and how it is written: the scope's "Report text". A text of the form is the rendering of a description within
 -- the limits. Definitions only; Unique and Longest have the laws.
-use mathlib.Core.Bool.{Bool, true, false}
 use mathlib.Core.List.{List, [], _∷_, _++_, map}
 use Prim.Native.Nat.{ℕ, suc, _+_, _≤_, _<_}
 use lib.IntN.{ℤ, pos, negsuc}
@@ -38,16 +37,6 @@ pub record Description : Type 0 where
   pub rows : List (List ℕ)
   pub settings : Settings
   pub words : List Word
-
--- whether a schedule is layered
-abbrev pub isLayered : Schedule → Bool
-isLayered sequential = false
-isLayered (layered step) = true
-
--- a layered schedule's step, 0 for a sequential one
-abbrev pub stepOf : Schedule → ℕ
-stepOf sequential = 0
-stepOf (layered step) = step
 
 -- rows one after another
 abbrev pub flat : List (List ℕ) → List ℕ

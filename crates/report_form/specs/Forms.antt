@@ -11,7 +11,8 @@ use lib.ListN.{length, getD, replicate}
 use lib.Seq.{sets}
 use Rattle.laws.specs.Decimal.{digit, Stops, decimal-unique, signed-unique, decimal-leads}
 use Rattle.laws.specs.Definitions.{decimal, signed}
-use Rattle.report_form.specs.Description.{flat, isLayered, stepOf, Schedule, sequential, layered, Settings, Pair, Word, All, Wide, Small, Ascending, RowWithin, ScheduleWithin, SettingsWithin, WordWithin, Within, each, scheduleText}
+use Rattle.report_form.specs.Description.{flat, Schedule, sequential, layered, Settings, Pair, Word, All, Wide, Small, Ascending, RowWithin, ScheduleWithin, SettingsWithin, WordWithin, Within, each, scheduleText}
+use Rattle.report_form.specs.Reading.{isLayered, stepOf}
 use Rattle.report_form.specs.Form.{Form, Reads, byte, end, seq, seq-reads, StandFor, via, via-reads, lead, lead-reads, Items, Apart, chain}
 
 -- a number of at most `most`

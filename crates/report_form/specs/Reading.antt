@@ -1,14 +1,24 @@
 -- What the reader of a text answers: the description that the text is the rendering of, or refusal 1, and the words' soft values. Definitions only;
 -- Accepted has the laws.
 use mathlib.Core.Path.{_≡_}
-use mathlib.Core.Bool.{false}
+use mathlib.Core.Bool.{Bool, true, false}
 use mathlib.Core.Logic.{_⊎_}
 use mathlib.Core.List.{List, _++_, map}
 use Prim.Native.Nat.{ℕ, _-_}
 use lib.IntN.{ℤ, pos}
 use lib.ListN.{length, drop, replicate}
-use Rattle.report_form.specs.Description.{Description, Within, render, flat, isLayered, stepOf, softWords}
+use Rattle.report_form.specs.Description.{Schedule, sequential, layered, Description, Within, render, flat, softWords}
 use Rattle.report_form.specs.declared.Reading.{Reading}
+
+-- whether a schedule is layered
+abbrev pub isLayered : Schedule → Bool
+isLayered sequential = false
+isLayered (layered step) = true
+
+-- a layered schedule's step, 0 for a sequential one
+abbrev pub stepOf : Schedule → ℕ
+stepOf sequential = 0
+stepOf (layered step) = step
 
 -- a list with zeros behind it, k long
 abbrev pub padded : ℕ → List ℕ → List ℕ

@@ -12,8 +12,7 @@ use native.Mathlib.Nat.{not-suc-le-zero}
 use native.Mathlib.Decide.{ℕ-discrete}
 use native.Mathlib.Omega.{arith}
 use lib.Dec.{eqb}
-use Rattle.laws.specs.Definitions.{same}
-use Rattle.laws.specs.Choice.{by-cond}
+use Rattle.laws.specs.Choice.{same, by-cond}
 use Rattle.schedule.specs.Run.{Words, Lane, empty, holds, Left, Stock, State, Turn, Result, each, held, over, logged, load, fill, iterated, leave, refill, round, go, start, run}
 use Rattle.schedule.specs.Status.{Status, waiting, holding, done, spent, lane-words, log-words, all-words, status}
 use Rattle.schedule.specs.WholeRun.{count, times, case, Finished}

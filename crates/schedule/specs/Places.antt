@@ -9,8 +9,7 @@ use native.Mathlib.Nat.{not-suc-le-zero}
 use native.Mathlib.Omega.{arith}
 use borrow.Author.Tests.{eqb-true}
 use lib.Dec.{eqb}
-use Rattle.laws.specs.Choice.{by-cond, by-bool, same-self, same-sym}
-use Rattle.laws.specs.Definitions.{same}
+use Rattle.laws.specs.Choice.{by-cond, by-bool, same-self, same-sym, same}
 use Rattle.schedule.specs.Run.{Lane, empty, holds, Left, State}
 use Rattle.schedule.specs.Status.{Status, waiting, holding, done, spent, lane-words, log-words, queue-words, all-words, seek, status, sum, largest}
 use Rattle.schedule.specs.WholeRun.{times, count, case, Where}

@@ -49,11 +49,3 @@ sum f (w ∷ ws) = f w + sum f ws
 unfoldable pub largest : (ℕ → ℕ) → List ℕ → ℕ
 largest f [] = 0
 largest f (w ∷ ws) = max (f w) (largest f ws)
-
--- "iterations given are their sum over all words, and the longest word's is the largest of them"
-module _ {X : Type 0} (order : List ℕ) (s : State X) where
-  unfoldable pub given : ℕ
-  given = sum (λ w. spent (status s w)) order
-
-  unfoldable pub longest : ℕ
-  longest = largest (λ w. spent (status s w)) order

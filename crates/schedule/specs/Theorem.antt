@@ -14,13 +14,12 @@ use borrow.Author.Tests.{eq-eqb, ne-eqb, lt-ltb, le-ltb}
 use lib.Dec.{ltb}
 use lib.ListN.{length, getD, length-append}
 use lib.Seq.{ext-getD}
-use Rattle.laws.specs.Choice.{by-cond, same-self}
-use Rattle.laws.specs.Definitions.{same}
+use Rattle.laws.specs.Choice.{by-cond, same-self, same}
 use Rattle.schedule.specs.Run.{counting, input-order}
 use Rattle.schedule.specs.Run.{Words, Lane, empty, holds, Left, State, Ending, finished, stopped, Result, held, run}
 use Rattle.schedule.specs.AloneLaws.{First-met-or-limit, ends-so}
-use Rattle.schedule.specs.Status.{Status, waiting, holding, done, spent, lane-words, log-words, all-words, status, sum, largest, given, longest}
-use Rattle.schedule.specs.WholeRun.{times, count, case, Where, after-alone, ends-alone, Finished, As-alone, Whole-run}
+use Rattle.schedule.specs.Status.{Status, waiting, holding, done, spent, lane-words, log-words, all-words, status, sum, largest}
+use Rattle.schedule.specs.WholeRun.{given, longest, times, count, case, Where, after-alone, ends-alone, Finished, As-alone, Whole-run}
 use Rattle.schedule.specs.Sums.{in-lane, in-lanes, in-queue, in-log, in-stock, one, iterations-of, Held, AllLanes, AllLog, Some, held-one}
 use Rattle.schedule.specs.Rounds.{total, total-spent, spent-so-far, above, Running, Ended, Good, run-good}
 use Rattle.schedule.specs.Places.{sum-ext, largest-le, largest-sum, queue-sum, count-sum, weigh, times-weigh, sum-status, by-iterations, weigh-total, weigh-case, By-status, by-status, in-one-place}

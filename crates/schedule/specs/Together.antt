@@ -9,8 +9,7 @@ use native.Mathlib.Nat.{not-suc-le-zero}
 use native.Mathlib.Omega.{arith}
 use lib.Dec.{eqb}
 use lib.ListN.{length, replicate, length-map}
-use Rattle.laws.specs.Choice.{by-cond, by-bool}
-use Rattle.laws.specs.Definitions.{same}
+use Rattle.laws.specs.Choice.{by-cond, by-bool, same}
 use Rattle.schedule.specs.Run.{Words, Lane, empty, holds, Left, Stock, State, Turn, finished, stopped, Result, each, held, over, logged, load, fill, iterated, leave, refill, round, go, start, run}
 use Rattle.schedule.specs.Status.{Status, waiting, holding, done, spent, lane-words, log-words, all-words, status, sum}
 use Rattle.schedule.specs.WholeRun.{times, count, case, after-alone, ends-alone}

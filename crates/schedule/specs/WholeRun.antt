@@ -6,10 +6,10 @@ use mathlib.Core.Logic.{_↔_}
 use mathlib.Core.List.{List, [], _∷_, _++_}
 use Prim.Native.Nat.{ℕ, _+_, _-_, _*_, _≤_, _<_}
 use lib.ListN.{length}
-use Rattle.laws.specs.Definitions.{same}
+use Rattle.laws.specs.Choice.{same}
 use Rattle.schedule.specs.Run.{Words, State, Result, finished, stopped, held}
 use Rattle.schedule.specs.Alone.{after, ends}
-use Rattle.schedule.specs.Status.{Status, waiting, holding, done, lane-words, log-words, all-words, status, sum, given, longest}
+use Rattle.schedule.specs.Status.{Status, waiting, holding, done, spent, lane-words, log-words, all-words, status, sum, largest}
 
 -- how often the word v stands in an order
 unfoldable pub count : ℕ → List ℕ → ℕ
@@ -41,6 +41,14 @@ module _ {X : Type 0} where
   Where s v waiting = Places s v 1 0 0
   Where s v (holding x i) = Places s v 0 1 0
   Where s v (done x i) = Places s v 0 0 1
+
+-- "iterations given are their sum over all words, and the longest word's is the largest of them"
+module _ {X : Type 0} (order : List ℕ) (s : State X) where
+  unfoldable pub given : ℕ
+  given = sum (λ w. spent (status s w)) order
+
+  unfoldable pub longest : ℕ
+  longest = largest (λ w. spent (status s w)) order
 
 module _ {X : Type 0} (words : Words X) where
   -- the words of a run, each alone: word w's values after i iterations, and its iterations at its end

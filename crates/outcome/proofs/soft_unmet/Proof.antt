@@ -7,8 +7,7 @@ use mathlib.Core.Bool.{true, false}
 use Prim.Native.Nat.{_-_, _≤_}
 use lib.ListN.{length}
 use Rattle.iteration.specs.Lists.{codeIn}
-use Rattle.iteration.specs.CountLaws.{counted-start}
-use Rattle.iteration.specs.Count.{Counted}
+use Rattle.iteration.specs.CountLaws.{counted-start, Counted}
 use Rattle.outcome.specs.Outcome.{begin}
 use Rattle.outcome.specs.Soft.{odd-is}
 use Rattle.outcome.specs.Scan.{counted-more, counted-same, counted-end, counted-le, named-le}
