@@ -36,6 +36,13 @@ behind-limit c = c .before .before
 abbrev behind-step : tie.Else6 → tie.Else5
 behind-step c = c .before .before .before
 
+abbrev behind-part : tie.After-too-short → tie.Else6
+behind-part c = c .before .before
+
+-- from the part's test back to the lanes'
+abbrev laned : tie.Else6 → tie.Else2
+laned c = behind-lanes (behind-words (behind-limit (behind-step c)))
+
 code-so : (c : tie.Else1) → (let a = start c .args in codeRefusal (a .n) (a .lens .now) (a .addrs .now) ≡ 0)
 code-so c = sym (c .before .refusal .ensures) ∙ c .if1 .left
 
@@ -57,9 +64,9 @@ limit-so c = le-ltb 65535 _ (c .if4 .left)
 step-so : (c : tie.Else5) → badStep (start (behind-code (behind-lanes (behind-words (behind-limit c)))) .args .set .schedule) ≡ false
 step-so c = sym (c .before .bad-step .ensures) ∙ c .if5 .left
 
-part-so : (c : tie.Else6) → (let a = start (behind-code (behind-lanes (behind-words (behind-limit (behind-step c))))) .args in badPart (a .n) (a .set .part) ≡ false)
+part-so : (c : tie.Else6) → (let a = start (behind-code (laned c)) .args in badPart (a .n) (a .set .part) ≡ false)
 part-so c =
-    let at-lanes = behind-lanes (behind-words (behind-limit (behind-step c))) in
+    let at-lanes = laned c in
     let a = start (behind-code at-lanes) .args in
     sym (c .before .bad-part .ensures ∙ ap (λ (of : Sizes). badPart (of .n) (a .set .part)) (sizes-so (sized at-lanes))) ∙ c .if6 .left
 
@@ -141,17 +148,17 @@ too-short-requires c κs =
     )
 
 -- the last test, of the sizes and the lanes as they were worked out
-short-is : (c : tie.After-too-short) → (let a = start (behind-code (behind-lanes (behind-words (behind-limit (behind-step (c .before .before)))))) .args in
+short-is : (c : tie.After-too-short) → (let a = start (behind-code (laned (behind-part c))) .args in
     c .too-short .result ≡ tooShort (sizesOf (a .n) (a .lens .now) (a .addrs .now)) (a .set .lanes) (a .lent))
 short-is c =
-    let at-lanes = behind-lanes (behind-words (behind-limit (behind-step (c .before .before)))) in
+    let at-lanes = laned (behind-part c) in
     let a = start (behind-code at-lanes) .args in
     c .too-short .ensures ∙ (λ i. tooShort (sizes-so (sized at-lanes) i) (c .before .wide .ensures i) (a .lent))
 
 returns-7 : tie.Need-returns-7
 unfolding firstRefusal
 returns-7 c =
-    let at-part = c .before .before .before in
+    let at-part = behind-part (c .before) in
     let at-step = behind-step at-part in
     let at-limit = behind-limit at-step in
     let at-words = behind-words at-limit in
@@ -162,7 +169,7 @@ returns-7 c =
 returns-8 : tie.Need-returns-8
 unfolding firstRefusal
 returns-8 c =
-    let at-part = c .before .before .before in
+    let at-part = behind-part (c .before) in
     let at-step = behind-step at-part in
     let at-limit = behind-limit at-step in
     let at-words = behind-words at-limit in

@@ -1,7 +1,7 @@
 -- `decoder_refuse::too_short` meets its contract: by its tests, in their order.
 -- Assumes nothing.
 use mathlib.Core.Path.{ap, _∙_}
-use Prim.Native.Nat.{_/_}
+use Prim.Native.Nat.{_+_, _/_, _≤_}
 use native.Mathlib.Nat.{mul-le-mul-right}
 use native.Mathlib.Omega.{arith}
 use borrow.Author.Tests.{lt-ltb, le-ltb}
@@ -11,11 +11,15 @@ use Rattle.decoder_refuse.specs.Refusal.{tooShort, outNeed, workNeed}
 use Rattle.decoder_refuse.proofs.too_short.Statement.{statement}
 use Rattle.decoder_refuse.proofs.too_short.Tie as tie
 
+-- the points
 abbrev start : tie.After-struct-known2 → tie.Start
 start c = c .before .before
 
 abbrev sized : tie.Else1 → tie.After-struct-known2
 sized c = c .before .before .before
+
+abbrev asked : tie.After-struct-known7 → tie.Else1
+asked c = c .before .before .before .before .before .before
 
 div-words : tie.Need-div-words
 div-words c = let s = start c in omega (arith, s .pre .0 .p-pos, s .pre .0 .p-le)
@@ -43,11 +47,15 @@ returns-3 c =
     let at-if1 = at-if2 .before .before in
     short-work _ _ _ (at-if1 .if1 .left) (at-if2 .if2 .left) _ (c .before .before .work-need .ensures) (c .if3 .taken)
 
+-- the lists' length is small
+lists-small : (c : tie.After-struct-known7) → (let of = start (sized (asked c)) .args .of in of .e + of .p ≤ 6044880)
+lists-small c = let B = start (sized (asked c)) .pre .0 in omega (arith, B .e-le, B .n-le, B .p-le)
+
 add-result : tie.Need-add-result
-add-result c = let s = start (sized (c .before .before .before .before .before .before)) in omega (arith, s .pre .0 .e-le, s .pre .0 .n-le, s .pre .0 .p-le)
+add-result c = omega (arith, lists-small c)
 
 add-result-2 : tie.Need-add-result-2
-add-result-2 c = let s = start (sized (c .before .before .before .before .before .before)) in omega (arith, s .pre .0 .e-le, s .pre .0 .n-le, s .pre .0 .p-le)
+add-result-2 c = omega (arith, lists-small c)
 
 returns-4 : tie.Need-returns-4
 returns-4 c =

@@ -16,14 +16,21 @@ Inv-loop rows s d soft count₀ k₀ count k = (k ≤ d) × (count ≡ negatives
 abbrev μ-loop : tie.MeasureT-loop
 μ-loop rows s d soft count₀ k₀ count k = d - k
 
+-- the points
+abbrev start : tie.At-loop Inv-loop μ-loop → tie.Start Inv-loop μ-loop
+start c = c .before .before
+
+abbrev looped : tie.After-bit Inv-loop μ-loop → tie.At-loop Inv-loop μ-loop
+looped c = c .before .before .before .before
+
 -- one variable more
 more : (c : tie.After-bit Inv-loop μ-loop) →
-    let h = c .before .before .before .before in
-    let a = h .before .before .args in
+    let h = looped c in
+    let a = start h .args in
     h .loop .count + c .bit .result ≡ negatives (var (a .rows .now)) (a .s) (h .loop .k + 1) (values (a .soft .now))
 more c =
-    let h = c .before .before .before .before in
-    let a = h .before .before .args in
+    let h = looped c in
+    let a = start h .args in
     negatives-again (var (a .rows .now)) (a .s) (h .loop .k) (values (a .soft .now)) (h .loop .count) (c .bit .result) (h .loop .inv .1)
     (c .bit .ensures ∙ ap hard (plain _ (sfits-of (c .before .bit-arg .given)) ∙ ap (values (a .soft .now)) (c .before .before .variable .ensures)))
 
@@ -40,7 +47,7 @@ variable-requires c κs = search needs
 shared-slice-copy-out-bit : tie.Need-shared-slice-copy-out-bit Inv-loop μ-loop
 shared-slice-copy-out-bit c =
     let h = c .before .before in
-    let s = h .before .before in omega (arith, c .variable .ensures, s .pre .below (s .args .s + h .loop .k) (omega (arith, c .before .loop-test .taken, s .pre .inside)))
+    let s = start h in omega (arith, c .variable .ensures, s .pre .below (s .args .s + h .loop .k) (omega (arith, c .before .loop-test .taken, s .pre .inside)))
 
 bit-requires : tie.Need-bit-requires Inv-loop μ-loop
 bit-requires c κs = search needs
@@ -50,9 +57,9 @@ cast-count c = search needs
 
 add-count : tie.Need-add-count Inv-loop μ-loop
 add-count c =
-    let h = c .before .before .before .before in
-    let a = h .before .before .args in
-    record { fits = omega (arith, more c, negatives-le (var (a .rows .now)) (a .s) (h .loop .k + 1) (values (a .soft .now)), h .before .before .fits .d, c .before .before .before .loop-test .taken) }
+    let h = looped c in
+    let a = start h .args in
+    record { fits = omega (arith, more c, negatives-le (var (a .rows .now)) (a .s) (h .loop .k + 1) (values (a .soft .now)), start h .fits .d, c .before .before .before .loop-test .taken) }
 
 add-k : tie.Need-add-k Inv-loop μ-loop
 add-k c = search needs
@@ -65,8 +72,7 @@ loop-again c = (search needs, more c)
 
 returns : tie.Need-returns Inv-loop μ-loop
 returns c =
-    let s = c .before .before .before in
-    let a = c .before .before .before .args in
+    let a = start (c .before) .args in
     let e : c .before .loop .k ≡ a .d = omega (arith, c .loop-test .left, c .before .loop .inv .0) in
     c .before .loop .inv .1 ∙ ap (λ (k : ℕ). negatives (var (a .rows .now)) (a .s) k (values (a .soft .now))) e
 

@@ -19,6 +19,9 @@ Inv-loop n soft out₀ i₀ out i = (i ≤ n) × ((length out ≡ n) × (take i 
 abbrev μ-loop : tie.MeasureT-loop
 μ-loop n soft out₀ i₀ out i = n - i
 
+abbrev start : tie.At-loop Inv-loop μ-loop → tie.Start Inv-loop μ-loop
+start c = c .before .before
+
 loop-holds : tie.Need-loop-holds Inv-loop μ-loop
 loop-holds c = let s = c .before in (search needs, (s .pre .1, bits-start (begin (s .args .n) (s .args .soft .now))))
 
@@ -40,7 +43,7 @@ loop-less c = search needs
 loop-again : tie.Need-loop-again Inv-loop μ-loop
 loop-again c =
     let h = c .before .before .before in
-    let s = h .before .before in
+    let s = start h in
     let a = s .args in
     let q : h .loop .i < a .n = c .before .before .loop-test .taken in (
       search needs,
@@ -57,7 +60,7 @@ same-length c = search needs
 returns : tie.Need-returns Inv-loop μ-loop
 returns c =
     let h = c .before in
-    let a = h .before .before .args in
+    let a = start h .args in
     bits-end (begin (a .n) (a .soft .now)) (h .loop .i) (a .n) (h .loop .out) (omega (arith, c .loop-test .left, h .loop .inv .0)) (h .loop .inv .1 .0) (h .loop .inv .1 .1)
 
 pub soft-bits-spec : {M : Type 1} → statement M

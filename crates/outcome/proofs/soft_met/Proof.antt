@@ -30,6 +30,9 @@ wordAt s = begin (length (s .args .soft .now)) (s .args .soft .now)
 abbrev start : tie.At-loop Inv-loop μ-loop → tie.Start Inv-loop μ-loop
 start h = h .before .before
 
+abbrev looped : tie.After-odd Inv-loop μ-loop → tie.At-loop Inv-loop μ-loop
+looped c = c .before .before
+
 loop-holds : tie.Need-loop-holds Inv-loop μ-loop
 loop-holds c = let s = c .before in (search needs, met-start (codeAt s) (wordAt s))
 
@@ -38,7 +41,7 @@ odd-requires c κs = (c .loop-test .taken, start (c .before) .pre .listed)
 
 returns : tie.Need-returns Inv-loop μ-loop
 returns c =
-    let h = c .before .before .before in
+    let h = looped (c .before) in
     let s = start h in
     sym (met-not (codeAt s) (wordAt s) (h .loop .c) (s .args .p) (c .before .before .loop-test .taken)
     (odd-is (s .args .p) (h .loop .c) (s .args .lists .now) (s .args .soft .now) _ true (c .before .odd .ensures) (c .if1 .taken)))
@@ -51,7 +54,7 @@ loop-less c = search needs
 
 loop-again : tie.Need-loop-again Inv-loop μ-loop
 loop-again c =
-    let h = c .before .before .before in
+    let h = looped (c .before) in
     let s = start h in (
       search needs,
       met-again (codeAt s) (wordAt s) (h .loop .c)

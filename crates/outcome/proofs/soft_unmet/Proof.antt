@@ -32,6 +32,9 @@ wordAt s = begin (length (s .args .soft .now)) (s .args .soft .now)
 abbrev start : tie.At-loop Inv-loop μ-loop → tie.Start Inv-loop μ-loop
 start h = h .before .before
 
+abbrev looped : tie.After-odd Inv-loop μ-loop → tie.At-loop Inv-loop μ-loop
+looped c = c .before .before
+
 loop-holds : tie.Need-loop-holds Inv-loop μ-loop
 loop-holds c = let s = c .before in (search needs, counted-start (codeAt s) (wordAt s) 0 0 refl refl)
 
@@ -40,7 +43,7 @@ odd-requires c κs = (c .loop-test .taken, start (c .before) .pre .listed)
 
 add-count : tie.Need-add-count Inv-loop μ-loop
 add-count c =
-    let h = c .before .before .before in
+    let h = looped (c .before) in
     let s = start h in
     record { fits = omega (arith, counted-le (codeAt s) (wordAt s) (h .loop .inv .1), h .loop .inv .0, s .pre .few-checks) }
 
@@ -52,7 +55,7 @@ loop-less c = search needs
 
 loop-again : tie.Need-loop-again Inv-loop μ-loop
 loop-again c =
-    let h = c .before .before .before in
+    let h = looped (c .before) in
     let s = start h in
     let a = s .args in (
       search needs,
