@@ -17,15 +17,15 @@ use Rattle.fixed_layered.proofs.gather_row.Statement.{statement}
 use Rattle.fixed_layered.proofs.gather_row.Tie as tie
 
 abbrev Inv-loop : tie.InvT-loop
-Inv-loop sums₀ seen₀ index rows work n p q lanes first m base from upto place₀ x₀ sums seen place x =
+Inv-loop sums₀ seen₀ lists rows work n p q lanes first m base from upto place₀ x₀ sums seen place x =
     (x ≤ m) ×
     ((length sums ≡ length sums₀) ×
     ((length seen ≡ length seen₀) ×
-    ((place ≡ placeOf (codeIn p index) (stepped first q) x) × Gathers lanes (placeOf (codeIn p index) (stepped first q) x)
-    (runSum n (edgesIn p index) (codeIn p index) (stepped first q) base lanes work x) seen sums)))
+    ((place ≡ placeOf (codeIn p lists) (stepped first q) x) × Gathers lanes (placeOf (codeIn p lists) (stepped first q) x)
+    (runSum n (edgesIn p lists) (codeIn p lists) (stepped first q) base lanes work x) seen sums)))
 
 abbrev μ-loop : tie.MeasureT-loop
-μ-loop sums₀ seen₀ index rows work n p q lanes first m base from upto place₀ x₀ sums seen place x = m - x
+μ-loop sums₀ seen₀ lists rows work n p q lanes first m base from upto place₀ x₀ sums seen place x = m - x
 
 loop-holds : tie.Need-loop-holds Inv-loop μ-loop
 loop-holds c =
@@ -37,8 +37,8 @@ loop-holds c =
         (
           refl,
           (
-            place-first (a .of .p) (a .index .now) (a .run .first) (a .of .q),
-            row-start (a .of .n) (edgesIn (a .of .p) (a .index .now)) (codeIn (a .of .p) (a .index .now)) (stepped (a .run .first) (a .of .q)) (a .row .base) (a .of .lanes) (a .work .now)
+            place-first (a .of .p) (a .lists .now) (a .run .first) (a .of .q),
+            row-start (a .of .n) (edgesIn (a .of .p) (a .lists .now)) (codeIn (a .of .p) (a .lists .now)) (stepped (a .run .first) (a .of .q)) (a .row .base) (a .of .lanes) (a .work .now)
                 (a .seen .now) (a .sums .now) (s .pre .1 .1 .1 .1),
           ),
         ),
@@ -90,7 +90,7 @@ add-gather-check c =
     let inside = s .pre .0 .0 .inside (h .loop .x) y in
     let r = c .before .before .before .before .start in
     let d = c .before .before .before .degree in
-    let f : r .result + d .result ≡ getD (a .index .now) (stepped (a .run .first) (a .of .q) (h .loop .x) + 1) 0 = omega (arith, r .ensures, d .ensures) in
+    let f : r .result + d .result ≡ getD (a .lists .now) (stepped (a .run .first) (a .of .q) (h .loop .x) + 1) 0 = omega (arith, r .ensures, d .ensures) in
     let t = c .before .before .least in
     let w = row-part (s .pre .0 .0) (s .pre .0 .1) (s .pre .1 .0) y (r .ensures) f (t .ensures) in
     record { fits = omega (arith, w .part-room .edges, w .least, ap length (s .pre .0 .1), s .pre .0 .0 .few-edges) }
@@ -105,7 +105,7 @@ sub-gather-check c =
     let inside = s .pre .0 .0 .inside (h .loop .x) y in
     let r = c .before .before .before .before .start in
     let d = c .before .before .before .degree in
-    let f : r .result + d .result ≡ getD (a .index .now) (stepped (a .run .first) (a .of .q) (h .loop .x) + 1) 0 = omega (arith, r .ensures, d .ensures) in
+    let f : r .result + d .result ≡ getD (a .lists .now) (stepped (a .run .first) (a .of .q) (h .loop .x) + 1) 0 = omega (arith, r .ensures, d .ensures) in
     let t = c .before .before .least in
     let w = row-part (s .pre .0 .0) (s .pre .0 .1) (s .pre .1 .0) y (r .ensures) f (t .ensures) in
     w .least
@@ -120,7 +120,7 @@ add-gather-check-2 c =
     let inside = s .pre .0 .0 .inside (h .loop .x) y in
     let r = c .before .before .before .before .start in
     let d = c .before .before .before .degree in
-    let f : r .result + d .result ≡ getD (a .index .now) (stepped (a .run .first) (a .of .q) (h .loop .x) + 1) 0 = omega (arith, r .ensures, d .ensures) in
+    let f : r .result + d .result ≡ getD (a .lists .now) (stepped (a .run .first) (a .of .q) (h .loop .x) + 1) 0 = omega (arith, r .ensures, d .ensures) in
     let t = c .before .before .least in
     let w = row-part (s .pre .0 .0) (s .pre .0 .1) (s .pre .1 .0) y (r .ensures) f (t .ensures) in
     record { fits = omega (arith, w .least, w .below, place-room (h .loop .x) (h .loop .place) (r .result) (d .result) (s .pre .0 .0) y (r .ensures) f (h .loop .inv .1 .1 .1 .0), s .pre .0 .0 .few-edges) }
@@ -135,7 +135,7 @@ gather-check-requires c κs =
     let inside = s .pre .0 .0 .inside (h .loop .x) y in
     let r = c .before .before .before .before .start in
     let d = c .before .before .before .degree in
-    let f : r .result + d .result ≡ getD (a .index .now) (stepped (a .run .first) (a .of .q) (h .loop .x) + 1) 0 = omega (arith, r .ensures, d .ensures) in
+    let f : r .result + d .result ≡ getD (a .lists .now) (stepped (a .run .first) (a .of .q) (h .loop .x) + 1) 0 = omega (arith, r .ensures, d .ensures) in
     let t = c .before .before .least in
     let w = row-part (s .pre .0 .0) (s .pre .0 .1) (s .pre .1 .0) y (r .ensures) f (t .ensures) in
     let i = h .loop .inv in
@@ -157,7 +157,7 @@ add-place c =
     let inside = s .pre .0 .0 .inside (h .loop .x) y in
     let r = c .before .before .before .before .before .before .before .before .start in
     let d = c .before .before .before .before .before .before .before .degree in
-    let f : r .result + d .result ≡ getD (a .index .now) (stepped (a .run .first) (a .of .q) (h .loop .x) + 1) 0 = omega (arith, r .ensures, d .ensures) in
+    let f : r .result + d .result ≡ getD (a .lists .now) (stepped (a .run .first) (a .of .q) (h .loop .x) + 1) 0 = omega (arith, r .ensures, d .ensures) in
     record { fits = omega (arith, place-room (h .loop .x) (h .loop .place) (r .result) (d .result) (s .pre .0 .0) y (r .ensures) f (h .loop .inv .1 .1 .1 .0), s .pre .0 .0 .few-edges) }
 
 add-x : tie.Need-add-x Inv-loop μ-loop
@@ -190,7 +190,7 @@ loop-again c =
     let inside = s .pre .0 .0 .inside (h .loop .x) y in
     let r = c .before .before .before .before .before .before .before .before .start in
     let d = c .before .before .before .before .before .before .before .degree in
-    let f : r .result + d .result ≡ getD (a .index .now) (stepped (a .run .first) (a .of .q) (h .loop .x) + 1) 0 = omega (arith, r .ensures, d .ensures) in
+    let f : r .result + d .result ≡ getD (a .lists .now) (stepped (a .run .first) (a .of .q) (h .loop .x) + 1) 0 = omega (arith, r .ensures, d .ensures) in
     let t = c .before .before .before .before .before .before .least in
     let w = row-part (s .pre .0 .0) (s .pre .0 .1) (s .pre .1 .0) y (r .ensures) f (t .ensures) in
     let i = h .loop .inv in
@@ -201,8 +201,8 @@ loop-again c =
         (
           omega (arith, k .kept, i .1 .1 .0),
           (
-            place-next (a .of .p) (a .index .now) (a .run .first) (a .of .q) (h .loop .x) (h .loop .place) (r .result) (d .result) inside (r .ensures) f (i .1 .1 .1 .0),
-            row-again (a .of .n) (edgesIn (a .of .p) (a .index .now)) (a .work .now) (s .pre .1 .0) y (w .up) (w .most) (w .least) (w .all) (w .start-is) (i .1 .1 .1 .0)
+            place-next (a .of .p) (a .lists .now) (a .run .first) (a .of .q) (h .loop .x) (h .loop .place) (r .result) (d .result) inside (r .ensures) f (i .1 .1 .1 .0),
+            row-again (a .of .n) (edgesIn (a .of .p) (a .lists .now)) (a .work .now) (s .pre .1 .0) y (w .up) (w .most) (w .least) (w .all) (w .start-is) (i .1 .1 .1 .0)
                 (i .1 .1 .1 .1)
                 (subst
                 (λ (l : List ℕ).
@@ -231,8 +231,8 @@ returns c =
     let e : h .loop .x ≡ a .run .m = omega (arith, h .loop .inv .0, c .loop-test .left) in
     subst
     (λ (x : ℕ).
-    Gathers (a .of .lanes) (placeOf (codeIn (a .of .p) (a .index .now)) (stepped (a .run .first) (a .of .q)) x)
-    (runSum (a .of .n) (edgesIn (a .of .p) (a .index .now)) (codeIn (a .of .p) (a .index .now)) (stepped (a .run .first) (a .of .q)) (a .row .base) (a .of .lanes) (a .work .now) x)
+    Gathers (a .of .lanes) (placeOf (codeIn (a .of .p) (a .lists .now)) (stepped (a .run .first) (a .of .q)) x)
+    (runSum (a .of .n) (edgesIn (a .of .p) (a .lists .now)) (codeIn (a .of .p) (a .lists .now)) (stepped (a .run .first) (a .of .q)) (a .row .base) (a .of .lanes) (a .work .now) x)
     (h .loop .seen) (h .loop .sums))
     e (h .loop .inv .1 .1 .1 .1)
 

@@ -12,19 +12,19 @@ use Rattle.fixed_layered.proofs.layers.Statement.{statement}
 use Rattle.fixed_layered.proofs.layers.Tie as tie
 
 abbrev Inv-loop : tie.InvT-loop
-Inv-loop index work₀ t₀ u₀ sums₀ table of offset q l₀ work t u sums l =
+Inv-loop lists work₀ t₀ u₀ sums₀ table of offset q l₀ work t u sums l =
     (l ≤ q) ×
     ((length work ≡ length work₀) ×
-    (((length t ≡ length t₀) × ((length u ≡ length u₀) × (length sums ≡ length sums₀))) × LayersMade (of .n) (of .p) (of .lanes) (toZ w8 offset) index q (of .step) work₀ l work))
+    (((length t ≡ length t₀) × ((length u ≡ length u₀) × (length sums ≡ length sums₀))) × LayersMade (of .n) (of .p) (of .lanes) (toZ w8 offset) lists q (of .step) work₀ l work))
 
 abbrev μ-loop : tie.MeasureT-loop
-μ-loop index work₀ t₀ u₀ sums₀ table of offset q l₀ work t u sums l = q - l
+μ-loop lists work₀ t₀ u₀ sums₀ table of offset q l₀ work t u sums l = q - l
 
 loop-holds : tie.Need-loop-holds Inv-loop μ-loop
 loop-holds c =
     let s = c .before .before in
     let a = s .args in
-    (search needs, (refl, ((refl, (refl, refl)), layers-start (a .of .n) (a .of .p) (a .of .lanes) (toZ w8 (ofZ w8 (a .offset))) (a .index .now) (a .of .q) (a .of .step) (a .work .now))))
+    (search needs, (refl, ((refl, (refl, refl)), layers-start (a .of .n) (a .of .p) (a .of .lanes) (toZ w8 (ofZ w8 (a .offset))) (a .lists .now) (a .of .q) (a .of .step) (a .work .now))))
 
 runs-requires : tie.Need-runs-requires Inv-loop μ-loop
 runs-requires c κs =

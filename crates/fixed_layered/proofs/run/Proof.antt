@@ -28,7 +28,7 @@ part-rows-end c = search needs
 checks-requires : tie.Need-checks-requires
 checks-requires c κs =
     let s = c .before .before .before .before .before .before .before .before .before in (
-      (s .pre .0 .memory, rows-part (s .args .of .p) (s .args .index .now)),
+      (s .pre .0 .memory, rows-part (s .args .of .p) (s .args .lists .now)),
       (s .pre .0 .inside, (s .pre .1 .1 .1 .0, s .pre .1 .1 .1 .1 .0)),
     )
 
@@ -52,7 +52,7 @@ returns c =
 shared-run-requires : tie.Need-shared-run-requires
 shared-run-requires c κs =
     let s = c .before .before .before .before .before .before .before .before .before in (
-      (s .pre .0, rows-part (s .args .of .p) (s .args .index .now)),
+      (s .pre .0, rows-part (s .args .of .p) (s .args .lists .now)),
       (s .pre .1 .0 .0 .once, (s .pre .1 .1 .1 .0, s .pre .1 .1 .1 .1 .0)),
     )
 
@@ -60,7 +60,7 @@ write-rows-requires : tie.Need-write-rows-requires
 write-rows-requires c κs =
     let at-shared = c .before .before .before .before .before in
     let s = at-shared .before .before .before .before .before .before .before .before .before .before in (
-      (in-run-to (at-shared .shared-run .kept .1 .1 .0) (s .pre .0), rows-part (s .args .of .p) (s .args .index .now)),
+      (in-run-to (at-shared .shared-run .kept .1 .1 .0) (s .pre .0), rows-part (s .args .of .p) (s .args .lists .now)),
       (s .pre .1 .0, s .pre .1 .1 .1 .1 .1),
     )
 

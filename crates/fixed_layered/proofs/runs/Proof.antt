@@ -13,14 +13,14 @@ use Rattle.fixed_layered.proofs.runs.Statement.{statement}
 use Rattle.fixed_layered.proofs.runs.Tie as tie
 
 abbrev Inv-loop : tie.InvT-loop
-Inv-loop index work₀ t₀ u₀ sums₀ table of offset l q step flags any at₀ j₀ work t u sums at j =
+Inv-loop lists work₀ t₀ u₀ sums₀ table of offset l q step flags any at₀ j₀ work t u sums at j =
     (at ≡ j * step) ×
     ((at < 374 + step) ×
     ((length work ≡ length work₀) ×
-    (((length t ≡ length t₀) × ((length u ≡ length u₀) × (length sums ≡ length sums₀))) × RunsMade (of .n) (of .p) (of .lanes) (toZ w8 offset) index q step l work₀ j work)))
+    (((length t ≡ length t₀) × ((length u ≡ length u₀) × (length sums ≡ length sums₀))) × RunsMade (of .n) (of .p) (of .lanes) (toZ w8 offset) lists q step l work₀ j work)))
 
 abbrev μ-loop : tie.MeasureT-loop
-μ-loop index work₀ t₀ u₀ sums₀ table of offset l q step flags any at₀ j₀ work t u sums at j = 374 + step - at
+μ-loop lists work₀ t₀ u₀ sums₀ table of offset l q step flags any at₀ j₀ work t u sums at j = 374 + step - at
 
 shared-requires : tie.Need-shared-requires Inv-loop μ-loop
 shared-requires c κs =
@@ -39,7 +39,7 @@ loop-holds c =
           refl,
           (
             (refl, (refl, refl)),
-            runs-start (a .of .n) (a .of .p) (a .of .lanes) (toZ w8 (ofZ w8 (a .offset))) (a .index .now) (a .of .q) (a .of .step) (a .l) (a .work .now),
+            runs-start (a .of .n) (a .of .p) (a .of .lanes) (toZ w8 (ofZ w8 (a .offset))) (a .lists .now) (a .of .q) (a .of .step) (a .l) (a .work .now),
           ),
         ),
       ),

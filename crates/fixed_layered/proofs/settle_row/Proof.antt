@@ -14,15 +14,15 @@ use Rattle.fixed_layered.proofs.settle_row.Statement.{statement}
 use Rattle.fixed_layered.proofs.settle_row.Tie as tie
 
 abbrev Inv-loop : tie.InvT-loop
-Inv-loop work₀ sums index rows n p q lanes first m base from upto x₀ work x =
-    (x ≤ m) × ((length work ≡ length work₀) × RowSettled n (edgesIn p index) (codeIn p index) (stepped first q) base lanes sums work₀ x work)
+Inv-loop work₀ sums lists rows n p q lanes first m base from upto x₀ work x =
+    (x ≤ m) × ((length work ≡ length work₀) × RowSettled n (edgesIn p lists) (codeIn p lists) (stepped first q) base lanes sums work₀ x work)
 
 abbrev μ-loop : tie.MeasureT-loop
-μ-loop work₀ sums index rows n p q lanes first m base from upto x₀ work x = m - x
+μ-loop work₀ sums lists rows n p q lanes first m base from upto x₀ work x = m - x
 
 loop-holds : tie.Need-loop-holds Inv-loop μ-loop
 loop-holds c = let a = c .before .before .args in
-    (search needs, (refl, settled-row-start (a .of .n) (edgesIn (a .of .p) (a .index .now)) (codeIn (a .of .p) (a .index .now)) (stepped (a .run .first) (a .of .q)) (a .row .base) (a .of .lanes) (a .sums .now) (a .work .now)))
+    (search needs, (refl, settled-row-start (a .of .n) (edgesIn (a .of .p) (a .lists .now)) (codeIn (a .of .p) (a .lists .now)) (stepped (a .run .first) (a .of .q)) (a .row .base) (a .of .lanes) (a .sums .now) (a .work .now)))
 
 mul-c : tie.Need-mul-c Inv-loop μ-loop
 mul-c c = let s = c .before .before .before .before in
@@ -69,7 +69,7 @@ add-settle-check c =
     let inside = s .pre .0 .0 .inside (h .loop .x) y in
     let r = c .before .before .before .start in
     let d = c .before .before .degree in
-    let f : r .result + d .result ≡ getD (a .index .now) (stepped (a .run .first) (a .of .q) (h .loop .x) + 1) 0 = omega (arith, r .ensures, d .ensures) in
+    let f : r .result + d .result ≡ getD (a .lists .now) (stepped (a .run .first) (a .of .q) (h .loop .x) + 1) 0 = omega (arith, r .ensures, d .ensures) in
     let t = c .before .least in
     let w = row-part (in-run-to {b = h .loop .work} (h .loop .inv .1 .0) (s .pre .0 .0)) (s .pre .0 .1) (s .pre .1 .0) y (r .ensures) f (t .ensures) in
     record { fits = omega (arith, w .part-room .edges, w .least, ap length (s .pre .0 .1), s .pre .0 .0 .few-edges) }
@@ -84,7 +84,7 @@ sub-settle-check c =
     let inside = s .pre .0 .0 .inside (h .loop .x) y in
     let r = c .before .before .before .start in
     let d = c .before .before .degree in
-    let f : r .result + d .result ≡ getD (a .index .now) (stepped (a .run .first) (a .of .q) (h .loop .x) + 1) 0 = omega (arith, r .ensures, d .ensures) in
+    let f : r .result + d .result ≡ getD (a .lists .now) (stepped (a .run .first) (a .of .q) (h .loop .x) + 1) 0 = omega (arith, r .ensures, d .ensures) in
     let t = c .before .least in
     let w = row-part (in-run-to {b = h .loop .work} (h .loop .inv .1 .0) (s .pre .0 .0)) (s .pre .0 .1) (s .pre .1 .0) y (r .ensures) f (t .ensures) in
     w .least
@@ -99,7 +99,7 @@ settle-check-requires c κs =
     let inside = s .pre .0 .0 .inside (h .loop .x) y in
     let r = c .before .before .before .start in
     let d = c .before .before .degree in
-    let f : r .result + d .result ≡ getD (a .index .now) (stepped (a .run .first) (a .of .q) (h .loop .x) + 1) 0 = omega (arith, r .ensures, d .ensures) in
+    let f : r .result + d .result ≡ getD (a .lists .now) (stepped (a .run .first) (a .of .q) (h .loop .x) + 1) 0 = omega (arith, r .ensures, d .ensures) in
     let t = c .before .least in
     let w = row-part (in-run-to {b = h .loop .work} (h .loop .inv .1 .0) (s .pre .0 .0)) (s .pre .0 .1) (s .pre .1 .0) y (r .ensures) f (t .ensures) in
     (w .part-room, (s .pre .1 .1, w .in-row))
@@ -134,7 +134,7 @@ loop-again c =
     let inside = s .pre .0 .0 .inside (h .loop .x) y in
     let r = c .before .before .before .before .before .start in
     let d = c .before .before .before .before .degree in
-    let f : r .result + d .result ≡ getD (a .index .now) (stepped (a .run .first) (a .of .q) (h .loop .x) + 1) 0 = omega (arith, r .ensures, d .ensures) in
+    let f : r .result + d .result ≡ getD (a .lists .now) (stepped (a .run .first) (a .of .q) (h .loop .x) + 1) 0 = omega (arith, r .ensures, d .ensures) in
     let t = c .before .before .before .least in
     let w = row-part (in-run-to {b = h .loop .work} (h .loop .inv .1 .0) (s .pre .0 .0)) (s .pre .0 .1) (s .pre .1 .0) y (r .ensures) f (t .ensures) in
     let k = c .before .settle-check in (

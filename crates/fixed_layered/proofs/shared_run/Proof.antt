@@ -19,14 +19,14 @@ use Rattle.fixed_layered.proofs.shared_run.Statement.{statement}
 use Rattle.fixed_layered.proofs.shared_run.Tie as tie
 
 abbrev Inv-loop : tie.InvT-loop
-Inv-loop index rows work₀ t₀ u₀ flags offset n p q lanes first m place₀ x₀ work t u place x =
+Inv-loop lists rows work₀ t₀ u₀ flags offset n p q lanes first m place₀ x₀ work t u place x =
     (x ≤ m) ×
     ((length work ≡ length work₀) ×
     (((length t ≡ length t₀) × (length u ≡ length u₀)) ×
-    ((place ≡ placeOf (codeIn p index) (stepped first q) x) × ChecksMade (sharedIn flags) n p lanes (toZ w8 offset) index first q work₀ x work)))
+    ((place ≡ placeOf (codeIn p lists) (stepped first q) x) × ChecksMade (sharedIn flags) n p lanes (toZ w8 offset) lists first q work₀ x work)))
 
 abbrev μ-loop : tie.MeasureT-loop
-μ-loop index rows work₀ t₀ u₀ flags offset n p q lanes first m place₀ x₀ work t u place x = m - x
+μ-loop lists rows work₀ t₀ u₀ flags offset n p q lanes first m place₀ x₀ work t u place x = m - x
 
 loop-holds : tie.Need-loop-holds Inv-loop μ-loop
 loop-holds c =
@@ -37,8 +37,8 @@ loop-holds c =
         (
           (refl, refl),
           (
-            place-first (a .of .p) (a .index .now) (a .run .first) (a .of .q),
-            checks-start (sharedIn (a .flags .now)) (a .of .n) (a .of .p) (a .of .lanes) (toZ w8 (ofZ w8 (a .offset))) (a .index .now) (a .run .first) (a .of .q) (a .work .now),
+            place-first (a .of .p) (a .lists .now) (a .run .first) (a .of .q),
+            checks-start (sharedIn (a .flags .now)) (a .of .n) (a .of .p) (a .of .lanes) (toZ w8 (ofZ w8 (a .offset))) (a .lists .now) (a .run .first) (a .of .q) (a .work .now),
           ),
         ),
       ),
@@ -119,7 +119,7 @@ loop-again c =
     let a = s .args in
     let k = c .before .before .before .check-shared in
     let e = r .ensures in
-    let f : r .result + d .result ≡ getD (a .index .now) (stepped (a .run .first) (a .of .q) (h .loop .x) + 1) 0 = omega (arith, r .ensures, d .ensures) in
+    let f : r .result + d .result ≡ getD (a .lists .now) (stepped (a .run .first) (a .of .q) (h .loop .x) + 1) 0 = omega (arith, r .ensures, d .ensures) in
     let g = h .loop .inv .1 .1 .1 .0 in (
       omega (arith, y),
       (
@@ -127,7 +127,7 @@ loop-again c =
         (
           (omega (arith, k .kept, h .loop .inv .1 .1 .0 .0), omega (arith, k .kept, h .loop .inv .1 .1 .0 .1)),
           (
-            place-next (a .of .p) (a .index .now) (a .run .first) (a .of .q) (h .loop .x) (h .loop .place) (r .result) (d .result) inside e f g,
+            place-next (a .of .p) (a .lists .now) (a .run .first) (a .of .q) (h .loop .x) (h .loop .place) (r .result) (d .result) inside e f g,
             checks-again inside e f g (place-room (h .loop .x) (h .loop .place) (r .result) (d .result) (s .pre .0 .0) y e f g) (h .loop .inv .1 .1 .1 .1)
                 (subst
                 (λ (l : List ℕ).

@@ -12,18 +12,18 @@ use Rattle.fixed_layered.proofs.write_rows.Statement.{statement}
 use Rattle.fixed_layered.proofs.write_rows.Tie as tie
 
 abbrev Inv-loop : tie.InvT-loop
-Inv-loop work₀ sums₀ index rows table flags of run g₀ work sums g =
+Inv-loop work₀ sums₀ lists rows table flags of run g₀ work sums g =
     (g ≤ 120) ×
-    ((length work ≡ length work₀) × ((length sums ≡ length sums₀) × Written (of .n) (edgesIn (of .p) index) (codeIn (of .p) index) (stepped (run .first) (of .q)) (run .m) (of .lanes) flags work₀ g work))
+    ((length work ≡ length work₀) × ((length sums ≡ length sums₀) × Written (of .n) (edgesIn (of .p) lists) (codeIn (of .p) lists) (stepped (run .first) (of .q)) (run .m) (of .lanes) flags work₀ g work))
 
 abbrev μ-loop : tie.MeasureT-loop
-μ-loop work₀ sums₀ index rows table flags of run g₀ work sums g = 120 - g
+μ-loop work₀ sums₀ lists rows table flags of run g₀ work sums g = 120 - g
 
 loop-holds : tie.Need-loop-holds Inv-loop μ-loop
 loop-holds c =
     let s = c .before .before .before in
     let a = c .before .before .before .args in
-    (search needs, (refl, (refl, written-start (a .of .n) (edgesIn (a .of .p) (a .index .now)) (codeIn (a .of .p) (a .index .now)) (stepped (a .run .first) (a .of .q)) (a .run .m) (a .of .lanes) (a .flags .now) (a .work .now))))
+    (search needs, (refl, (refl, written-start (a .of .n) (edgesIn (a .of .p) (a .lists .now)) (codeIn (a .of .p) (a .lists .now)) (stepped (a .run .first) (a .of .q)) (a .run .m) (a .of .lanes) (a .flags .now) (a .work .now))))
 
 write-row-requires : tie.Need-write-row-requires Inv-loop μ-loop
 write-row-requires c κs = let s = c .before .before .before .before .before .before .before in
