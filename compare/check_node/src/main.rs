@@ -28,8 +28,8 @@ unsafe extern "C" {
         offset: i8,
     );
     fn bench_sequential(
-        index: *const u32,
-        index_len: usize,
+        lists: *const u32,
+        lists_len: usize,
         work: *mut i8,
         work_len: usize,
         n: usize,
@@ -43,8 +43,8 @@ unsafe extern "C" {
         lens_len: usize,
         addrs: *const u16,
         addrs_len: usize,
-        index: *const u32,
-        index_len: usize,
+        lists: *const u32,
+        lists_len: usize,
         work: *mut i8,
         work_len: usize,
         lanes: usize,
@@ -52,8 +52,8 @@ unsafe extern "C" {
         step: usize,
     );
     fn bench_met(
-        index: *const u32,
-        index_len: usize,
+        lists: *const u32,
+        lists_len: usize,
         work: *const i8,
         work_len: usize,
         n: usize,
@@ -89,7 +89,7 @@ struct Table {
     lens: Vec<u32>,
     addrs: Vec<u16>,
     code: Code,
-    index: Vec<u32>,
+    lists: Vec<u32>,
 }
 
 impl Table {
@@ -117,13 +117,13 @@ impl Table {
         }
         let lent: Vec<&[u16]> = table.iter().map(|row| row.as_slice()).collect();
         let code = Code::new(N, &lent);
-        let mut index = row_start(&code).to_vec();
-        index.extend_from_slice(rows(&code));
+        let mut lists = row_start(&code).to_vec();
+        lists.extend_from_slice(rows(&code));
         Self {
             lens: table.iter().map(|row| row.len() as u32).collect(),
             addrs: table.concat(),
             code,
-            index,
+            lists,
         }
     }
 
@@ -153,7 +153,7 @@ impl<'a> Ours<'a> {
     }
 
     fn iterate(&mut self, step: Option<usize>) {
-        let (i, w, t) = (&self.table.index, &mut self.work, self.table);
+        let (i, w, t) = (&self.table.lists, &mut self.work, self.table);
         unsafe {
             match step {
                 None => bench_sequential(
@@ -187,7 +187,7 @@ impl<'a> Ours<'a> {
     fn met(&self) -> [bool; 64] {
         let held: [bool; 64] = std::array::from_fn(|i| i < self.lanes);
         let mut out = [false; 64];
-        let (i, w) = (&self.table.index, &self.work);
+        let (i, w) = (&self.table.lists, &self.work);
         unsafe {
             bench_met(
                 i.as_ptr(),

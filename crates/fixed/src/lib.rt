@@ -1,5 +1,5 @@
 // Checks in turn on interleaved memory, for every lane count; one iteration of the sequential schedule.
-// `index` holds the code's lists (fixed_code); `work` n + 3E rows with stride `lanes` (simd).
+// `lists` are the code's (fixed_code); `work` n + 3E rows with stride `lanes` (simd).
 ghost use mathlib.Core.Path.{_≡_};
 ghost use Prim.Native.Nat.{ℕ, _≤_, _<_};
 ghost use lib.ListN.{length};
@@ -10,7 +10,7 @@ ghost use Rattle.iteration.specs.Once.{stepped};
 
 // The checks first + x * q, x below m, each reading what the ones before it wrote. t and u are work of 128 times 16.
 pub fn checks(
-    index: &[u32],
+    lists: &[u32],
     rows: &[u32],
     work: &mut [i8],
     t: &mut [i8],
@@ -23,32 +23,32 @@ pub fn checks(
     q: usize,
     m: usize,
 )
-    requires { ⌜ Memory n p lanes (now index) (now work) × (now rows ≡ rowsIn p (now index)) ⌝ }
+    requires { ⌜ Memory n p lanes (now lists) (now work) × (now rows ≡ rowsIn p (now lists)) ⌝ }
     requires { ⌜ ((x : ℕ) → x < m → stepped first q x < p) ⌝ }
     requires { ⌜ (2048 ≤ length (now t)) × (2048 ≤ length (now u)) ⌝ }
-    ensures { λ _. ⌜ InTurn n p lanes offset (now (index .entry)) first q (now (work .entry)) m (now (work .exit)) ⌝ }
+    ensures { λ _. ⌜ InTurn n p lanes offset (now (lists .entry)) first q (now (work .entry)) m (now (work .exit)) ⌝ }
 {
     let mut x: usize = 0;
     while x < m {
         let c = first + x * q;
-        let s = fixed_code::start(index, c);
-        let d = fixed_code::degree(index, n, p, c);
+        let s = fixed_code::start(lists, c);
+        let d = fixed_code::degree(lists, n, p, c);
         simd::check_node(rows, s, d, work, t, u, n, lanes, offset);
         x += 1;
     }
 }
 
 // One sequential iteration of every lane's word.
-pub fn iteration(index: &[u32], work: &mut [i8], n: usize, p: usize, lanes: usize, offset: i8)
-    requires { ⌜ Memory n p lanes (now index) (now work) ⌝ }
-    ensures { λ _. ⌜ Iterated n p lanes offset (now (index .entry)) (now (work .entry)) (now (work .exit)) ⌝ }
+pub fn iteration(lists: &[u32], work: &mut [i8], n: usize, p: usize, lanes: usize, offset: i8)
+    requires { ⌜ Memory n p lanes (now lists) (now work) ⌝ }
+    ensures { λ _. ⌜ Iterated n p lanes offset (now (lists .entry)) (now (work .entry)) (now (work .exit)) ⌝ }
 {
     let base = p + 1;
     let mut t: [i8; 2048] = [0; 2048];
     let mut u: [i8; 2048] = [0; 2048];
     checks(
-        index,
-        &index[base..],
+        lists,
+        &lists[base..],
         work,
         &mut t,
         &mut u,

@@ -5,19 +5,19 @@ ghost use lib.ListN.{getD, length};
 ghost use Rattle.iteration.specs.Lists.{Lists, var};
 
 // Where check c's edges begin.
-pub fn start(index: &[u32], c: usize) -> usize
-    requires { ⌜ c < length (now index) ⌝ }
-    ensures { λ r. ⌜ r ≡ getD (now (index .entry)) c 0 ⌝ }
+pub fn start(lists: &[u32], c: usize) -> usize
+    requires { ⌜ c < length (now lists) ⌝ }
+    ensures { λ r. ⌜ r ≡ getD (now (lists .entry)) c 0 ⌝ }
 {
-    index[c] as usize
+    lists[c] as usize
 }
 
 // How many edges check c has.
-pub fn degree(index: &[u32], n: usize, p: usize, c: usize) -> usize
-    requires { ⌜ Lists n p (now index) × (c < p) ⌝ }
-    ensures { λ r. ⌜ getD (now (index .entry)) c 0 + r ≡ getD (now (index .entry)) (c + 1) 0 ⌝ }
+pub fn degree(lists: &[u32], n: usize, p: usize, c: usize) -> usize
+    requires { ⌜ Lists n p (now lists) × (c < p) ⌝ }
+    ensures { λ r. ⌜ getD (now (lists .entry)) c 0 + r ≡ getD (now (lists .entry)) (c + 1) 0 ⌝ }
 {
-    start(index, c + 1) - start(index, c)
+    start(lists, c + 1) - start(lists, c)
 }
 
 // The variable of edge e.

@@ -55,21 +55,21 @@ beside q l x y h e = go (decLt x y)
     go (yes k) = let z : (x + 1) * q ≤ y * q = mul-le-mul-right q (omega arith) in omega arith
     go (no k) = let z : y * q ≤ x * q = mul-le-mul-right q (omega arith) in omega arith
 
-module _ (n : ℕ) (lens addrs : List ℕ) (A : Accepted n lens addrs) (index : List ℕ) (is : index ≡ edgeLists n lens addrs) where
+module _ (n : ℕ) (lens addrs : List ℕ) (A : Accepted n lens addrs) (lists : List ℕ) (is : lists ≡ edgeLists n lens addrs) where
   -- the code's edges are the checks' lists
-  degree-is : (c : ℕ) → c < pOf n lens → degree (codeIn (pOf n lens) index) c ≡ length (check n lens addrs c)
-  degree-is c h = degree-in (pOf n lens) index c (getD index c 0) (length (check n lens addrs c)) h refl (sym (laid-in n lens addrs A index is .next c h))
+  degree-is : (c : ℕ) → c < pOf n lens → degree (codeIn (pOf n lens) lists) c ≡ length (check n lens addrs c)
+  degree-is c h = degree-in (pOf n lens) lists c (getD lists c 0) (length (check n lens addrs c)) h refl (sym (laid-in n lens addrs A lists is .next c h))
 
-  edge-is : (c k : ℕ) → c < pOf n lens → k < length (check n lens addrs c) → codeIn (pOf n lens) index .rows (codeIn (pOf n lens) index .row-start c + k) ≡ getD (check n lens addrs c) k 0
+  edge-is : (c k : ℕ) → c < pOf n lens → k < length (check n lens addrs c) → codeIn (pOf n lens) lists .rows (codeIn (pOf n lens) lists .row-start c + k) ≡ getD (check n lens addrs c) k 0
   edge-is c k h q =
-      let d : getD index (c + 1) 0 - getD index c 0 ≡ length (check n lens addrs c) = omega (arith, laid-in n lens addrs A index is .next c h) in
-      ap (λ (z : ℕ). getD (drop (pOf n lens + 1) index) (z + k) 0) (start-in (pOf n lens) index c (omega arith))
-      ∙ ap (λ (z : ℕ). getD (drop z index) (getD index c 0 + k) 0) (add-one (pOf n lens))
-      ∙ sym (getD-drop (getD index c 0) (drop (suc (pOf n lens)) index) k 0)
-      ∙ sym (getD-take (getD index (c + 1) 0 - getD index c 0) (drop (getD index c 0) (drop (suc (pOf n lens)) index)) k 0 (omega arith))
-      ∙ ap (λ (l : List ℕ). getD l k 0) (laid-in n lens addrs A index is .part c h)
+      let d : getD lists (c + 1) 0 - getD lists c 0 ≡ length (check n lens addrs c) = omega (arith, laid-in n lens addrs A lists is .next c h) in
+      ap (λ (z : ℕ). getD (drop (pOf n lens + 1) lists) (z + k) 0) (start-in (pOf n lens) lists c (omega arith))
+      ∙ ap (λ (z : ℕ). getD (drop z lists) (getD lists c 0 + k) 0) (add-one (pOf n lens))
+      ∙ sym (getD-drop (getD lists c 0) (drop (suc (pOf n lens)) lists) k 0)
+      ∙ sym (getD-take (getD lists (c + 1) 0 - getD lists c 0) (drop (getD lists c 0) (drop (suc (pOf n lens)) lists)) k 0 (omega arith))
+      ∙ ap (λ (l : List ℕ). getD l k 0) (laid-in n lens addrs A lists is .part c h)
 
-  hit-of : (u c k : ℕ) → c < pOf n lens → k < degree (codeIn (pOf n lens) index) c → codeIn (pOf n lens) index .rows (codeIn (pOf n lens) index .row-start c + k) ≡ u
+  hit-of : (u c k : ℕ) → c < pOf n lens → k < degree (codeIn (pOf n lens) lists) c → codeIn (pOf n lens) lists .rows (codeIn (pOf n lens) lists .row-start c + k) ≡ u
       → (k < length (check n lens addrs c)) × (getD (check n lens addrs c) k 0 ≡ u)
   hit-of u c k h q e = let j : k < length (check n lens addrs c) = omega (arith, degree-is c h) in (j, sym (edge-is c k h j) ∙ e)
 
@@ -119,7 +119,7 @@ module _ (n : ℕ) (lens addrs : List ℕ) (A : Accepted n lens addrs) (index : 
             rows-own (qOf n lens) l h v 0 lens addrs (λ g t a b e. let z : v / 374 ≡ g = omega arith in subst (λ (y : ℕ). countMod (qOf n lens) l (rowOf lens addrs y) ≤ 1) z few) (omega arith),
           ))
 
-      bit-once : (v : ℕ) → v < kOf lens → sharedIn flags v ≡ false → Once (codeIn (pOf n lens) index) (λ x. l + x * qOf n lens) 374 v
+      bit-once : (v : ℕ) → v < kOf lens → sharedIn flags v ≡ false → Once (codeIn (pOf n lens) lists) (λ x. l + x * qOf n lens) 374 v
       bit-once v b e =
           record {
             one = λ x k y j x′ y′ q r f g. let s = hit-of v (l + x * qOf n lens) k (check-in x x′) q f in let t = hit-of v (l + y * qOf n lens) j (check-in y y′) r g in
@@ -181,7 +181,7 @@ module _ (n : ℕ) (lens addrs : List ℕ) (A : Accepted n lens addrs) (index : 
           go (yes e) = e
           go (no e) = absurd (parity-without n lens addrs c y (p-pos n lens addrs A) d e k (s .0) (s .1))
 
-      parity-once-in : (v : ℕ) → kOf lens ≤ v → v < n → sharedIn flags v ≡ false → Once (codeIn (pOf n lens) index) (λ x. l + x * qOf n lens) 374 v
+      parity-once-in : (v : ℕ) → kOf lens ≤ v → v < n → sharedIn flags v ≡ false → Once (codeIn (pOf n lens) lists) (λ x. l + x * qOf n lens) 374 v
       parity-once-in v b i e =
           record {
             one = λ x k z j x′ z′ q r f g.
@@ -321,7 +321,7 @@ module _ (n : ℕ) (lens addrs : List ℕ) (A : Accepted n lens addrs) (index : 
             go (no i) (no d) = absurd (true≢false (sym e ∙ fl .others g (omega arith) d))
 
       -- ---- so a layer's runs may count on it
-      pub shares : Shares n (qOf n lens) (codeIn (pOf n lens) index) l 374 l table flags
+      pub shares : Shares n (qOf n lens) (codeIn (pOf n lens) lists) l 374 l table flags
       unfolding kOf
       shares =
           record {
@@ -329,23 +329,23 @@ module _ (n : ℕ) (lens addrs : List ℕ) (A : Accepted n lens addrs) (index : 
             low = λ g e. below g e (decLt g (length lens)) (ℕ-discrete g (length lens));
             fits = λ g e x a. let f = fits-of x 0 a g e in (omega (arith, f .0, degree-is (l + x * qOf n lens) (check-in x a)), f .1);
             split = λ g e x k a b.
-                let v = codeIn (pOf n lens) index .rows (codeIn (pOf n lens) index .row-start (l + x * qOf n lens) + k) in
+                let v = codeIn (pOf n lens) lists .rows (codeIn (pOf n lens) lists .row-start (l + x * qOf n lens) + k) in
                 let s = hit-of v (l + x * qOf n lens) k (check-in x a) b refl in
-                split-of x k a g v e (s .0) (s .1) (lists .variables _ (in-lists (l + x * qOf n lens) k (check-in x a) b));
+                split-of x k a g v e (s .0) (s .1) (listed .variables _ (in-lists (l + x * qOf n lens) k (check-in x a) b));
           }
         where
-          lists : Lists n (pOf n lens) index
-          lists = lists-in n lens addrs A index is
+          listed : Lists n (pOf n lens) lists
+          listed = lists-in n lens addrs A lists is
 
-          in-lists : (c k : ℕ) → c < pOf n lens → k < degree (codeIn (pOf n lens) index) c → codeIn (pOf n lens) index .row-start c + k < edgesIn (pOf n lens) index
+          in-lists : (c k : ℕ) → c < pOf n lens → k < degree (codeIn (pOf n lens) lists) c → codeIn (pOf n lens) lists .row-start c + k < edgesIn (pOf n lens) lists
           in-lists c k a b =
-              omega (arith, start-in (pOf n lens) index c (omega arith), degree-in (pOf n lens) index c (getD index c 0) (getD index (c + 1) 0 - getD index c 0) a refl (omega (arith, lists .ascend c a)), lists .ascend c a, lists .within (c + 1) (omega arith))
+              omega (arith, start-in (pOf n lens) lists c (omega arith), degree-in (pOf n lens) lists c (getD lists c 0) (getD lists (c + 1) 0 - getD lists c 0) a refl (omega (arith, listed .ascend c a)), listed .ascend c a, listed .within (c + 1) (omega arith))
 
-          go : (v : ℕ) → sharedIn flags v ≡ false → Dec (v < kOf lens) → Dec (v < n) → Once (codeIn (pOf n lens) index) (λ x. l + x * qOf n lens) 374 v
+          go : (v : ℕ) → sharedIn flags v ≡ false → Dec (v < kOf lens) → Dec (v < n) → Once (codeIn (pOf n lens) lists) (λ x. l + x * qOf n lens) 374 v
           go v e (yes b) d = bit-once v b e
           go v e (no b) (yes d) = parity-once-in v (omega arith) d e
           go v e (no b) (no d) =
-              record { one = λ x k y j x′ y′ q r f g. absurd (omega (arith, lists .variables (codeIn (pOf n lens) index .row-start (l + x * qOf n lens) + k) (in-lists (l + x * qOf n lens) k (check-in x x′) q), f, d)) }
+              record { one = λ x k y j x′ y′ q r f g. absurd (omega (arith, listed .variables (codeIn (pOf n lens) lists .row-start (l + x * qOf n lens) + k) (in-lists (l + x * qOf n lens) k (check-in x x′) q), f, d)) }
 
           below : (g : ℕ) → getD flags g false ≡ true → Dec (g < length lens) → Dec (g ≡ length lens) → 374 * g + 374 ≤ n
           below g e (yes i) d = omega (arith, n-is n lens addrs A)

@@ -29,69 +29,69 @@ use Rattle.fixed_layered.specs.RunMemory.{InRun}
 use Rattle.fixed_layered.specs.Layers.{RunMade}
 
 -- ---- on the memory: the run but for the values of shared variables
-pub record PartMade (sh : ℕ → Bool) (n p lanes : ℕ) (o : ℤ) (index : List ℕ) (first q m : ℕ) (a a′ : List ℤ) : Type 0 where
-  pub fulls : (i : ℕ) → i < lanes → full n (edgesIn p index) lanes a′ i ≡ partFull o (codeIn p index) (stepped first q) sh m (full n (edgesIn p index) lanes a i)
-  pub rest : (i : ℕ) → i < lanes → (u : ℕ) → n + 3 * edgesIn p index ≤ u → column lanes a′ i u ≡ column lanes a i u
+pub record PartMade (sh : ℕ → Bool) (n p lanes : ℕ) (o : ℤ) (lists : List ℕ) (first q m : ℕ) (a a′ : List ℤ) : Type 0 where
+  pub fulls : (i : ℕ) → i < lanes → full n (edgesIn p lists) lanes a′ i ≡ partFull o (codeIn p lists) (stepped first q) sh m (full n (edgesIn p lists) lanes a i)
+  pub rest : (i : ℕ) → i < lanes → (u : ℕ) → n + 3 * edgesIn p lists ≤ u → column lanes a′ i u ≡ column lanes a i u
 
 -- after x checks
-pub record ChecksMade (sh : ℕ → Bool) (n p lanes : ℕ) (o : ℤ) (index : List ℕ) (first q : ℕ) (a : List ℤ) (x : ℕ) (a′ : List ℤ) : Type 0 where
-  pub fulls : (i : ℕ) → i < lanes → full n (edgesIn p index) lanes a′ i ≡ checksFull sh o (codeIn p index) (stepped first q) x (full n (edgesIn p index) lanes a i)
-  pub rest : (i : ℕ) → i < lanes → (u : ℕ) → n + 3 * edgesIn p index ≤ u → column lanes a′ i u ≡ column lanes a i u
+pub record ChecksMade (sh : ℕ → Bool) (n p lanes : ℕ) (o : ℤ) (lists : List ℕ) (first q : ℕ) (a : List ℤ) (x : ℕ) (a′ : List ℤ) : Type 0 where
+  pub fulls : (i : ℕ) → i < lanes → full n (edgesIn p lists) lanes a′ i ≡ checksFull sh o (codeIn p lists) (stepped first q) x (full n (edgesIn p lists) lanes a i)
+  pub rest : (i : ℕ) → i < lanes → (u : ℕ) → n + 3 * edgesIn p lists ≤ u → column lanes a′ i u ≡ column lanes a i u
 
-pub checks-start : (sh : ℕ → Bool) (n p lanes : ℕ) (o : ℤ) (index : List ℕ) (first q : ℕ) (a : List ℤ) → ChecksMade sh n p lanes o index first q a 0 a
+pub checks-start : (sh : ℕ → Bool) (n p lanes : ℕ) (o : ℤ) (lists : List ℕ) (first q : ℕ) (a : List ℤ) → ChecksMade sh n p lanes o lists first q a 0 a
 unfolding checksFull
-checks-start sh n p lanes o index first q a = record { fulls = λ i h. refl; rest = λ i h u k. refl }
+checks-start sh n p lanes o lists first q a = record { fulls = λ i h. refl; rest = λ i h u k. refl }
 
-module _ {sh : ℕ → Bool} {n p lanes : ℕ} {o : ℤ} {index : List ℕ} {first q : ℕ} {a : List ℤ} where
-  pub checks-again : {x s d pl : ℕ} {a′ a″ : List ℤ} → stepped first q x < p → s ≡ getD index (stepped first q x) 0 → s + d ≡ getD index (stepped first q x + 1) 0
-      → pl ≡ placeOf (codeIn p index) (stepped first q) x → pl + d ≤ edgesIn p index
-      → ChecksMade sh n p lanes o index first q a x a′ → Checked sh (rowsIn p index) s d n lanes pl o a′ a″ → ChecksMade sh n p lanes o index first q a (x + 1) a″
+module _ {sh : ℕ → Bool} {n p lanes : ℕ} {o : ℤ} {lists : List ℕ} {first q : ℕ} {a : List ℤ} where
+  pub checks-again : {x s d pl : ℕ} {a′ a″ : List ℤ} → stepped first q x < p → s ≡ getD lists (stepped first q x) 0 → s + d ≡ getD lists (stepped first q x + 1) 0
+      → pl ≡ placeOf (codeIn p lists) (stepped first q) x → pl + d ≤ edgesIn p lists
+      → ChecksMade sh n p lanes o lists first q a x a′ → Checked sh (rowsIn p lists) s d n lanes pl o a′ a″ → ChecksMade sh n p lanes o lists first q a (x + 1) a″
   unfolding checksFull
   checks-again {x} {s} {d} {pl} {a′} {a″} h e f g room v k =
-      subst (λ (j : ℕ). ChecksMade sh n p lanes o index first q a j a″) (sym (add-one x))
+      subst (λ (j : ℕ). ChecksMade sh n p lanes o lists first q a j a″) (sym (add-one x))
       (record {
         fulls =
             λ i b. let w = v .fulls i b in
             λ j. record {
-              word = (k .words i b ∙ (λ l. checkUnless sh o (var (rowsIn p index)) (S l) (D l) (w l .word))) j;
+              word = (k .words i b ∙ (λ l. checkUnless sh o (var (rowsIn p lists)) (S l) (D l) (w l .word))) j;
               t =
-                  (within-wrote (edgesIn p index) pl d _ (λ e. column lanes a′ i (n + edgesIn p index + e)) (λ e. column lanes a″ i (n + edgesIn p index + e)) room (k .t-rows i b)
-                  ∙ (λ l. wrote (λ k. g l + k) (tOf (var (rowsIn p index)) (S l) (w l .word .L) (w l .word .r)) (w l .t) (D l)))
+                  (within-wrote (edgesIn p lists) pl d _ (λ e. column lanes a′ i (n + edgesIn p lists + e)) (λ e. column lanes a″ i (n + edgesIn p lists + e)) room (k .t-rows i b)
+                  ∙ (λ l. wrote (λ k. g l + k) (tOf (var (rowsIn p lists)) (S l) (w l .word .L) (w l .word .r)) (w l .t) (D l)))
                   j;
               old =
-                  (within-wrote (edgesIn p index) pl d _ (λ e. column lanes a′ i (n + 2 * edgesIn p index + e)) (λ e. column lanes a″ i (n + 2 * edgesIn p index + e)) room (k .old-rows i b)
+                  (within-wrote (edgesIn p lists) pl d _ (λ e. column lanes a′ i (n + 2 * edgesIn p lists + e)) (λ e. column lanes a″ i (n + 2 * edgesIn p lists + e)) room (k .old-rows i b)
                   ∙ (λ l. wrote (λ k. g l + k) (λ k. w l .word .r (S l + k)) (w l .old) (D l)))
                   j;
             };
         rest = λ i b u r. k .rest i b u r ∙ v .rest i b u r;
       })
     where
-      S : s ≡ codeIn p index .row-start (stepped first q x)
-      S = e ∙ sym (start-in p index (stepped first q x) (omega arith))
+      S : s ≡ codeIn p lists .row-start (stepped first q x)
+      S = e ∙ sym (start-in p lists (stepped first q x) (omega arith))
 
-      D : d ≡ degree (codeIn p index) (stepped first q x)
-      D = sym (degree-in p index (stepped first q x) s d h e f)
+      D : d ≡ degree (codeIn p lists) (stepped first q x)
+      D = sym (degree-in p lists (stepped first q x) s d h e f)
 
   -- the run but for the values of shared variables
-  pub checks-end : {x m : ℕ} {a′ : List ℤ} {o′ : ℤ} → o ≡ o′ → x ≡ m → InRun n p lanes first q m index a → ((v : ℕ) → sh v ≡ false → Once (codeIn p index) (stepped first q) m v)
-      → ChecksMade sh n p lanes o index first q a x a′
-      → PartMade sh n p lanes o′ index first q m a a′
+  pub checks-end : {x m : ℕ} {a′ : List ℤ} {o′ : ℤ} → o ≡ o′ → x ≡ m → InRun n p lanes first q m lists a → ((v : ℕ) → sh v ≡ false → Once (codeIn p lists) (stepped first q) m v)
+      → ChecksMade sh n p lanes o lists first q a x a′
+      → PartMade sh n p lanes o′ lists first q m a a′
   checks-end {x} {m} {a′} {o′} e f r once v =
-      subst (λ (z : ℤ). PartMade sh n p lanes z index first q m a a′) e
+      subst (λ (z : ℤ). PartMade sh n p lanes z lists first q m a a′) e
       (record {
         fulls =
-            λ i h. v .fulls i h ∙ ap (λ (j : ℕ). checksFull sh o (codeIn p index) (stepped first q) j (full n (edgesIn p index) lanes a i)) f
-            ∙ checks-run o (codeIn p index) (stepped first q) m (edgesIn p index) n (order (r .memory .lists) first q m (r .step) (r .inside)) sh once (full n (edgesIn p index) lanes a i);
+            λ i h. v .fulls i h ∙ ap (λ (j : ℕ). checksFull sh o (codeIn p lists) (stepped first q) j (full n (edgesIn p lists) lanes a i)) f
+            ∙ checks-run o (codeIn p lists) (stepped first q) m (edgesIn p lists) n (order (r .memory .lists) first q m (r .step) (r .inside)) sh once (full n (edgesIn p lists) lanes a i);
         rest = v .rest;
       })
 
-pub turn-made : {n p lanes : ℕ} {o : ℤ} {index : List ℕ} {first q m : ℕ} {a a′ : List ℤ} → InRun n p lanes first q m index a → ((v : ℕ) → Once (codeIn p index) (stepped first q) m v)
-    → InTurn n p lanes o index first q a m a′ → RunMade n p lanes o index first q m a a′
-turn-made {n} {p} {lanes} {o} {index} {first} {q} {m} {a} {a′} r once v =
+pub turn-made : {n p lanes : ℕ} {o : ℤ} {lists : List ℕ} {first q m : ℕ} {a a′ : List ℤ} → InRun n p lanes first q m lists a → ((v : ℕ) → Once (codeIn p lists) (stepped first q) m v)
+    → InTurn n p lanes o lists first q a m a′ → RunMade n p lanes o lists first q m a a′
+turn-made {n} {p} {lanes} {o} {lists} {first} {q} {m} {a} {a′} r once v =
     record {
       words =
           λ i h. v .words i h
-          ∙ in-turn-run o (codeIn p index) (stepped first q) m (edgesIn p index) n (order (r .memory .lists) first q m (r .step) (r .inside)) once (word n (edgesIn p index) lanes a i);
+          ∙ in-turn-run o (codeIn p lists) (stepped first q) m (edgesIn p lists) n (order (r .memory .lists) first q m (r .step) (r .inside)) once (word n (edgesIn p lists) lanes a i);
       rest = λ i h u k. v .rest i h u (omega (arith, k));
     }
 
@@ -136,17 +136,17 @@ behind-zero : (n E : ℕ) (f : ℕ → ℤ) (u : ℕ) → n ≤ u → wordOf n E
 unfolding wordOf within
 behind-zero n E f u h = ap (λ (b : Bool). cond b (f u) (pos 0)) (le-ltb u n h)
 
-pub run-law : {n p lanes : ℕ} {o : ℤ} {index : List ℕ} {first q m : ℕ} {flags : List Bool} {a b a′ : List ℤ} → InRun n p lanes first q m index a
+pub run-law : {n p lanes : ℕ} {o : ℤ} {lists : List ℕ} {first q m : ℕ} {flags : List Bool} {a b a′ : List ℤ} → InRun n p lanes first q m lists a
     → ((g : ℕ) → getD flags g false ≡ true → 374 * g + 374 ≤ n)
-    → PartMade (sharedIn flags) n p lanes o index first q m a b → Written n (edgesIn p index) (codeIn p index) (stepped first q) m lanes flags b 120 a′ → RunMade n p lanes o index first q m a a′
-run-law {n} {p} {lanes} {o} {index} {first} {q} {m} {flags} {a} {b} {a′} r low s k =
+    → PartMade (sharedIn flags) n p lanes o lists first q m a b → Written n (edgesIn p lists) (codeIn p lists) (stepped first q) m lanes flags b 120 a′ → RunMade n p lanes o lists first q m a a′
+run-law {n} {p} {lanes} {o} {lists} {first} {q} {m} {flags} {a} {b} {a′} r low s k =
     record {
       words =
-          λ i h. made flags o (column lanes b i) (column lanes a′ i) (full n (edgesIn p index) lanes a i) (order (r .memory .lists) first q m (r .step) (r .inside)) (r .few-bits) low (s .fulls i h)
-          (behind-zero n (edgesIn p index) (column lanes a i)) (λ u l e. k .done i u h l e) (λ u l. k .still i u h l);
+          λ i h. made flags o (column lanes b i) (column lanes a′ i) (full n (edgesIn p lists) lanes a i) (order (r .memory .lists) first q m (r .step) (r .inside)) (r .few-bits) low (s .fulls i h)
+          (behind-zero n (edgesIn p lists) (column lanes a i)) (λ u l e. k .done i u h l e) (λ u l. k .still i u h l);
       rest = λ i h u l. k .still i u h (λ y. go u l (sharedIn flags u) refl) ∙ s .rest i h u l;
     }
   where
-    go : (u : ℕ) → n + 3 * edgesIn p index ≤ u → (b : Bool) → sharedIn flags u ≡ b → b ≡ false
+    go : (u : ℕ) → n + 3 * edgesIn p lists ≤ u → (b : Bool) → sharedIn flags u ≡ b → b ≡ false
     go u l false e = refl
     go u l true e = absurd (omega (arith, low (u / 374) e))

@@ -20,33 +20,33 @@ use Rattle.fixed_layered.specs.RunMemory.{InRun}
 use Rattle.fixed_layered.specs.Rows.{InRow, Grouped, part-in}
 
 -- ---- one run. What the rows of t and of old messages hold is left to the program; all behind them is as it was.
-pub record RunMade (n p lanes : ℕ) (o : ℤ) (index : List ℕ) (first q m : ℕ) (a a′ : List ℤ) : Type 0 where
-  pub words : (i : ℕ) → i < lanes → word n (edgesIn p index) lanes a′ i ≡ run o (codeIn p index) (stepped first q) m (word n (edgesIn p index) lanes a i)
-  pub rest : (i : ℕ) → i < lanes → (u : ℕ) → n + 3 * edgesIn p index ≤ u → column lanes a′ i u ≡ column lanes a i u
+pub record RunMade (n p lanes : ℕ) (o : ℤ) (lists : List ℕ) (first q m : ℕ) (a a′ : List ℤ) : Type 0 where
+  pub words : (i : ℕ) → i < lanes → word n (edgesIn p lists) lanes a′ i ≡ run o (codeIn p lists) (stepped first q) m (word n (edgesIn p lists) lanes a i)
+  pub rest : (i : ℕ) → i < lanes → (u : ℕ) → n + 3 * edgesIn p lists ≤ u → column lanes a′ i u ≡ column lanes a i u
 
-pub run-offset : {n p lanes : ℕ} {o o′ : ℤ} {index : List ℕ} {first q m : ℕ} {a a′ : List ℤ} → o ≡ o′ → RunMade n p lanes o index first q m a a′ → RunMade n p lanes o′ index first q m a a′
-run-offset {n} {p} {lanes} {o} {o′} {index} {first} {q} {m} {a} {a′} e v = subst (λ (z : ℤ). RunMade n p lanes z index first q m a a′) e v
+pub run-offset : {n p lanes : ℕ} {o o′ : ℤ} {lists : List ℕ} {first q m : ℕ} {a a′ : List ℤ} → o ≡ o′ → RunMade n p lanes o lists first q m a a′ → RunMade n p lanes o′ lists first q m a a′
+run-offset {n} {p} {lanes} {o} {o′} {lists} {first} {q} {m} {a} {a′} e v = subst (λ (z : ℤ). RunMade n p lanes z lists first q m a a′) e v
 
 -- ---- the first j runs of layer l
-pub record RunsMade (n p lanes : ℕ) (o : ℤ) (index : List ℕ) (q s l : ℕ) (a : List ℤ) (j : ℕ) (a′ : List ℤ) : Type 0 where
-  pub words : (i : ℕ) → i < lanes → word n (edgesIn p index) lanes a′ i ≡ runs o (codeIn p index) q s l j (word n (edgesIn p index) lanes a i)
-  pub rest : (i : ℕ) → i < lanes → (u : ℕ) → n + 3 * edgesIn p index ≤ u → column lanes a′ i u ≡ column lanes a i u
+pub record RunsMade (n p lanes : ℕ) (o : ℤ) (lists : List ℕ) (q s l : ℕ) (a : List ℤ) (j : ℕ) (a′ : List ℤ) : Type 0 where
+  pub words : (i : ℕ) → i < lanes → word n (edgesIn p lists) lanes a′ i ≡ runs o (codeIn p lists) q s l j (word n (edgesIn p lists) lanes a i)
+  pub rest : (i : ℕ) → i < lanes → (u : ℕ) → n + 3 * edgesIn p lists ≤ u → column lanes a′ i u ≡ column lanes a i u
 
-pub runs-start : (n p lanes : ℕ) (o : ℤ) (index : List ℕ) (q s l : ℕ) (a : List ℤ) → RunsMade n p lanes o index q s l a 0 a
+pub runs-start : (n p lanes : ℕ) (o : ℤ) (lists : List ℕ) (q s l : ℕ) (a : List ℤ) → RunsMade n p lanes o lists q s l a 0 a
 unfolding runs
-runs-start n p lanes o index q s l a = record { words = λ i h. refl; rest = λ i h u k. refl }
+runs-start n p lanes o lists q s l a = record { words = λ i h. refl; rest = λ i h u k. refl }
 
 same-checks : (q s l j at : ℕ) → at ≡ j * s → stepped (l + at * q) q ≡ inRun q s l j
 same-checks q s l j at e =
     λ i x. (let z : at * q ≡ j * s * q = ap (λ (y : ℕ). y * q) e in let k : l + at * q + x * q ≡ l + (j * s + x) * q = omega arith in k) i
 
-pub runs-again : {n p lanes : ℕ} {o : ℤ} {index : List ℕ} {q s l : ℕ} {a a′ a″ : List ℤ} {j at m : ℕ} → at ≡ j * s → m ≡ min s (374 - at) → RunsMade n p lanes o index q s l a j a′
-    → RunMade n p lanes o index (l + at * q) q m a′ a″ → RunsMade n p lanes o index q s l a (j + 1) a″
+pub runs-again : {n p lanes : ℕ} {o : ℤ} {lists : List ℕ} {q s l : ℕ} {a a′ a″ : List ℤ} {j at m : ℕ} → at ≡ j * s → m ≡ min s (374 - at) → RunsMade n p lanes o lists q s l a j a′
+    → RunMade n p lanes o lists (l + at * q) q m a′ a″ → RunsMade n p lanes o lists q s l a (j + 1) a″
 unfolding runs
-runs-again {n} {p} {lanes} {o} {index} {q} {s} {l} {a} {a′} {a″} {j} {at} {m} e f v k =
-    subst (λ (y : ℕ). RunsMade n p lanes o index q s l a y a″) (sym (add-one j))
+runs-again {n} {p} {lanes} {o} {lists} {q} {s} {l} {a} {a′} {a″} {j} {at} {m} e f v k =
+    subst (λ (y : ℕ). RunsMade n p lanes o lists q s l a y a″) (sym (add-one j))
     (record {
-      words = λ i h. k .words i h ∙ (λ y. run o (codeIn p index) (same-checks q s l j at e y) ((f ∙ ap (λ (z : ℕ). min s (374 - z)) e) y) (v .words i h y));
+      words = λ i h. k .words i h ∙ (λ y. run o (codeIn p lists) (same-checks q s l j at e y) ((f ∙ ap (λ (z : ℕ). min s (374 - z)) e) y) (v .words i h y));
       rest = λ i h u r. k .rest i h u r ∙ v .rest i h u r;
     })
 
@@ -56,51 +56,51 @@ count-is s j h a b =
     let e : 373 + s ≡ (373 + s - j * s) + j * s = omega arith in
     sym (ap (λ (z : ℕ). z / s) e ∙ add-mul-div-right (373 + s - j * s) j h ∙ (let y : 373 + s - j * s < s = omega arith in let z = div-eq-of-lt y in omega arith))
 
-pub runs-end : {n p lanes : ℕ} {o o′ : ℤ} {index : List ℕ} {q s l : ℕ} {a a′ : List ℤ} {j at : ℕ} → o ≡ o′ → 0 < s → at ≡ j * s → 374 ≤ at → at < 374 + s → RunsMade n p lanes o index q s l a j a′
-    → RunsMade n p lanes o′ index q s l a (runCount s) a′
-runs-end {n} {p} {lanes} {o} {o′} {index} {q} {s} {l} {a} {a′} {j} {at} g h e b c v =
-    subst (λ (y : ℕ). RunsMade n p lanes o′ index q s l a y a′) (count-is s j h (omega arith) (omega arith))
-    (subst (λ (z : ℤ). RunsMade n p lanes z index q s l a j a′) g v)
+pub runs-end : {n p lanes : ℕ} {o o′ : ℤ} {lists : List ℕ} {q s l : ℕ} {a a′ : List ℤ} {j at : ℕ} → o ≡ o′ → 0 < s → at ≡ j * s → 374 ≤ at → at < 374 + s → RunsMade n p lanes o lists q s l a j a′
+    → RunsMade n p lanes o′ lists q s l a (runCount s) a′
+runs-end {n} {p} {lanes} {o} {o′} {lists} {q} {s} {l} {a} {a′} {j} {at} g h e b c v =
+    subst (λ (y : ℕ). RunsMade n p lanes o′ lists q s l a y a′) (count-is s j h (omega arith) (omega arith))
+    (subst (λ (z : ℤ). RunsMade n p lanes z lists q s l a j a′) g v)
 
 -- ---- the first l layers
-pub record LayersMade (n p lanes : ℕ) (o : ℤ) (index : List ℕ) (q s : ℕ) (a : List ℤ) (l : ℕ) (a′ : List ℤ) : Type 0 where
-  pub words : (i : ℕ) → i < lanes → word n (edgesIn p index) lanes a′ i ≡ layers o (codeIn p index) q s l (word n (edgesIn p index) lanes a i)
-  pub rest : (i : ℕ) → i < lanes → (u : ℕ) → n + 3 * edgesIn p index ≤ u → column lanes a′ i u ≡ column lanes a i u
+pub record LayersMade (n p lanes : ℕ) (o : ℤ) (lists : List ℕ) (q s : ℕ) (a : List ℤ) (l : ℕ) (a′ : List ℤ) : Type 0 where
+  pub words : (i : ℕ) → i < lanes → word n (edgesIn p lists) lanes a′ i ≡ layers o (codeIn p lists) q s l (word n (edgesIn p lists) lanes a i)
+  pub rest : (i : ℕ) → i < lanes → (u : ℕ) → n + 3 * edgesIn p lists ≤ u → column lanes a′ i u ≡ column lanes a i u
 
-pub layers-start : (n p lanes : ℕ) (o : ℤ) (index : List ℕ) (q s : ℕ) (a : List ℤ) → LayersMade n p lanes o index q s a 0 a
+pub layers-start : (n p lanes : ℕ) (o : ℤ) (lists : List ℕ) (q s : ℕ) (a : List ℤ) → LayersMade n p lanes o lists q s a 0 a
 unfolding layers
-layers-start n p lanes o index q s a = record { words = λ i h. refl; rest = λ i h u k. refl }
+layers-start n p lanes o lists q s a = record { words = λ i h. refl; rest = λ i h u k. refl }
 
-pub layers-again : {n p lanes : ℕ} {o : ℤ} {index : List ℕ} {q s : ℕ} {a a′ a″ : List ℤ} {l : ℕ} → LayersMade n p lanes o index q s a l a′ → RunsMade n p lanes o index q s l a′ (runCount s) a″
-    → LayersMade n p lanes o index q s a (l + 1) a″
+pub layers-again : {n p lanes : ℕ} {o : ℤ} {lists : List ℕ} {q s : ℕ} {a a′ a″ : List ℤ} {l : ℕ} → LayersMade n p lanes o lists q s a l a′ → RunsMade n p lanes o lists q s l a′ (runCount s) a″
+    → LayersMade n p lanes o lists q s a (l + 1) a″
 unfolding layers
-layers-again {n} {p} {lanes} {o} {index} {q} {s} {a} {a′} {a″} {l} v k =
-    subst (λ (y : ℕ). LayersMade n p lanes o index q s a y a″) (sym (add-one l))
+layers-again {n} {p} {lanes} {o} {lists} {q} {s} {a} {a′} {a″} {l} v k =
+    subst (λ (y : ℕ). LayersMade n p lanes o lists q s a y a″) (sym (add-one l))
     (record {
-      words = λ i h. k .words i h ∙ ap (runs o (codeIn p index) q s l (runCount s)) (v .words i h);
+      words = λ i h. k .words i h ∙ ap (runs o (codeIn p lists) q s l (runCount s)) (v .words i h);
       rest = λ i h u r. k .rest i h u r ∙ v .rest i h u r;
     })
 
-pub layers-end : {n p lanes : ℕ} {o o′ : ℤ} {index : List ℕ} {q s : ℕ} {a a′ : List ℤ} {l : ℕ} → o ≡ o′ → l ≡ q → LayersMade n p lanes o index q s a l a′ → LayersMade n p lanes o′ index q s a q a′
-layers-end {n} {p} {lanes} {o} {o′} {index} {q} {s} {a} {a′} {l} g e v =
-    subst (λ (y : ℕ). LayersMade n p lanes o′ index q s a y a′) e (subst (λ (z : ℤ). LayersMade n p lanes z index q s a l a′) g v)
+pub layers-end : {n p lanes : ℕ} {o o′ : ℤ} {lists : List ℕ} {q s : ℕ} {a a′ : List ℤ} {l : ℕ} → o ≡ o′ → l ≡ q → LayersMade n p lanes o lists q s a l a′ → LayersMade n p lanes o′ lists q s a q a′
+layers-end {n} {p} {lanes} {o} {o′} {lists} {q} {s} {a} {a′} {l} g e v =
+    subst (λ (y : ℕ). LayersMade n p lanes o′ lists q s a y a′) e (subst (λ (z : ℤ). LayersMade n p lanes z lists q s a l a′) g v)
 
 -- ---- what a layer's runs may count on
-pub record InLayer (n p lanes q s l : ℕ) (index : List ℕ) (a : List ℤ) : Type 0 where
-  pub memory : Memory n p lanes index a
+pub record InLayer (n p lanes q s l : ℕ) (lists : List ℕ) (a : List ℤ) : Type 0 where
+  pub memory : Memory n p lanes lists a
   pub whole : p ≡ 374 * q
   pub layer : l < q
-  pub few-edges : edgesIn p index ≤ 6000000
+  pub few-edges : edgesIn p lists ≤ 6000000
   pub few-checks : p ≤ 44880
   pub few-bits : n ≤ 44880
   pub step : 0 < s
   pub small-step : s ≤ 4294967295
 
-pub in-layer-to : {n p lanes q s l : ℕ} {index : List ℕ} {a b : List ℤ} → length b ≡ length a → InLayer n p lanes q s l index a → InLayer n p lanes q s l index b
+pub in-layer-to : {n p lanes q s l : ℕ} {lists : List ℕ} {a b : List ℤ} → length b ≡ length a → InLayer n p lanes q s l lists a → InLayer n p lanes q s l lists b
 in-layer-to e r =
     record { memory = memory-to e (r .memory); whole = r .whole; layer = r .layer; few-edges = r .few-edges; few-checks = r .few-checks; few-bits = r .few-bits; step = r .step; small-step = r .small-step }
 
-pub in-run : {n p lanes q s l : ℕ} {index : List ℕ} {a : List ℤ} (at m : ℕ) → at + m ≤ 374 → InLayer n p lanes q s l index a → InRun n p lanes (l + at * q) q m index a
+pub in-run : {n p lanes q s l : ℕ} {lists : List ℕ} {a : List ℤ} (at m : ℕ) → at + m ≤ 374 → InLayer n p lanes q s l lists a → InRun n p lanes (l + at * q) q m lists a
 in-run {n} {p} {lanes} {q} {s} {l} at m h r =
     record {
       memory = r .memory;
@@ -142,20 +142,20 @@ grouped {n} {q} {code} {first} {m} {l} {table} {flags} {from} {upto} g e some v 
     (record { split = λ x k a b. v .split g e x k a b; begins = λ x a. v .fits g e x a .0; rises = v .fits g e 0 some .1 }))
 
 -- the row's edges in check x: from `from` up to `end` of its d
-pub record RowPart (n p lanes first q base from upto x s d end : ℕ) (index rows : List ℕ) (a : List ℤ) : Type 0 where
+pub record RowPart (n p lanes first q base from upto x s d end : ℕ) (lists rows : List ℕ) (a : List ℤ) : Type 0 where
   pub up : end ≤ upto
-  pub most : end ≤ degree (codeIn p index) (stepped first q x)
+  pub most : end ≤ degree (codeIn p lists) (stepped first q x)
   pub least : from ≤ end
-  pub all : end < upto → end ≡ degree (codeIn p index) (stepped first q x)
+  pub all : end < upto → end ≡ degree (codeIn p lists) (stepped first q x)
   pub below : end ≤ d
-  pub start-is : s ≡ codeIn p index .row-start (stepped first q x)
+  pub start-is : s ≡ codeIn p lists .row-start (stepped first q x)
   pub part-room : CheckMemory rows (s + from) (end - from) n lanes a
   pub in-row : InRow (var rows) base (s + from) (end - from)
 
-pub row-part : {n p lanes first q m base from upto x s d end : ℕ} {index rows : List ℕ} {a : List ℤ} → InRun n p lanes first q m index a → rows ≡ rowsIn p index
-    → Grouped (codeIn p index) (stepped first q) m base from upto → x < m
-    → s ≡ getD index (stepped first q x) 0 → s + d ≡ getD index (stepped first q x + 1) 0 → end ≡ min upto d → RowPart n p lanes first q base from upto x s d end index rows a
-row-part {n} {p} {lanes} {first} {q} {m} {base} {from} {upto} {x} {s} {d} {end} {index} {rows} {a} r same g h e f ends =
+pub row-part : {n p lanes first q m base from upto x s d end : ℕ} {lists rows : List ℕ} {a : List ℤ} → InRun n p lanes first q m lists a → rows ≡ rowsIn p lists
+    → Grouped (codeIn p lists) (stepped first q) m base from upto → x < m
+    → s ≡ getD lists (stepped first q x) 0 → s + d ≡ getD lists (stepped first q x + 1) 0 → end ≡ min upto d → RowPart n p lanes first q base from upto x s d end lists rows a
+row-part {n} {p} {lanes} {first} {q} {m} {base} {from} {upto} {x} {s} {d} {end} {lists} {rows} {a} r same g h e f ends =
     record {
       up = omega arith;
       most = omega (arith, D);
@@ -176,19 +176,19 @@ row-part {n} {p} {lanes} {first} {q} {m} {base} {from} {upto} {x} {s} {d} {end} 
           });
       in-row =
           subst (λ (l : List ℕ). InRow (var l) base (s + from) (end - from)) (sym same)
-          (subst (λ (y : ℕ). InRow (codeIn p index .rows) base (y + from) (end - from)) (sym S)
-          (part-in g n (edgesIn p index) h end (omega arith) (omega (arith, D)) (omega (arith, D, g .rises, g .begins x h)) (λ k. omega (arith, D))));
+          (subst (λ (y : ℕ). InRow (codeIn p lists .rows) base (y + from) (end - from)) (sym S)
+          (part-in g n (edgesIn p lists) h end (omega arith) (omega (arith, D)) (omega (arith, D, g .rises, g .begins x h)) (λ k. omega (arith, D))));
     }
   where
-    S : s ≡ codeIn p index .row-start (stepped first q x)
-    S = e ∙ sym (start-in p index (stepped first q x) (omega (arith, r .inside x h)))
+    S : s ≡ codeIn p lists .row-start (stepped first q x)
+    S = e ∙ sym (start-in p lists (stepped first q x) (omega (arith, r .inside x h)))
 
-    D : degree (codeIn p index) (stepped first q x) ≡ d
-    D = degree-in p index (stepped first q x) s d (r .inside x h) e f
+    D : degree (codeIn p lists) (stepped first q x) ≡ d
+    D = degree-in p lists (stepped first q x) s d (r .inside x h) e f
 
 -- ---- what the layers count on of the table: the flags that are set by it say which rows share
-pub record Sharing (n p q rows : ℕ) (index table : List ℕ) : Type 0 where
+pub record Sharing (n p q rows : ℕ) (lists table : List ℕ) : Type 0 where
   pub long : length table ≡ spansLength
   pub few-rows : rows ≤ 119
   pub few-layers : q ≤ 120
-  pub shares : (l : ℕ) → l < q → (flags : List Bool) (any : Bool) → Flagged table rows q l rows flags any → Shares n q (codeIn p index) l 374 l table flags
+  pub shares : (l : ℕ) → l < q → (flags : List Bool) (any : Bool) → Flagged table rows q l rows flags any → Shares n q (codeIn p lists) l 374 l table flags

@@ -16,19 +16,19 @@ use Rattle.iteration.specs.Once.{stepped}
 use Rattle.fixed_layered.specs.Order.{place-ends}
 
 -- the run's checks are checks; E is small enough for sums of 32 bits
-pub record InRun (n p lanes first q m : ℕ) (index : List ℕ) (a : List ℤ) : Type 0 where
-  pub memory : Memory n p lanes index a
+pub record InRun (n p lanes first q m : ℕ) (lists : List ℕ) (a : List ℤ) : Type 0 where
+  pub memory : Memory n p lanes lists a
   pub inside : (x : ℕ) → x < m → stepped first q x < p
   pub step : 0 < q
-  pub few-edges : edgesIn p index ≤ 6000000
+  pub few-edges : edgesIn p lists ≤ 6000000
   pub few-checks : p ≤ 44880
   pub few-bits : n ≤ 44880
 
-pub in-run-to : {n p lanes first q m : ℕ} {index : List ℕ} {a b : List ℤ} → length b ≡ length a → InRun n p lanes first q m index a → InRun n p lanes first q m index b
+pub in-run-to : {n p lanes first q m : ℕ} {lists : List ℕ} {a b : List ℤ} → length b ≡ length a → InRun n p lanes first q m lists a → InRun n p lanes first q m lists b
 in-run-to e r = record { memory = memory-to e (r .memory); inside = r .inside; step = r .step; few-edges = r .few-edges; few-checks = r .few-checks; few-bits = r .few-bits }
 
 -- a run has few checks
-pub few-turns : {n p lanes first q m : ℕ} {index : List ℕ} {a : List ℤ} (x : ℕ) → InRun n p lanes first q m index a → x < m → x < 44880
+pub few-turns : {n p lanes first q m : ℕ} {lists : List ℕ} {a : List ℤ} (x : ℕ) → InRun n p lanes first q m lists a → x < m → x < 44880
 few-turns {n} {p} {lanes} {first} {q} x r h = let z : x * 1 ≤ x * q = mul-le-mul-left x (r .step) in omega (arith, r .inside x h, r .few-checks)
 
 -- one edge of a check
@@ -44,17 +44,17 @@ edge-room k h r =
     }
 
 -- the place of the check behind
-pub place-next : (p : ℕ) (index : List ℕ) (first q x pl s d : ℕ) → stepped first q x < p → s ≡ getD index (stepped first q x) 0 → s + d ≡ getD index (stepped first q x + 1) 0
-    → pl ≡ placeOf (codeIn p index) (stepped first q) x → pl + d ≡ placeOf (codeIn p index) (stepped first q) (x + 1)
+pub place-next : (p : ℕ) (lists : List ℕ) (first q x pl s d : ℕ) → stepped first q x < p → s ≡ getD lists (stepped first q x) 0 → s + d ≡ getD lists (stepped first q x + 1) 0
+    → pl ≡ placeOf (codeIn p lists) (stepped first q) x → pl + d ≡ placeOf (codeIn p lists) (stepped first q) (x + 1)
 unfolding placeOf
-place-next p index first q x pl s d h e f g = omega (arith, ap (placeOf (codeIn p index) (stepped first q)) (add-one x), degree-in p index (stepped first q x) s d h e f)
+place-next p lists first q x pl s d h e f g = omega (arith, ap (placeOf (codeIn p lists) (stepped first q)) (add-one x), degree-in p lists (stepped first q x) s d h e f)
 
-pub place-first : (p : ℕ) (index : List ℕ) (first q : ℕ) → 0 ≡ placeOf (codeIn p index) (stepped first q) 0
+pub place-first : (p : ℕ) (lists : List ℕ) (first q : ℕ) → 0 ≡ placeOf (codeIn p lists) (stepped first q) 0
 unfolding placeOf
-place-first p index first q = refl
+place-first p lists first q = refl
 
 -- a check's edges are inside, from its place on
-pub place-room : {n p lanes first q m : ℕ} {index : List ℕ} {a : List ℤ} (x pl s d : ℕ) → InRun n p lanes first q m index a → x < m → s ≡ getD index (stepped first q x) 0
-    → s + d ≡ getD index (stepped first q x + 1) 0 → pl ≡ placeOf (codeIn p index) (stepped first q) x → pl + d ≤ edgesIn p index
-place-room {n} {p} {lanes} {first} {q} {m} {index} x pl s d r h e f g =
-    omega (arith, place-ends (order (r .memory .lists) first q m (r .step) (r .inside)) x h, degree-in p index (stepped first q x) s d (r .inside x h) e f)
+pub place-room : {n p lanes first q m : ℕ} {lists : List ℕ} {a : List ℤ} (x pl s d : ℕ) → InRun n p lanes first q m lists a → x < m → s ≡ getD lists (stepped first q x) 0
+    → s + d ≡ getD lists (stepped first q x + 1) 0 → pl ≡ placeOf (codeIn p lists) (stepped first q) x → pl + d ≤ edgesIn p lists
+place-room {n} {p} {lanes} {first} {q} {m} {lists} x pl s d r h e f g =
+    omega (arith, place-ends (order (r .memory .lists) first q m (r .step) (r .inside)) x h, degree-in p lists (stepped first q x) s d (r .inside x h) e f)

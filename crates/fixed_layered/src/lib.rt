@@ -1,5 +1,5 @@
 // One iteration of the layered schedule on interleaved memory, for every lane count.
-// `index` holds the code's lists (fixed_code), `rows` its second part; `work` n + 3E rows with stride `lanes` (simd).
+// `lists` are the code's (fixed_code), `rows` its second part; `work` n + 3E rows with stride `lanes` (simd).
 // A run's checks are first + x * q, x below m; the t and old messages of its edges stand one check after the other.
 // In a layer in which variables can have several edges (fixed_conflicts), a run first leaves their values. Then row after row of 374 variables
 // is gathered into `sums`, 374 times `lanes` of them, and settled.
@@ -198,19 +198,19 @@ fn gather_check(
 fn gather_row(
     sums: &mut [i32],
     seen: &mut [bool],
-    index: &[u32],
+    lists: &[u32],
     rows: &[u32],
     work: &[i8],
     row: RowSpan,
     of: Pass,
     run: CheckRun,
 )
-    requires { ⌜ InRun (of .n) (of .p) (of .lanes) (run .first) (of .q) (run .m) (now index) (now work) × (now rows ≡ rowsIn (of .p) (now index)) ⌝ }
-    requires { ⌜ Grouped (codeIn (of .p) (now index)) (stepped (run .first) (of .q)) (run .m) (row .base) (row .from) (row .upto) ⌝ }
+    requires { ⌜ InRun (of .n) (of .p) (of .lanes) (run .first) (of .q) (run .m) (now lists) (now work) × (now rows ≡ rowsIn (of .p) (now lists)) ⌝ }
+    requires { ⌜ Grouped (codeIn (of .p) (now lists)) (stepped (run .first) (of .q)) (run .m) (row .base) (row .from) (row .upto) ⌝ }
     requires { ⌜ (374 * of .lanes ≤ length (now sums)) × ((length (now seen) ≡ 374) × ((j : ℕ) → getD (now seen) j false ≡ false)) ⌝ }
     ensures { λ _. ⌜
-        Gathers (of .lanes) (placeOf (codeIn (of .p) (now (index .entry))) (stepped (run .first) (of .q)) (run .m))
-        (runSum (of .n) (edgesIn (of .p) (now (index .entry))) (codeIn (of .p) (now (index .entry))) (stepped (run .first) (of .q)) (row .base) (of .lanes) (now (work .entry)) (run .m))
+        Gathers (of .lanes) (placeOf (codeIn (of .p) (now (lists .entry))) (stepped (run .first) (of .q)) (run .m))
+        (runSum (of .n) (edgesIn (of .p) (now (lists .entry))) (codeIn (of .p) (now (lists .entry))) (stepped (run .first) (of .q)) (row .base) (of .lanes) (now (work .entry)) (run .m))
         (now (seen .exit)) (now (sums .exit))
         ⌝ }
 {
@@ -227,8 +227,8 @@ fn gather_row(
     let mut x: usize = 0;
     while x < m {
         let c = first + x * q;
-        let s = fixed_code::start(index, c);
-        let d = fixed_code::degree(index, n, p, c);
+        let s = fixed_code::start(lists, c);
+        let d = fixed_code::degree(lists, n, p, c);
         let end = least(upto, d);
         gather_check(
             sums,
@@ -274,16 +274,16 @@ fn settle_check(
 fn settle_row(
     work: &mut [i8],
     sums: &[i32],
-    index: &[u32],
+    lists: &[u32],
     rows: &[u32],
     row: RowSpan,
     of: Pass,
     run: CheckRun,
 )
-    requires { ⌜ InRun (of .n) (of .p) (of .lanes) (run .first) (of .q) (run .m) (now index) (now work) × (now rows ≡ rowsIn (of .p) (now index)) ⌝ }
-    requires { ⌜ Grouped (codeIn (of .p) (now index)) (stepped (run .first) (of .q)) (run .m) (row .base) (row .from) (row .upto) × (374 * of .lanes ≤ length (now sums)) ⌝ }
+    requires { ⌜ InRun (of .n) (of .p) (of .lanes) (run .first) (of .q) (run .m) (now lists) (now work) × (now rows ≡ rowsIn (of .p) (now lists)) ⌝ }
+    requires { ⌜ Grouped (codeIn (of .p) (now lists)) (stepped (run .first) (of .q)) (run .m) (row .base) (row .from) (row .upto) × (374 * of .lanes ≤ length (now sums)) ⌝ }
     ensures { λ _. ⌜
-        RowSettled (of .n) (edgesIn (of .p) (now (index .entry))) (codeIn (of .p) (now (index .entry))) (stepped (run .first) (of .q)) (row .base) (of .lanes) (now (sums .entry))
+        RowSettled (of .n) (edgesIn (of .p) (now (lists .entry))) (codeIn (of .p) (now (lists .entry))) (stepped (run .first) (of .q)) (row .base) (of .lanes) (now (sums .entry))
         (now (work .entry)) (run .m) (now (work .exit))
         ⌝ }
 {
@@ -299,8 +299,8 @@ fn settle_row(
     let mut x: usize = 0;
     while x < m {
         let c = first + x * q;
-        let s = fixed_code::start(index, c);
-        let d = fixed_code::degree(index, n, p, c);
+        let s = fixed_code::start(lists, c);
+        let d = fixed_code::degree(lists, n, p, c);
         let end = least(upto, d);
         settle_check(work, sums, rows, base, s + from, end - from, n, lanes);
         x += 1;
@@ -311,7 +311,7 @@ fn settle_row(
 fn write_row(
     work: &mut [i8],
     sums: &mut [i32],
-    index: &[u32],
+    lists: &[u32],
     rows: &[u32],
     table: &[u8],
     flags: &[bool; 120],
@@ -319,11 +319,11 @@ fn write_row(
     of: Pass,
     run: CheckRun,
 )
-    requires { ⌜ InRun (of .n) (of .p) (of .lanes) (run .first) (of .q) (run .m) (now index) (now work) × (now rows ≡ rowsIn (of .p) (now index)) ⌝ }
-    requires { ⌜ Shares (of .n) (of .q) (codeIn (of .p) (now index)) (run .first) (run .m) (run .l) (now table) (now flags) × ((length (now table) ≡ spansLength) × ((run .l < 120) × ((g < 120) × (0 < run .m)))) ⌝ }
+    requires { ⌜ InRun (of .n) (of .p) (of .lanes) (run .first) (of .q) (run .m) (now lists) (now work) × (now rows ≡ rowsIn (of .p) (now lists)) ⌝ }
+    requires { ⌜ Shares (of .n) (of .q) (codeIn (of .p) (now lists)) (run .first) (run .m) (run .l) (now table) (now flags) × ((length (now table) ≡ spansLength) × ((run .l < 120) × ((g < 120) × (0 < run .m)))) ⌝ }
     requires { ⌜ 374 * of .lanes ≤ length (now sums) ⌝ }
     ensures { λ _. ⌜
-        FlagWritten (of .n) (edgesIn (of .p) (now (index .entry))) (codeIn (of .p) (now (index .entry))) (stepped (run .first) (of .q)) (run .m) (of .lanes) (now (flags .entry)) g
+        FlagWritten (of .n) (edgesIn (of .p) (now (lists .entry))) (codeIn (of .p) (now (lists .entry))) (stepped (run .first) (of .q)) (run .m) (of .lanes) (now (flags .entry)) g
         (now (work .entry)) (now (work .exit))
         ⌝ }
 {
@@ -340,36 +340,36 @@ fn write_row(
         upto: upto,
     };
     let mut seen: [bool; 374] = [false; 374];
-    gather_row(sums, &mut seen, index, rows, work, row, of, run);
-    settle_row(work, sums, index, rows, row, of, run);
+    gather_row(sums, &mut seen, lists, rows, work, row, of, run);
+    settle_row(work, sums, lists, rows, row, of, run);
 }
 
 // The values that a run has left.
 fn write_rows(
     work: &mut [i8],
     sums: &mut [i32],
-    index: &[u32],
+    lists: &[u32],
     rows: &[u32],
     table: &[u8],
     flags: &[bool; 120],
     of: Pass,
     run: CheckRun,
 )
-    requires { ⌜ InRun (of .n) (of .p) (of .lanes) (run .first) (of .q) (run .m) (now index) (now work) × (now rows ≡ rowsIn (of .p) (now index)) ⌝ }
-    requires { ⌜ Shares (of .n) (of .q) (codeIn (of .p) (now index)) (run .first) (run .m) (run .l) (now table) (now flags) × ((length (now table) ≡ spansLength) × ((run .l < 120) × (0 < run .m))) ⌝ }
+    requires { ⌜ InRun (of .n) (of .p) (of .lanes) (run .first) (of .q) (run .m) (now lists) (now work) × (now rows ≡ rowsIn (of .p) (now lists)) ⌝ }
+    requires { ⌜ Shares (of .n) (of .q) (codeIn (of .p) (now lists)) (run .first) (run .m) (run .l) (now table) (now flags) × ((length (now table) ≡ spansLength) × ((run .l < 120) × (0 < run .m))) ⌝ }
     requires { ⌜ 374 * of .lanes ≤ length (now sums) ⌝ }
-    ensures { λ _. ⌜ Written (of .n) (edgesIn (of .p) (now (index .entry))) (codeIn (of .p) (now (index .entry))) (stepped (run .first) (of .q)) (run .m) (of .lanes) (now (flags .entry)) (now (work .entry)) 120 (now (work .exit)) ⌝ }
+    ensures { λ _. ⌜ Written (of .n) (edgesIn (of .p) (now (lists .entry))) (codeIn (of .p) (now (lists .entry))) (stepped (run .first) (of .q)) (run .m) (of .lanes) (now (flags .entry)) (now (work .entry)) 120 (now (work .exit)) ⌝ }
 {
     let mut g: usize = 0;
     while g < 120 {
-        write_row(work, sums, index, rows, table, flags, g, of, run);
+        write_row(work, sums, lists, rows, table, flags, g, of, run);
         g += 1;
     }
 }
 
 // A run but for the values of the flagged rows' variables. t and u are work of 128 times 16.
 fn shared_run(
-    index: &[u32],
+    lists: &[u32],
     rows: &[u32],
     work: &mut [i8],
     t: &mut [i8],
@@ -379,11 +379,11 @@ fn shared_run(
     offset: i8,
     run: CheckRun,
 )
-    requires { ⌜ InRun (of .n) (of .p) (of .lanes) (run .first) (of .q) (run .m) (now index) (now work) × (now rows ≡ rowsIn (of .p) (now index)) ⌝ }
-    requires { ⌜ ((v : ℕ) → sharedIn (now flags) v ≡ false → Once (codeIn (of .p) (now index)) (stepped (run .first) (of .q)) (run .m) v) ⌝ }
+    requires { ⌜ InRun (of .n) (of .p) (of .lanes) (run .first) (of .q) (run .m) (now lists) (now work) × (now rows ≡ rowsIn (of .p) (now lists)) ⌝ }
+    requires { ⌜ ((v : ℕ) → sharedIn (now flags) v ≡ false → Once (codeIn (of .p) (now lists)) (stepped (run .first) (of .q)) (run .m) v) ⌝ }
     requires { ⌜ (2048 ≤ length (now t)) × (2048 ≤ length (now u)) ⌝ }
     ensures { λ _. ⌜
-        PartMade (sharedIn (now (flags .entry))) (of .n) (of .p) (of .lanes) offset (now (index .entry)) (run .first) (of .q) (run .m) (now (work .entry)) (now (work .exit))
+        PartMade (sharedIn (now (flags .entry))) (of .n) (of .p) (of .lanes) offset (now (lists .entry)) (run .first) (of .q) (run .m) (now (work .entry)) (now (work .exit))
         ⌝ }
 {
     let n = of.n;
@@ -396,8 +396,8 @@ fn shared_run(
     let mut x: usize = 0;
     while x < m {
         let c = first + x * q;
-        let s = fixed_code::start(index, c);
-        let d = fixed_code::degree(index, n, p, c);
+        let s = fixed_code::start(lists, c);
+        let d = fixed_code::degree(lists, n, p, c);
         simd_layered::check_shared(rows, s, d, work, t, u, n, lanes, place, flags, offset);
         place += d;
         x += 1;
@@ -406,7 +406,7 @@ fn shared_run(
 
 // One run: if its variables have one edge each, its checks in turn; else their values at the end.
 fn run(
-    index: &[u32],
+    lists: &[u32],
     work: &mut [i8],
     t: &mut [i8],
     u: &mut [i8],
@@ -417,17 +417,17 @@ fn run(
     offset: i8,
     run: CheckRun,
 )
-    requires { ⌜ InRun (of .n) (of .p) (of .lanes) (run .first) (of .q) (run .m) (now index) (now work) ⌝ }
-    requires { ⌜ Shares (of .n) (of .q) (codeIn (of .p) (now index)) (run .first) (run .m) (run .l) (now table) (now flags) × ((length (now table) ≡ spansLength) × ((run .l < 120) × (0 < run .m))) ⌝ }
+    requires { ⌜ InRun (of .n) (of .p) (of .lanes) (run .first) (of .q) (run .m) (now lists) (now work) ⌝ }
+    requires { ⌜ Shares (of .n) (of .q) (codeIn (of .p) (now lists)) (run .first) (run .m) (run .l) (now table) (now flags) × ((length (now table) ≡ spansLength) × ((run .l < 120) × (0 < run .m))) ⌝ }
     requires { ⌜ (run .shared ≡ false → (g : ℕ) → getD (now flags) g false ≡ false) ⌝ }
     requires { ⌜ (2048 ≤ length (now t)) × ((2048 ≤ length (now u)) × (374 * of .lanes ≤ length (now sums))) ⌝ }
-    ensures { λ _. ⌜ RunMade (of .n) (of .p) (of .lanes) offset (now (index .entry)) (run .first) (of .q) (run .m) (now (work .entry)) (now (work .exit)) ⌝ }
+    ensures { λ _. ⌜ RunMade (of .n) (of .p) (of .lanes) offset (now (lists .entry)) (run .first) (of .q) (run .m) (now (work .entry)) (now (work .exit)) ⌝ }
 {
     let base = of.p + 1;
-    let rows = &index[base..];
+    let rows = &lists[base..];
     if !run.shared {
         fixed::checks(
-            index,
+            lists,
             rows,
             work,
             t,
@@ -442,13 +442,13 @@ fn run(
         );
         return;
     }
-    shared_run(index, rows, work, t, u, flags, of, offset, run);
-    write_rows(work, sums, index, rows, table, flags, of, run);
+    shared_run(lists, rows, work, t, u, flags, of, offset, run);
+    write_rows(work, sums, lists, rows, table, flags, of, run);
 }
 
 // Layer l in runs of `step` checks, the last shorter.
 fn runs(
-    index: &[u32],
+    lists: &[u32],
     work: &mut [i8],
     t: &mut [i8],
     u: &mut [i8],
@@ -458,10 +458,10 @@ fn runs(
     offset: i8,
     l: usize,
 )
-    requires { ⌜ InLayer (of .n) (of .p) (of .lanes) (of .q) (of .step) l (now index) (now work) ⌝ }
-    requires { ⌜ Sharing (of .n) (of .p) (of .q) (of .rows) (now index) (now table) ⌝ }
+    requires { ⌜ InLayer (of .n) (of .p) (of .lanes) (of .q) (of .step) l (now lists) (now work) ⌝ }
+    requires { ⌜ Sharing (of .n) (of .p) (of .q) (of .rows) (now lists) (now table) ⌝ }
     requires { ⌜ (2048 ≤ length (now t)) × ((2048 ≤ length (now u)) × (374 * of .lanes ≤ length (now sums))) ⌝ }
-    ensures { λ _. ⌜ RunsMade (of .n) (of .p) (of .lanes) offset (now (index .entry)) (of .q) (of .step) l (now (work .entry)) (runCount (of .step)) (now (work .exit)) ⌝ }
+    ensures { λ _. ⌜ RunsMade (of .n) (of .p) (of .lanes) offset (now (lists .entry)) (of .q) (of .step) l (now (work .entry)) (runCount (of .step)) (now (work .exit)) ⌝ }
 {
     let q = of.q;
     let step = of.step;
@@ -479,7 +479,7 @@ fn runs(
             m: m,
             shared: any,
         };
-        run(index, work, t, u, sums, table, &flags, of, offset, part);
+        run(lists, work, t, u, sums, table, &flags, of, offset, part);
         at += step;
         j += 1;
     }
@@ -487,7 +487,7 @@ fn runs(
 
 // Layers 0 to q − 1.
 fn layers(
-    index: &[u32],
+    lists: &[u32],
     work: &mut [i8],
     t: &mut [i8],
     u: &mut [i8],
@@ -496,14 +496,14 @@ fn layers(
     of: Pass,
     offset: i8,
 )
-    requires { ⌜ ((l : ℕ) → l < of .q → InLayer (of .n) (of .p) (of .lanes) (of .q) (of .step) l (now index) (now work)) × Sharing (of .n) (of .p) (of .q) (of .rows) (now index) (now table) ⌝ }
+    requires { ⌜ ((l : ℕ) → l < of .q → InLayer (of .n) (of .p) (of .lanes) (of .q) (of .step) l (now lists) (now work)) × Sharing (of .n) (of .p) (of .q) (of .rows) (now lists) (now table) ⌝ }
     requires { ⌜ (2048 ≤ length (now t)) × ((2048 ≤ length (now u)) × (374 * of .lanes ≤ length (now sums))) ⌝ }
-    ensures { λ _. ⌜ LayersMade (of .n) (of .p) (of .lanes) offset (now (index .entry)) (of .q) (of .step) (now (work .entry)) (of .q) (now (work .exit)) ⌝ }
+    ensures { λ _. ⌜ LayersMade (of .n) (of .p) (of .lanes) offset (now (lists .entry)) (of .q) (of .step) (now (work .entry)) (of .q) (now (work .exit)) ⌝ }
 {
     let q = of.q;
     let mut l: usize = 0;
     while l < q {
-        runs(index, work, t, u, sums, table, of, offset, l);
+        runs(lists, work, t, u, sums, table, of, offset, l);
         l += 1;
     }
 }

@@ -17,20 +17,20 @@ use Rattle.ldpc_edges.specs.Layout.{Laid, laid, start-length, rows-length, list
 use Rattle.iteration.specs.Lists.{Lists, rowsIn, edgesIn, codeIn}
 use Rattle.iteration.specs.Code.{codeOf}
 
-module _ (n : ℕ) (lens addrs index : List ℕ) (is : index ≡ edgeLists n lens addrs) where
-  starts-are : take (pOf n lens + 1) index ≡ rowStart n lens addrs
+module _ (n : ℕ) (lens addrs lists : List ℕ) (is : lists ≡ edgeLists n lens addrs) where
+  starts-are : take (pOf n lens + 1) lists ≡ rowStart n lens addrs
   unfolding edgeLists
   starts-are =
       ap (take (pOf n lens + 1)) is
       ∙ take-at (rowStart n lens addrs) (rows n lens addrs) (pOf n lens + 1) (start-length n lens addrs ∙ sym (add-one (pOf n lens)))
 
-  rows-are : rowsIn (pOf n lens) index ≡ rows n lens addrs
+  rows-are : rowsIn (pOf n lens) lists ≡ rows n lens addrs
   unfolding edgeLists
   rows-are =
       ap (drop (pOf n lens + 1)) is
       ∙ drop-at (rowStart n lens addrs) (rows n lens addrs) (pOf n lens + 1) (start-length n lens addrs ∙ sym (add-one (pOf n lens)))
 
-  pub code-in : codeIn (pOf n lens) index ≡ codeOf n lens addrs
+  pub code-in : codeIn (pOf n lens) lists ≡ codeOf n lens addrs
   unfolding codeOf
   code-in = λ i. record { rows = λ e. getD (rows-are i) e 0; row-start = λ c. getD (starts-are i) c 0 }
 
@@ -62,14 +62,14 @@ module _ (n : ℕ) (lens addrs : List ℕ) (A : Accepted n lens addrs) where
   rows-below e q = joined-below 0 (pOf n lens) (omega arith) e q
 
   -- the lists of an accepted code are lists
-  module _ (index : List ℕ) (is : index ≡ edgeLists n lens addrs) where
-    pub laid-in : Laid n lens addrs index
-    laid-in = laid n lens addrs A index [] (is ∙ sym (append-nil (edgeLists n lens addrs)))
+  module _ (lists : List ℕ) (is : lists ≡ edgeLists n lens addrs) where
+    pub laid-in : Laid n lens addrs lists
+    laid-in = laid n lens addrs A lists [] (is ∙ sym (append-nil (edgeLists n lens addrs)))
 
-    pub edges-are : edgesIn (pOf n lens) index ≡ eOf n lens addrs
-    edges-are = ap length (rows-are n lens addrs index is) ∙ rows-length n lens addrs A
+    pub edges-are : edgesIn (pOf n lens) lists ≡ eOf n lens addrs
+    edges-are = ap length (rows-are n lens addrs lists is) ∙ rows-length n lens addrs A
 
-    pub lists-in : Lists n (pOf n lens) index
+    pub lists-in : Lists n (pOf n lens) lists
     unfolding eOf
     lists-in =
         record {
@@ -77,17 +77,17 @@ module _ (n : ℕ) (lens addrs : List ℕ) (A : Accepted n lens addrs) where
           ascend = λ c h. omega (arith, laid-in .next c h);
           short = λ c h. omega (arith, laid-in .next c h, laid-in .short c h);
           within = λ c h. omega (arith, laid-in .within c h, edges-are);
-          variables = subst (λ (l : List ℕ). (e : ℕ) → e < length l → getD l e 0 < n) (sym (rows-are n lens addrs index is)) rows-below;
+          variables = subst (λ (l : List ℕ). (e : ℕ) → e < length l → getD l e 0 < n) (sym (rows-are n lens addrs lists is)) rows-below;
           many = omega (arith, edges-are, big n lens addrs A);
         }
 
 -- the same of p that was worked out
-module _ (n p : ℕ) (lens addrs index : List ℕ) (checks : p ≡ pOf n lens) (is : index ≡ edgeLists n lens addrs) where
-  pub code-at : codeIn p index ≡ codeOf n lens addrs
-  code-at = ap (λ (z : ℕ). codeIn z index) checks ∙ code-in n lens addrs index is
+module _ (n p : ℕ) (lens addrs lists : List ℕ) (checks : p ≡ pOf n lens) (is : lists ≡ edgeLists n lens addrs) where
+  pub code-at : codeIn p lists ≡ codeOf n lens addrs
+  code-at = ap (λ (z : ℕ). codeIn z lists) checks ∙ code-in n lens addrs lists is
 
-  pub edges-at : Accepted n lens addrs → edgesIn p index ≡ eOf n lens addrs
-  edges-at A = ap (λ (z : ℕ). edgesIn z index) checks ∙ edges-are n lens addrs A index is
+  pub edges-at : Accepted n lens addrs → edgesIn p lists ≡ eOf n lens addrs
+  edges-at A = ap (λ (z : ℕ). edgesIn z lists) checks ∙ edges-are n lens addrs A lists is
 
-  pub lists-at : Accepted n lens addrs → Lists n p index
-  lists-at A = subst (λ (z : ℕ). Lists n z index) (sym checks) (lists-in n lens addrs A index is)
+  pub lists-at : Accepted n lens addrs → Lists n p lists
+  lists-at A = subst (λ (z : ℕ). Lists n z lists) (sym checks) (lists-in n lens addrs A lists is)

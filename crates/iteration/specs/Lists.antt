@@ -9,19 +9,19 @@ abbrev pub var : List ℕ → ℕ → ℕ
 var rows e = getD rows e 0
 
 abbrev pub rowsIn : ℕ → List ℕ → List ℕ
-rowsIn p index = drop (p + 1) index
+rowsIn p lists = drop (p + 1) lists
 
 abbrev pub edgesIn : ℕ → List ℕ → ℕ
-edgesIn p index = length (rowsIn p index)
+edgesIn p lists = length (rowsIn p lists)
 
 abbrev pub codeIn : ℕ → List ℕ → Code
-codeIn p index = record { rows = var (rowsIn p index); row-start = λ c. getD (take (p + 1) index) c 0 }
+codeIn p lists = record { rows = var (rowsIn p lists); row-start = λ c. getD (take (p + 1) lists) c 0 }
 
 -- What a call may count on: p starts that ascend and a last one, degrees of at most 128, variables below n. A code has 747 edges or more.
-pub record Lists (n p : ℕ) (index : List ℕ) : Type 0 where
-  pub long : p < length index
-  pub ascend : (c : ℕ) → c < p → getD index c 0 ≤ getD index (c + 1) 0
-  pub short : (c : ℕ) → c < p → getD index (c + 1) 0 ≤ getD index c 0 + 128
-  pub within : (c : ℕ) → c ≤ p → getD index c 0 ≤ edgesIn p index
-  pub variables : (e : ℕ) → e < edgesIn p index → var (rowsIn p index) e < n
-  pub many : 16 ≤ edgesIn p index
+pub record Lists (n p : ℕ) (lists : List ℕ) : Type 0 where
+  pub long : p < length lists
+  pub ascend : (c : ℕ) → c < p → getD lists c 0 ≤ getD lists (c + 1) 0
+  pub short : (c : ℕ) → c < p → getD lists (c + 1) 0 ≤ getD lists c 0 + 128
+  pub within : (c : ℕ) → c ≤ p → getD lists c 0 ≤ edgesIn p lists
+  pub variables : (e : ℕ) → e < edgesIn p lists → var (rowsIn p lists) e < n
+  pub many : 16 ≤ edgesIn p lists

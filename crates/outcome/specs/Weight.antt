@@ -66,27 +66,27 @@ module _ (n : ℕ) (lens addrs : List ℕ) (A : codeRefusal n lens addrs ≡ 0) 
   abbrev p : ℕ
   p = pOf n lens
 
-  abbrev index : List ℕ
-  index = edgeLists n lens addrs
+  abbrev lists : List ℕ
+  lists = edgeLists n lens addrs
 
-  lists : Laid n lens addrs index
-  lists = laid n lens addrs (accepted n lens addrs A) index [] (sym (append-nil index))
+  laid-in : Laid n lens addrs lists
+  laid-in = laid n lens addrs (accepted n lens addrs A) lists [] (sym (append-nil lists))
 
   -- check c's edge k, in the lists
-  edge-at : (c k : ℕ) → c < p → k < length (check n lens addrs c) → var (rowsIn p index) (getD index c 0 + k) ≡ getD (check n lens addrs c) k 0
+  edge-at : (c k : ℕ) → c < p → k < length (check n lens addrs c) → var (rowsIn p lists) (getD lists c 0 + k) ≡ getD (check n lens addrs c) k 0
   edge-at c k h q =
-      ap (λ (m : ℕ). getD (drop m index) (getD index c 0 + k) 0) (add-one p)
-      ∙ sym (getD-drop (getD index c 0) (drop (suc p) index) k 0)
-      ∙ sym (getD-take (getD index (c + 1) 0 - getD index c 0) (drop (getD index c 0) (drop (suc p) index)) k 0 (omega (arith, lists .next c h)))
-      ∙ ap (λ (l : List ℕ). getD l k 0) (lists .part c h)
+      ap (λ (m : ℕ). getD (drop m lists) (getD lists c 0 + k) 0) (add-one p)
+      ∙ sym (getD-drop (getD lists c 0) (drop (suc p) lists) k 0)
+      ∙ sym (getD-take (getD lists (c + 1) 0 - getD lists c 0) (drop (getD lists c 0) (drop (suc p) lists)) k 0 (omega (arith, laid-in .next c h)))
+      ∙ ap (λ (l : List ℕ). getD l k 0) (laid-in .part c h)
 
-  check-same : (c : ℕ) → c < p → unmet n lens addrs (bitsOf n x) c ≡ unmetAt (codeIn p index) (x .L) c
+  check-same : (c : ℕ) → c < p → unmet n lens addrs (bitsOf n x) c ≡ unmetAt (codeIn p lists) (x .L) c
   unfolding unmet unsatisfied
   check-same c h =
-      ap (λ (m : ℕ). m % 2) (ones-are n x (var (rowsIn p index)) (getD index c 0) (check n lens addrs c) (λ k q. edge-at c k h q) (λ k q. lists .below c k h q))
-      ∙ (λ i. negatives (var (rowsIn p index)) (sym (start-in p index c (omega arith)) i) (sym (degree-in p index c (getD index c 0) (length (check n lens addrs c)) h refl (sym (lists .next c h))) i) (x .L) % 2)
+      ap (λ (m : ℕ). m % 2) (ones-are n x (var (rowsIn p lists)) (getD lists c 0) (check n lens addrs c) (λ k q. edge-at c k h q) (λ k q. laid-in .below c k h q))
+      ∙ (λ i. negatives (var (rowsIn p lists)) (sym (start-in p lists c (omega arith)) i) (sym (degree-in p lists c (getD lists c 0) (length (check n lens addrs c)) h refl (sym (laid-in .next c h))) i) (x .L) % 2)
 
-  counts-same : (m : ℕ) → m ≤ p → unmets n lens addrs (bitsOf n x) m ≡ unsatisfiedCount (codeIn p index) m (x .L)
+  counts-same : (m : ℕ) → m ≤ p → unmets n lens addrs (bitsOf n x) m ≡ unsatisfiedCount (codeIn p lists) m (x .L)
   unfolding unmets unsatisfiedCount
   counts-same zero h = refl
   counts-same (suc m) h = omega (arith, check-same m h, counts-same m (omega arith))
@@ -94,7 +94,7 @@ module _ (n : ℕ) (lens addrs : List ℕ) (A : codeRefusal n lens addrs ≡ 0) 
   -- the syndrome weight of a word's hard decisions is how many checks its values leave unsatisfied
   pub weight-is : weight n lens addrs (bitsOf n x) ≡ unmetOf (codeOf n lens addrs) p x
   unfolding weight unmetOf codeOf
-  weight-is = counts-same p (omega arith) ∙ ap (λ (code : Code). unsatisfiedCount code p (x .L)) (code-in n lens addrs index refl)
+  weight-is = counts-same p (omega arith) ∙ ap (λ (code : Code). unsatisfiedCount code p (x .L)) (code-in n lens addrs lists refl)
 
   -- a word whose hard decisions are an encoded word meets every check
   pub encoded-met : (v : List ℕ) → length v ≡ kOf lens → bitsOf n x ≡ encode n lens addrs v → metOf (codeOf n lens addrs) p x ≡ true

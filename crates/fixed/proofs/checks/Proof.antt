@@ -16,16 +16,16 @@ use Rattle.fixed.proofs.checks.Statement.{statement}
 use Rattle.fixed.proofs.checks.Tie as tie
 
 abbrev Inv-loop : tie.InvT-loop
-Inv-loop index rows work₀ t₀ u₀ n p lanes offset first q m x₀ work t u x =
-    (x ≤ m) × ((length work ≡ length work₀) × (((length t ≡ length t₀) × (length u ≡ length u₀)) × InTurn n p lanes (toZ w8 offset) index first q work₀ x work))
+Inv-loop lists rows work₀ t₀ u₀ n p lanes offset first q m x₀ work t u x =
+    (x ≤ m) × ((length work ≡ length work₀) × (((length t ≡ length t₀) × (length u ≡ length u₀)) × InTurn n p lanes (toZ w8 offset) lists first q work₀ x work))
 
 abbrev μ-loop : tie.MeasureT-loop
-μ-loop index rows work₀ t₀ u₀ n p lanes offset first q m x₀ work t u x = m - x
+μ-loop lists rows work₀ t₀ u₀ n p lanes offset first q m x₀ work t u x = m - x
 
 loop-holds : tie.Need-loop-holds Inv-loop μ-loop
 loop-holds c =
     let a = c .before .before .args in
-    (search needs, (refl, ((refl, refl), turn-start (a .n) (a .p) (a .lanes) (toZ w8 (ofZ w8 (a .offset))) (a .index .now) (a .first) (a .q) (a .work .now))))
+    (search needs, (refl, ((refl, refl), turn-start (a .n) (a .p) (a .lanes) (toZ w8 (ofZ w8 (a .offset))) (a .lists .now) (a .first) (a .q) (a .work .now))))
 
 mul-c : tie.Need-mul-c Inv-loop μ-loop
 mul-c c = let s = c .before .before .before .before in record { fits = omega (arith, s .pre .1 .0 (c .before .loop .x) (c .loop-test .taken), s .fits .p .fits) }

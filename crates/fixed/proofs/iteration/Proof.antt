@@ -31,7 +31,7 @@ slice-aggregate-checks-2 c = search needs
 checks-requires : tie.Need-checks-requires
 checks-requires c κs =
     let s = c .before .before .before .before .before in
-    ((s .pre, rows-part (s .args .p) (s .args .index .now)), (λ x h. omega (arith, h), (omega arith, omega arith)))
+    ((s .pre, rows-part (s .args .p) (s .args .lists .now)), (λ x h. omega (arith, h), (omega arith, omega arith)))
 
 same-length : tie.Need-same-length
 same-length c = search needs

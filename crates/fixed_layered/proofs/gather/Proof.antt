@@ -29,6 +29,17 @@ Inv-loop sums₀ at work tu ru ou lanes seen many i₀ sums i = (i ≤ lanes) ×
 abbrev μ-loop : tie.MeasureT-loop
 μ-loop sums₀ at work tu ru ou lanes seen many i₀ sums i = lanes - i
 
+-- the points that several needs reach
+abbrev start : tie.In-loop Inv-loop μ-loop → tie.Start Inv-loop μ-loop
+start c = c .before .before
+
+abbrev tested : tie.After-value3 Inv-loop μ-loop → tie.In-loop Inv-loop μ-loop
+tested c = c .before .before .before
+
+-- lane i's sum is one of the slice
+room : (c : tie.In-loop Inv-loop μ-loop) → start c .args .at + c .before .loop .i < length (c .before .loop .sums)
+room c = omega (arith, start c .pre .1 .0, c .loop-test .taken, c .before .loop .inv .1 .0 .long)
+
 loop-holds : tie.Need-loop-holds Inv-loop μ-loop
 loop-holds c = let a = c .args in (search needs, (edge-start (a .lanes) (a .at) (a .tu) (a .ru) (a .ou) (a .seen) (a .work .now) (a .sums .now), growing-start (c .pre .1 .1 .1)))
 
@@ -48,17 +59,14 @@ mul-s : tie.Need-mul-s Inv-loop μ-loop
 mul-s c = search needs
 
 slice-copy-out-s : tie.Need-slice-copy-out-s Inv-loop μ-loop
-slice-copy-out-s c =
-    let loop = c .before .before .before .before .loop in
-    let s = c .before .before .before .before .before in omega (arith, s .pre .1 .0, c .before .before .before .loop-test .taken, loop .inv .1 .0 .long)
+slice-copy-out-s c = room (tested c)
 
 gathered-requires : tie.Need-gathered-requires Inv-loop μ-loop
 gathered-requires c κs =
-    let loop-test = c .before .before .before .before .loop-test in
-    let s = c .before .before .before .before .before .before in
-    let h = c .before .before .before .before .before in
-    let q = loop-test .taken in
-    rw (toZ-ofZ w32 (intAt (h .loop .sums) (s .args .at + h .loop .i)) (sfits-of (c .s .given))) (λ b. omega (arith, h .loop .inv .1 .1 .still b (h .loop .i) (omega arith) q, s .pre .1 .1 .0))
+    let t = tested (c .before) in
+    let s = start t in
+    let h = t .before in
+    rw (toZ-ofZ w32 (intAt (h .loop .sums) (s .args .at + h .loop .i)) (sfits-of (c .s .given))) (λ b. omega (arith, h .loop .inv .1 .1 .still b (h .loop .i) (omega arith) (t .loop-test .taken), s .pre .1 .1 .0))
 
 add-t16 : tie.Need-add-t16 Inv-loop μ-loop
 add-t16 c = search needs
@@ -67,10 +75,7 @@ mul-t17 : tie.Need-mul-t17 Inv-loop μ-loop
 mul-t17 c = search needs
 
 slice-set-from-sums : tie.Need-slice-set-from-sums Inv-loop μ-loop
-slice-set-from-sums c =
-    let at-loop-test = c .before .before .before .before .before in
-    let at-loop = at-loop-test .before in
-    let s = c .before .before .before .before .before .before .before in omega (arith, s .pre .1 .0, at-loop-test .loop-test .taken, at-loop .loop .inv .1 .0 .long)
+slice-set-from-sums c = room (tested (c .before .before))
 
 add-i : tie.Need-add-i Inv-loop μ-loop
 add-i c = search needs
@@ -80,17 +85,17 @@ loop-less c = search needs
 
 loop-again : tie.Need-loop-again Inv-loop μ-loop
 loop-again c =
-    let loop-test = c .before .before .before .before .before .loop-test in
-    let s = c .before .before .before .before .before .before .before in
-    let h = c .before .before .before .before .before .before in
+    let at-value3 = c .before .before in
+    let at-loop-test = tested at-value3 in
+    let s = start at-loop-test in
+    let h = at-loop-test .before in
     let a = s .args in
-    let q = loop-test .taken in
-    let t = c .before .before .before .before .value in
-    let n = c .before .before .before .value2 in
-    let o = c .before .before .value3 in
+    let q = at-loop-test .loop-test .taken in
+    let t = at-value3 .before .before .value in
+    let n = at-value3 .before .value2 in
+    let o = at-value3 .value3 in
     let g = c .gathered in
     let f = column (a .lanes) (a .work .now) (h .loop .i) in
-    let room : a .at + h .loop .i < length (a .sums .now) = omega (arith, s .pre .1 .0, q) in
     let is : toZ w32 (ofZ w32 (g .result)) ≡ plus (a .seen) f (a .tu) (a .ru) (a .ou) (intAt (h .loop .sums) (s .args .at + h .loop .i)) =
     toZ-ofZ w32 (g .result) (sfits-of (g .ok))
     ∙ g .ensures
@@ -101,8 +106,8 @@ loop-again c =
     ((plain (t .result) (sfits-of (t .ok)) ∙ t .ensures) j +ℤ (plain (n .result) (sfits-of (n .ok)) ∙ n .ensures) j)) in (
       search needs,
       (
-        edge-again _ (h .loop .inv .1 .0) room is,
-        growing-again (a .seen) f (a .tu) (a .ru) (a .ou) _ (h .loop .inv .1 .1) q (omega (arith, h .loop .inv .1 .0 .long, room)) (byte (t .result) (t .ok) (t .ensures))
+        edge-again _ (h .loop .inv .1 .0) (omega (arith, room at-loop-test, h .loop .inv .1 .0 .long)) is,
+        growing-again (a .seen) f (a .tu) (a .ru) (a .ou) _ (h .loop .inv .1 .1) q (room at-loop-test) (byte (t .result) (t .ok) (t .ensures))
             (byte (n .result) (n .ok) (n .ensures)) (byte (o .result) (o .ok) (o .ensures)) is,
       ),
     )

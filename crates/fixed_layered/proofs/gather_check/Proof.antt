@@ -19,6 +19,10 @@ Inv-loop sums₀ seen₀ rows work base s d place n lanes k₀ sums seen k =
 abbrev μ-loop : tie.MeasureT-loop
 μ-loop sums₀ seen₀ rows work base s d place n lanes k₀ sums seen k = d - k
 
+-- the points that several needs reach
+abbrev start : tie.At-loop Inv-loop μ-loop → tie.Start Inv-loop μ-loop
+start c = c .before .before .before
+
 loop-holds : tie.Need-loop-holds Inv-loop μ-loop
 loop-holds c =
     let s = c .before .before in
@@ -41,9 +45,11 @@ add-gather-edge-2 : tie.Need-add-gather-edge-2 Inv-loop μ-loop
 add-gather-edge-2 c = search needs
 
 gather-edge-requires : tie.Need-gather-edge-requires Inv-loop μ-loop
-gather-edge-requires c κs = let s = c .before .before .before .before .before .before in
-    let h = c .before .before .before in
-    let q = c .before .before .loop-test .taken in
+gather-edge-requires c κs =
+    let at-loop-test = c .before .before in
+    let h = at-loop-test .before in
+    let s = start h in
+    let q = at-loop-test .loop-test .taken in
     let w = s .pre .1 .0 .1 .1 (h .loop .k) q in (
       (edge-room (h .loop .k) q (s .pre .0 .0), (omega (arith, q, s .pre .0 .1 .0), s .pre .0 .1 .1)),
       (
@@ -60,13 +66,14 @@ loop-less c = search needs
 
 loop-again : tie.Need-loop-again Inv-loop μ-loop
 loop-again c =
-    let loop-test = c .before .before .before .before .before .before .loop-test in
-    let s = c .before .before .before .before .before .before .before .before .before .before in
+    let at-gather-edge = c .before .before .before in
+    let at-loop-test = at-gather-edge .before .before .before in
+    let h = at-loop-test .before in
+    let s = start h in
     let a = s .args in
-    let h = c .before .before .before .before .before .before .before in
-    let q = loop-test .taken in
+    let q = at-loop-test .loop-test .taken in
     let w = s .pre .1 .0 .1 .1 (h .loop .k) q in
-    let e = c .before .before .before .gather-edge in (
+    let e = at-gather-edge .gather-edge in (
       omega (arith, q),
       (
         omega (arith, e .kept, h .loop .inv .1 .0),
@@ -87,8 +94,7 @@ same-length-2 c = search needs
 
 returns : tie.Need-returns Inv-loop μ-loop
 returns c =
-    let s = c .before .before .before .before in
-    let a = c .before .before .before .before .args in
+    let a = start (c .before) .args in
     gathers-end (a .n) (length (a .rows .now)) (a .lanes) (var (a .rows .now)) (a .base) (a .s) (a .place) (a .work .now) (sumAt (a .lanes) (a .seen .now) (a .sums .now))
     (omega (arith, c .before .loop .inv .0, c .loop-test .left)) (c .before .loop .inv .1 .1 .1)
 

@@ -11,61 +11,64 @@ use Rattle.fixed_layered.specs.Rows.{EdgeDone}
 use Rattle.fixed_layered.proofs.gather_edge.Statement.{statement}
 use Rattle.fixed_layered.proofs.gather_edge.Tie as tie
 
+-- the points that several needs reach
+abbrev start : tie.After-variable → tie.Start
+start c = c .before .before .before
+
+abbrev looked-up : tie.After-gather-arg → tie.After-variable
+looked-up c = c .before .before
+
+-- the number of the memory's rows fits
+rows-fit : (c : tie.After-variable) → (let a = start c .args in a .n + 3 * length (a .rows .now) ≤ length (a .work .now))
+rows-fit c = let s = start c in row-fits (s .pre .0 .0) (s .args .n + 3 * length (s .args .rows .now)) (omega arith)
+
+-- the variable is one of the row's
+in-row : (c : tie.After-variable) → (let a = start c .args in (a .base ≤ c .variable .result) × (c .variable .result - a .base < 374))
+in-row c = let s = start c in (omega (arith, c .variable .ensures, s .pre .1 .0 .1 .1 .0), omega (arith, c .variable .ensures, s .pre .1 .0 .1 .1))
+
 variable-requires : tie.Need-variable-requires
 variable-requires c κs = search needs
 
 sub-j : tie.Need-sub-j
-sub-j c = let s = c .before .before .before in omega (arith, c .variable .ensures, s .pre .1 .0 .1 .1 .0)
+sub-j c = in-row c .0
 
 add-tu : tie.Need-add-tu
-add-tu c =
-    let s = c .before .before .before in
-    record { fits = omega (arith, row-fits (s .pre .0 .0) (s .args .n + 3 * length (s .args .rows .now)) (omega arith), s .pre .0 .0 .edges, s .pre .0 .1 .0, s .good) }
+add-tu c = record { fits = omega (arith, rows-fit c, start c .pre .0 .1 .0, start c .good) }
 
 add-tu-2 : tie.Need-add-tu-2
-add-tu-2 c =
-    let s = c .before .before .before in
-    record { fits = omega (arith, row-fits (s .pre .0 .0) (s .args .n + 3 * length (s .args .rows .now)) (omega arith), s .pre .0 .0 .edges, s .pre .0 .1 .0, s .good) }
+add-tu-2 c = record { fits = omega (arith, rows-fit c, start c .pre .0 .1 .0, start c .good) }
 
 add-ru : tie.Need-add-ru
-add-ru c =
-    let s = c .before .before .before in
-    record { fits = omega (arith, row-fits (s .pre .0 .0) (s .args .n + 3 * length (s .args .rows .now)) (omega arith), s .pre .0 .0 .edges, s .pre .0 .1 .0, s .good) }
+add-ru c = record { fits = omega (arith, rows-fit c, start c .pre .0 .0 .edges, start c .good) }
 
 mul-ou : tie.Need-mul-ou
-mul-ou c =
-    let s = c .before .before .before in
-    record { fits = omega (arith, row-fits (s .pre .0 .0) (s .args .n + 3 * length (s .args .rows .now)) (omega arith), s .pre .0 .0 .edges, s .pre .0 .1 .0, s .good) }
+mul-ou c = record { fits = omega (arith, rows-fit c, start c .good) }
 
 add-ou : tie.Need-add-ou
-add-ou c =
-    let s = c .before .before .before in
-    record { fits = omega (arith, row-fits (s .pre .0 .0) (s .args .n + 3 * length (s .args .rows .now)) (omega arith), s .pre .0 .0 .edges, s .pre .0 .1 .0, s .good) }
+add-ou c = record { fits = omega (arith, rows-fit c, start c .good) }
 
 add-ou-2 : tie.Need-add-ou-2
-add-ou-2 c =
-    let s = c .before .before .before in
-    record { fits = omega (arith, row-fits (s .pre .0 .0) (s .args .n + 3 * length (s .args .rows .now)) (omega arith), s .pre .0 .0 .edges, s .pre .0 .1 .0, s .good) }
+add-ou-2 c = record { fits = omega (arith, rows-fit c, start c .pre .0 .1 .0, start c .good) }
 
 slice-read-was : tie.Need-slice-read-was
-slice-read-was c = let s = c .before .before .before .before in omega (arith, c .before .variable .ensures, s .pre .1 .0 .1 .0, s .pre .1 .0 .1 .1)
+slice-read-was c = omega (arith, in-row (c .before) .1, start (c .before) .pre .1 .0 .1 .0)
 
 mul-gather : tie.Need-mul-gather
-mul-gather c = let s = c .before .before .before .before .before in
-    let v = c .before .before .variable in
-    let y : v .result - s .args .base ≤ 374 = omega (arith, v .ensures, s .pre .1 .0 .1 .1 .1) in
-    let z : (v .result - s .args .base) * s .args .lanes ≤ 374 * s .args .lanes = mul-le-mul-right (s .args .lanes) y in
+mul-gather c =
+    let v = looked-up c in
+    let s = start v in
+    let z : (v .variable .result - s .args .base) * s .args .lanes ≤ 374 * s .args .lanes = mul-le-mul-right (s .args .lanes) (omega (arith, in-row v .1)) in
     record { fits = omega (arith, s .pre .1 .0 .0, s .good) }
 
 gather-requires : tie.Need-gather-requires
-gather-requires c κs = let s = c .before .before .before .before .before in
-    let v = c .before .before .variable in
+gather-requires c κs =
+    let v = looked-up c in
+    let s = start v in
     let n = s .args .n in
     let E = length (s .args .rows .now) in
-    let j = v .result - s .args .base in
-    let i : j < 374 = omega (arith, v .ensures, s .pre .1 .0 .1 .1) in
-    let y : j + 1 ≤ 374 = omega arith in
-    let z : (j + 1) * s .args .lanes ≤ 374 * s .args .lanes = mul-le-mul-right (s .args .lanes) y in (
+    let j = v .variable .result - s .args .base in
+    let i = in-row v .1 in
+    let z : (j + 1) * s .args .lanes ≤ 374 * s .args .lanes = mul-le-mul-right (s .args .lanes) (omega (arith, i)) in (
       (
         row-room (s .pre .0 .0) (n + E + s .args .at) (omega (arith, s .pre .0 .1 .0)),
         (row-room (s .pre .0 .0) (n + s .args .e) (omega (arith, s .pre .0 .0 .edges)), row-room (s .pre .0 .0) (n + 2 * E + s .args .at) (omega (arith, s .pre .0 .1 .0))),
@@ -74,9 +77,7 @@ gather-requires c κs = let s = c .before .before .before .before .before in
     )
 
 slice-write-seen : tie.Need-slice-write-seen
-slice-write-seen c =
-    let variable = c .before .before .before .before .variable in
-    let s = c .before .before .before .before .before .before .before in omega (arith, variable .ensures, s .pre .1 .0 .1 .0, s .pre .1 .0 .1 .1)
+slice-write-seen c = let v = looked-up (c .before .before) in omega (arith, in-row v .1, start v .pre .1 .0 .1 .0)
 
 same-length : tie.Need-same-length
 same-length c = search needs
@@ -85,9 +86,10 @@ same-length-2 : tie.Need-same-length-2
 same-length-2 c = search needs
 
 returns : tie.Need-returns
-returns c = let s = c .before .before .before .before .before .before .before in
-    let a = s .args in
-    let v = c .before .before .before .before .variable in
+returns c =
+    let at-variable = looked-up (c .before .before) in
+    let a = start at-variable .args in
+    let v = at-variable .variable in
     let g = c .before .gather in
     subst (λ (z : ℕ). EdgeDone (a .n) (length (a .rows .now)) (a .lanes) (a .at) (a .e) (z - a .base) (a .work .now) (a .seen .now) (a .sums .now) (set (a .seen .now) (v .result - a .base) true) (g .last .0)) (v .ensures)
     (record { sums-is = g .ensures .0; small = g .ensures .1; seen-is = refl })

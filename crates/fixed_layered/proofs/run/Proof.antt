@@ -10,6 +10,19 @@ use Rattle.fixed_layered.specs.Checks.{turn-made, run-law}
 use Rattle.fixed_layered.proofs.run.Statement.{statement}
 use Rattle.fixed_layered.proofs.run.Tie as tie
 
+-- the points that several needs reach
+abbrev start : tie.After-struct-known2 → tie.Start
+start c = c .before .before .before .before .before
+
+abbrev unshared : tie.After-checks-arg3 → tie.Then1
+unshared c = c .before .before .before
+
+abbrev start-shared : tie.After-shared-run-arg3 → tie.Start
+start-shared c = start (c .before .before .before .before)
+
+abbrev ran : tie.After-write-rows-arg2 → tie.After-shared-run
+ran c = c .before .before .before .before .before
+
 add-base : tie.Need-add-base
 add-base c = search needs
 
@@ -27,8 +40,8 @@ part-rows-end c = search needs
 
 checks-requires : tie.Need-checks-requires
 checks-requires c κs =
-    let s = c .before .before .before .before .before .before .before .before .before in (
-      (s .pre .0 .memory, rows-part (s .args .of .p) (s .args .index .now)),
+    let s = start (unshared c .before) in (
+      (s .pre .0 .memory, rows-part (s .args .of .p) (s .args .lists .now)),
       (s .pre .0 .inside, (s .pre .1 .1 .1 .0, s .pre .1 .1 .1 .1 .0)),
     )
 
@@ -44,23 +57,23 @@ same-length-3 c = search needs
 returns : tie.Need-returns
 returns c =
     let at-checks = c .before .before .before in
-    let at-if1 = at-checks .before .before .before .before in
-    let s = at-if1 .before .before .before .before .before .before in
+    let at-if1 = unshared (at-checks .before) in
+    let s = start (at-if1 .before) in
     let none = s .pre .1 .1 .0 (not-true (s .args .run .shared) (at-if1 .if1 .taken)) in
     run-offset (plain (s .args .offset) (s .fits .offset)) (turn-made (s .pre .0) (λ v. s .pre .1 .0 .0 .once v (none (v / 374))) (at-checks .checks .ensures))
 
 shared-run-requires : tie.Need-shared-run-requires
 shared-run-requires c κs =
-    let s = c .before .before .before .before .before .before .before .before .before in (
-      (s .pre .0, rows-part (s .args .of .p) (s .args .index .now)),
+    let s = start-shared c in (
+      (s .pre .0, rows-part (s .args .of .p) (s .args .lists .now)),
       (s .pre .1 .0 .0 .once, (s .pre .1 .1 .1 .0, s .pre .1 .1 .1 .1 .0)),
     )
 
 write-rows-requires : tie.Need-write-rows-requires
 write-rows-requires c κs =
-    let at-shared = c .before .before .before .before .before in
-    let s = at-shared .before .before .before .before .before .before .before .before .before .before in (
-      (in-run-to (at-shared .shared-run .kept .1 .1 .0) (s .pre .0), rows-part (s .args .of .p) (s .args .index .now)),
+    let at-shared = ran c in
+    let s = start-shared (at-shared .before) in (
+      (in-run-to (at-shared .shared-run .kept .1 .1 .0) (s .pre .0), rows-part (s .args .of .p) (s .args .lists .now)),
       (s .pre .1 .0, s .pre .1 .1 .1 .1 .1),
     )
 
@@ -79,8 +92,8 @@ same-length-7 c = search needs
 returns-2 : tie.Need-returns-2
 returns-2 c =
     let at-write = c .before .before in
-    let at-shared = at-write .before .before .before .before .before .before in
-    let s = at-shared .before .before .before .before .before .before .before .before .before .before in
+    let at-shared = ran (at-write .before) in
+    let s = start-shared (at-shared .before) in
     run-offset (plain (s .args .offset) (s .fits .offset)) (run-law (s .pre .0) (s .pre .1 .0 .0 .low) (at-shared .shared-run .ensures) (at-write .write-rows .ensures))
 
 pub run-spec : {M : Type 1} → statement M

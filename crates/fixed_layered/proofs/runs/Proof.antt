@@ -13,14 +13,27 @@ use Rattle.fixed_layered.proofs.runs.Statement.{statement}
 use Rattle.fixed_layered.proofs.runs.Tie as tie
 
 abbrev Inv-loop : tie.InvT-loop
-Inv-loop index work₀ t₀ u₀ sums₀ table of offset l q step flags any at₀ j₀ work t u sums at j =
+Inv-loop lists work₀ t₀ u₀ sums₀ table of offset l q step flags any at₀ j₀ work t u sums at j =
     (at ≡ j * step) ×
     ((at < 374 + step) ×
     ((length work ≡ length work₀) ×
-    (((length t ≡ length t₀) × ((length u ≡ length u₀) × (length sums ≡ length sums₀))) × RunsMade (of .n) (of .p) (of .lanes) (toZ w8 offset) index q step l work₀ j work)))
+    (((length t ≡ length t₀) × ((length u ≡ length u₀) × (length sums ≡ length sums₀))) × RunsMade (of .n) (of .p) (of .lanes) (toZ w8 offset) lists q step l work₀ j work)))
 
 abbrev μ-loop : tie.MeasureT-loop
-μ-loop index work₀ t₀ u₀ sums₀ table of offset l q step flags any at₀ j₀ work t u sums at j = 374 + step - at
+μ-loop lists work₀ t₀ u₀ sums₀ table of offset l q step flags any at₀ j₀ work t u sums at j = 374 + step - at
+
+-- the points that several needs reach
+abbrev start : tie.At-loop Inv-loop μ-loop → tie.Start Inv-loop μ-loop
+start c = c .before .before .before .before .before
+
+abbrev looped : tie.After-least Inv-loop μ-loop → tie.At-loop Inv-loop μ-loop
+looped c = c .before .before
+
+abbrev measured : tie.After-flags2 Inv-loop μ-loop → tie.After-least Inv-loop μ-loop
+measured c = c .before .before .before .before .before
+
+abbrev ran : tie.After-sums Inv-loop μ-loop → tie.After-run Inv-loop μ-loop
+ran c = c .before .before .before .before
 
 shared-requires : tie.Need-shared-requires Inv-loop μ-loop
 shared-requires c κs =
@@ -39,7 +52,7 @@ loop-holds c =
           refl,
           (
             (refl, (refl, refl)),
-            runs-start (a .of .n) (a .of .p) (a .of .lanes) (toZ w8 (ofZ w8 (a .offset))) (a .index .now) (a .of .q) (a .of .step) (a .l) (a .work .now),
+            runs-start (a .of .n) (a .of .p) (a .of .lanes) (toZ w8 (ofZ w8 (a .offset))) (a .lists .now) (a .of .q) (a .of .step) (a .l) (a .work .now),
           ),
         ),
       ),
@@ -52,10 +65,10 @@ least-requires : tie.Need-least-requires Inv-loop μ-loop
 least-requires c κs = search needs
 
 -- the run's first check is one of the p
-inside : (c : tie.After-least Inv-loop μ-loop) → c .before .before .before .before .before .before .before .args .l + c .before .before .loop .at * c .before .before .before .before .before .before .before .args .of .q < 44880
+inside : (c : tie.After-least Inv-loop μ-loop) → start (looped c) .args .l + looped c .loop .at * start (looped c) .args .of .q < 44880
 inside c =
-    let h = c .before .before in
-    let s = h .before .before .before .before .before in
+    let h = looped c in
+    let s = start h in
     let z : (h .loop .at + 1) * s .args .of .q ≤ 374 * s .args .of .q = mul-le-mul-right (s .args .of .q) (omega (arith, c .before .loop-test .taken)) in
     omega (arith, s .pre .0 .whole, s .pre .0 .few-checks, s .pre .0 .layer)
 
@@ -67,8 +80,8 @@ add-first c = record { fits = omega (arith, inside c) }
 
 run-requires : tie.Need-run-requires Inv-loop μ-loop
 run-requires c κs =
-    let at-least = c .before .before .before .before .before in
-    let h = at-least .before .before in
+    let at-least = measured c in
+    let h = looped at-least in
     let at-shared = h .before .before in
     let s = at-shared .before .before .before in
     let m = at-least .least in
@@ -89,29 +102,27 @@ run-requires c κs =
 
 add-at : tie.Need-add-at Inv-loop μ-loop
 add-at c =
-    let at-loop-test = c .before .before .before .before .before .before .before .before .before .before .before in
-    let s = at-loop-test .before .before .before .before .before .before in
-    record { fits = omega (arith, at-loop-test .loop-test .taken, s .pre .0 .small-step) }
+    let t = measured (ran c .before) .before in
+    record { fits = omega (arith, t .loop-test .taken, start (t .before) .pre .0 .small-step) }
 
 add-j : tie.Need-add-j Inv-loop μ-loop
 add-j c =
-    let at-loop-test = c .before .before .before .before .before .before .before .before .before .before .before in
-    let h = at-loop-test .before in
-    let s = at-loop-test .before .before .before .before .before .before in
+    let t = measured (ran c .before) .before in
+    let h = t .before in
+    let s = start h in
     let z : h .loop .j * 1 ≤ h .loop .j * s .args .of .step = mul-le-mul-left (h .loop .j) (s .pre .0 .step) in
-    record { fits = omega (arith, h .loop .inv .0, at-loop-test .loop-test .taken) }
+    record { fits = omega (arith, h .loop .inv .0, t .loop-test .taken) }
 
 loop-less : tie.Need-loop-less Inv-loop μ-loop
 loop-less c =
-    let at-loop-test = c .before .before .before .before .before .before .before .before .before .before .before in
-    let s = at-loop-test .before .before .before .before .before .before in
-    omega (arith, at-loop-test .loop-test .taken, s .pre .0 .step)
+    let t = measured (ran c .before) .before in
+    omega (arith, t .loop-test .taken, start (t .before) .pre .0 .step)
 
 loop-again : tie.Need-loop-again Inv-loop μ-loop
 loop-again c =
-    let at-run = c .before .before .before .before in
-    let at-least = at-run .before .before .before .before .before .before in
-    let h = at-least .before .before in
+    let at-run = ran c in
+    let at-least = measured (at-run .before) in
+    let h = looped at-least in
     let k = at-run .run in
     let long = h .loop .inv .1 .1 .1 .0 in (
       omega (arith, h .loop .inv .0),
@@ -140,8 +151,9 @@ same-length-4 : tie.Need-same-length-4 Inv-loop μ-loop
 same-length-4 c = c .before .loop .inv .1 .1 .1 .0 .1 .1
 
 returns : tie.Need-returns Inv-loop μ-loop
-returns c = let s = c .before .before .before .before .before .before in
+returns c =
     let h = c .before in
+    let s = start h in
     runs-end (plain (s .args .offset) (s .fits .offset)) (s .pre .0 .step) (h .loop .inv .0) (c .loop-test .left) (h .loop .inv .1 .0) (h .loop .inv .1 .1 .1 .1)
 
 pub runs-spec : {M : Type 1} → statement M

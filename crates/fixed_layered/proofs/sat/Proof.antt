@@ -13,6 +13,10 @@ use Rattle.lane_math.specs.Fits.{sat-fits}
 use Rattle.fixed_layered.proofs.sat.Statement.{statement}
 use Rattle.fixed_layered.proofs.sat.Tie as tie
 
+-- the entry, which several needs reach
+abbrev start : tie.After-min32 → tie.Start
+start c = c .before .before
+
 max32-requires : tie.Need-max32-requires
 max32-requires c κs = search needs
 
@@ -24,19 +28,19 @@ top : (c : tie.After-max32) → c .max32 .result ≡ maxZ (c .before .args .x) (
 top c = c .max32 .ensures ∙ ap (λ (z : ℤ). maxZ z (negsuc 127)) (toZ-ofZ w32 (c .before .args .x) (c .before .fits .x))
 
 -- what the two calls made is the clamp
-made : (c : tie.After-min32) → c .min32 .result ≡ satZ (c .before .before .args .x)
+made : (c : tie.After-min32) → c .min32 .result ≡ satZ (start c .args .x)
 made c =
     c .min32 .ensures
     ∙ ap (λ (z : ℤ). minZ z (pos 127)) (toZ-ofZ w32 (c .before .max32 .result) (sfits-of (c .before .max32 .ok)) ∙ top (c .before))
 
-read : (c : tie.After-min32) → toZ w32 (ofZ w32 (c .min32 .result)) ≡ satZ (c .before .before .args .x)
-read c = let x = c .before .before .args .x in rw (made c) (toZ-ofZ w32 (satZ x) (widen32 (sat-fits x)))
+read : (c : tie.After-min32) → toZ w32 (ofZ w32 (c .min32 .result)) ≡ satZ (start c .args .x)
+read c = let x = start c .args .x in ap (λ (z : ℤ). toZ w32 (ofZ w32 z)) (made c) ∙ toZ-ofZ w32 (satZ x) (widen32 (sat-fits x))
 
 cast-result : tie.Need-cast-result
-cast-result c = rw (read c) (sat-fits (c .before .before .args .x))
+cast-result c = rw (read c) (sat-fits (start c .args .x))
 
 returns : tie.Need-returns
-returns c = let x = c .before .before .args .x in rw (read c) (plain (satZ x) (sat-fits x))
+returns c = let x = start c .args .x in rw (read c) (plain (satZ x) (sat-fits x))
 
 pub sat-spec : {M : Type 1} → statement M
 sat-spec = tie.close (tie.spec max32-requires min32-requires cast-result returns)

@@ -20,11 +20,15 @@ Inv-loop work₀ u lanes sums at i₀ work i = (i ≤ lanes) × ((length work �
 abbrev μ-loop : tie.MeasureT-loop
 μ-loop work₀ u lanes sums at i₀ work i = lanes - i
 
+-- the entry, which several needs reach
+abbrev start : tie.In-loop Inv-loop μ-loop → tie.Start Inv-loop μ-loop
+start c = c .before .before
+
 loop-holds : tie.Need-loop-holds Inv-loop μ-loop
 loop-holds c = let a = c .args in (search needs, (refl, settled-start (a .lanes) (a .u) (a .at) (a .sums .now) (a .work .now)))
 
 add-s : tie.Need-add-s Inv-loop μ-loop
-add-s c = let s = c .before .before in record { fits = omega (arith, s .pre .1, c .loop-test .taken, s .good) }
+add-s c = let s = start c in record { fits = omega (arith, s .pre .1, c .loop-test .taken, s .good) }
 
 mul-s : tie.Need-mul-s Inv-loop μ-loop
 mul-s c = search needs
@@ -37,10 +41,9 @@ sat-requires c κs = search needs
 
 place-requires : tie.Need-place-requires Inv-loop μ-loop
 place-requires c κs =
-    let s = c .before .before .before .before .before in
-    let h = c .before .before .before .before in
-    let q = c .before .before .before .loop-test .taken in
-    (omega (arith, s .pre .0, q, h .loop .inv .1 .0), q)
+    let at-loop-test = c .before .before .before in
+    let q = at-loop-test .loop-test .taken in
+    (omega (arith, start at-loop-test .pre .0, q, at-loop-test .before .loop .inv .1 .0), q)
 
 add-i : tie.Need-add-i Inv-loop μ-loop
 add-i c = search needs
@@ -50,12 +53,13 @@ loop-less c = search needs
 
 loop-again : tie.Need-loop-again Inv-loop μ-loop
 loop-again c =
-    let at-s = c .before .before .before .before in
+    let at-sat = c .before .before .before in
+    let at-s = at-sat .before in
     let at-loop-test = at-s .before in
-    let s = c .before .before .before .before .before .before .before in
-    let h = c .before .before .before .before .before .before in
+    let s = start at-loop-test in
+    let h = at-loop-test .before in
     let q = at-loop-test .loop-test .taken in
-    let x = c .before .before .before .sat in
+    let x = at-sat .sat in
     let k = c .before .place in (
       search needs,
       (
