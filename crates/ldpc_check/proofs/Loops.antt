@@ -199,17 +199,21 @@ module _ (out out₀ : List ℕ) (n : ℕ) (all list rest : List ℕ) (size : le
     reach : n + d ≤ length out
     reach = omega (arith, list-fits, length-take (length out - n) (drop n out), length-drop n out)
 
-    pub rows-size : length (take n out ++ (ys ++ drop (length out - n) (drop n out))) ≡ length out₀
+    rows-size : length (take n out ++ (ys ++ drop (length out - n) (drop n out))) ≡ length out₀
     rows-size = lent-length out list ys n d ed ey reach ∙ size
 
-    pub rows-below : n + d ≤ length (take n out ++ (ys ++ drop (length out - n) (drop n out)))
+    rows-below : n + d ≤ length (take n out ++ (ys ++ drop (length out - n) (drop n out)))
     rows-below = omega (arith, reach, lent-length out list ys n d ed ey reach)
 
-    pub rows-all : all ≡ take (n + d) (take n out ++ (ys ++ drop (length out - n) (drop n out))) ++ rest
+    rows-all : all ≡ take (n + d) (take n out ++ (ys ++ drop (length out - n) (drop n out))) ++ rest
     rows-all = e ∙ sym (append-assoc (take n out) list rest) ∙ ap (λ (z : List ℕ). z ++ rest) (sym (lent-front out list ys n d ed ey reach))
 
-    pub rows-kept : drop (n + d) (take n out ++ (ys ++ drop (length out - n) (drop n out))) ≡ drop (n + d) out₀
+    rows-kept : drop (n + d) (take n out ++ (ys ++ drop (length out - n) (drop n out))) ≡ drop (n + d) out₀
     rows-kept = lent-rest out list ys n d ed ey reach ∙ sym (drop-drop d n out) ∙ ap (drop d) kept ∙ drop-drop d n out₀
+
+    pub rows-on : (let out′ = take n out ++ (ys ++ drop (length out - n) (drop n out)) in
+        (length out′ ≡ length out₀) × (n + d ≤ length out′) × (all ≡ take (n + d) out′ ++ rest) × (drop (n + d) out′ ≡ drop (n + d) out₀))
+    rows-on = (rows-size, rows-below, rows-all, rows-kept)
 
 pub rows-done : (out out₀ all rest : List ℕ) (n : ℕ) → n ≤ length out → all ≡ take n out ++ rest → rest ≡ [] → drop n out ≡ drop n out₀
     → (n ≡ length all) × (out ≡ all ++ drop n out₀)

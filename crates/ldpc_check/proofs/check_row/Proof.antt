@@ -1,7 +1,7 @@
 -- `ldpc_check::check_row` meets its contract. Assumes nothing.
-use Rattle.ldpc_check.proofs.Loops.{found, row-start, row-size, row-room, row-hit, row-miss, row-end, found-fits}
+use Rattle.ldpc_check.proofs.Loops.{found, row-start, row-room, row-hit, row-miss, row-end, found-fits}
 use lib.ListN.{length, drop}
-use Prim.Native.Nat.{_+_, _≤_}
+use Prim.Native.Nat.{_+_, _≤_, _<_}
 use mathlib.Core.List.{_++_}
 use mathlib.Core.Path.{_≡_, refl, ap}
 use borrow.Author.Needs.{needs}
@@ -14,6 +14,33 @@ Inv-loop out₀ row q c first l n₀ i₀ out n i = (i ≤ length row) × (n ≡
 
 abbrev μ-loop : tie.MeasureT-loop
 μ-loop out₀ row q c first l n₀ i₀ out n i = i
+
+-- ---- the points
+abbrev start : tie.At-loop Inv-loop μ-loop → tie.Start Inv-loop μ-loop
+start c = c .before .before .before .before
+
+abbrev looped : tie.After-residue Inv-loop μ-loop → tie.At-loop Inv-loop μ-loop
+looped c = c .before .before .before
+
+abbrev met : tie.After-bit-of Inv-loop μ-loop → tie.Then1 Inv-loop μ-loop
+met c = c .before .before
+
+-- the list stays as long as it was, and has room for a bit that is met
+long : (c : tie.At-loop Inv-loop μ-loop) → length (c .loop .out) ≡ length (start c .args .out .now)
+long c =
+    let s = start c in
+    let l = c .loop in
+    found-fits (s .args .q) (s .args .c) (s .args .first) (s .args .row .now) (s .pre .0) (s .pre .1) (l .out) (s .args .out .now) (l .n) (l .i) (l .inv .1) (l .inv .2) (s .pre .4)
+
+room : (c : tie.Then1 Inv-loop μ-loop) → looped (c .before) .loop .n < length (looped (c .before) .loop .out)
+room c =
+    let at-residue = c .before in
+    let at-wide = looped at-residue .before in
+    let s = start (looped at-residue) in
+    let l = looped at-residue .loop in
+    row-room (s .args .q) (s .args .c) (s .args .first) (s .args .row .now) (s .pre .0) (s .pre .1) (l .i) (search needs) (l .inv .0) (at-residue .residue .result)
+    (at-wide .wide .result) (at-residue .residue .ensures .0) (at-wide .wide .ensures) (l .out) (s .args .out .now) (l .n) (l .inv .1) (l .inv .2) (s .pre .4)
+    (c .if1 .taken)
 
 rem-wide : tie.Need-rem-wide Inv-loop μ-loop
 rem-wide c = search needs
@@ -41,39 +68,19 @@ residue-requires c κs = search needs
 
 bit-of-requires : tie.Need-bit-of-requires Inv-loop μ-loop
 bit-of-requires c κs =
-    let s = c .before .before .before .before .before .before .before .before .before in
-    ((s .pre .0), (s .pre .1), (s .pre .2))
+    let s = start (looped (c .before .before)) in
+    (s .pre .0, s .pre .1, s .pre .2)
 
 add-insert-bit : tie.Need-add-insert-bit Inv-loop μ-loop
-add-insert-bit c =
-    let s = c .before .before .before .before .before .before .before .before .before .before in
-    omega (arith, (c .bit-of .ensures .1), (s .pre .3))
+add-insert-bit c = omega (arith, c .bit-of .ensures .1, start (looped (met c .before)) .pre .3)
 
 insert-bit-requires : tie.Need-insert-bit-requires Inv-loop μ-loop
-insert-bit-requires c κs =
-    let at-residue = c .before .before .before in
-    let at-wide = at-residue .before .before .before .before in
-    let s = c .before .before .before .before .before .before .before .before .before .before in
-    let l = c .before .before .before .before .before .before .loop in
-    row-room (s .args .q) (s .args .c) (s .args .first) (s .args .row .now) (s .pre .0) (s .pre .1) (l .i) (search needs) (l .inv .0) (at-residue .residue .result)
-    (at-wide .wide .result) (at-residue .residue .ensures .0) (at-wide .wide .ensures) (l .out) (s .args .out .now) (l .n) (l .inv .1) (l .inv .2) (s .pre .4)
-    (c .before .before .if1 .taken)
+insert-bit-requires c κs = room (met c)
 
 add-n : tie.Need-add-n Inv-loop μ-loop
 add-n c =
-    let at-if1 = c .before .before .before .before .before in
-    let at-residue = at-if1 .before in
-    let at-wide = at-residue .before .before .before .before in
-    let s = c .before .before .before .before .before .before .before .before .before .before .before .before .before in
-    let l = c .before .before .before .before .before .before .before .before .before .loop in
-    let f =
-    row-room (s .args .q) (s .args .c) (s .args .first) (s .args .row .now) (s .pre .0) (s .pre .1) (l .i) (search needs) (l .inv .0) (at-residue .residue .result)
-    (at-wide .wide .result) (at-residue .residue .ensures .0) (at-wide .wide .ensures) (l .out) (s .args .out .now) (l .n) (l .inv .1) (l .inv .2) (s .pre .4)
-    (at-if1 .if1 .taken) in
-    let e =
-    row-size (s .args .q) (s .args .c) (s .args .first) (s .args .row .now) (s .pre .0) (s .pre .1) (l .i) (search needs) (l .inv .0) (at-residue .residue .result)
-    (at-wide .wide .result) (at-residue .residue .ensures .0) (at-wide .wide .ensures) (l .out) (s .args .out .now) (l .n) (l .inv .1) (l .inv .2) (s .pre .4) in
-    omega (arith, f, e)
+    let at-if1 = met (c .before .before .before) in
+    omega (arith, room at-if1, long (looped (at-if1 .before)))
 
 loop-less : tie.Need-loop-less Inv-loop μ-loop
 loop-less c = search needs
@@ -82,15 +89,14 @@ loop-again : tie.Need-loop-again Inv-loop μ-loop
 loop-again c =
     let at-insert-bit = c .before .before in
     let at-bit-of = at-insert-bit .before in
-    let at-if1 = at-bit-of .before .before in
-    let at-residue = at-if1 .before in
-    let at-wide = at-residue .before .before .before .before in
-    let s = c .before .before .before .before .before .before .before .before .before .before .before .before .before in
-    let l = c .before .before .before .before .before .before .before .before .before .loop in
+    let at-residue = met at-bit-of .before in
+    let at-wide = looped at-residue .before in
+    let s = start (looped at-residue) in
+    let l = looped at-residue .loop in
     let r =
     row-hit (s .args .q) (s .args .c) (s .args .first) (s .args .row .now) (s .pre .0) (s .pre .1) (l .i) (search needs) (l .inv .0) (at-residue .residue .result)
     (at-wide .wide .result) (at-residue .residue .ensures .0) (at-wide .wide .ensures) (l .out) (s .args .out .now) (l .n) (l .inv .1) (l .inv .2) (s .pre .4)
-    (at-if1 .if1 .taken) ((s .args .first) + (at-bit-of .bit-of .result)) ((l .n) + 1) (at-insert-bit .insert-bit .last .0)
+    (met at-bit-of .if1 .taken) ((s .args .first) + (at-bit-of .bit-of .result)) ((l .n) + 1) (at-insert-bit .insert-bit .last .0)
     (ap (λ z. (s .args .first) + z) (at-bit-of .bit-of .ensures .0)) (at-insert-bit .insert-bit .ensures) refl in
     (omega arith, r .0, r .1)
 
@@ -99,9 +105,10 @@ loop-less-2 c = search needs
 
 loop-again-2 : tie.Need-loop-again-2 Inv-loop μ-loop
 loop-again-2 c =
-    let wide = c .before .before .before .before .before .wide in
-    let s = c .before .before .before .before .before .before .before .before in
-    let l = c .before .before .before .before .loop in
+    let at-loop = looped (c .before) in
+    let wide = at-loop .before .wide in
+    let s = start at-loop in
+    let l = at-loop .loop in
     let r =
     row-miss (s .args .q) (s .args .c) (s .args .first) (s .args .row .now) (s .pre .0) (s .pre .1) (l .i) (search needs) (l .inv .0) (c .before .residue .result)
     (wide .result) (c .before .residue .ensures .0) (wide .ensures) (l .out) (s .args .out .now) (l .n) (l .inv .1) (l .inv .2) (s .pre .4) (c .if1 .left) (l .n)
@@ -109,14 +116,11 @@ loop-again-2 c =
     (omega arith, r .0, r .1)
 
 same-length : tie.Need-same-length Inv-loop μ-loop
-same-length c =
-    let s = c .before .before .before .before .before in
-    let l = c .before .loop in
-    found-fits (s .args .q) (s .args .c) (s .args .first) (s .args .row .now) (s .pre .0) (s .pre .1) (l .out) (s .args .out .now) (l .n) (l .i) (l .inv .1) (l .inv .2) (s .pre .4)
+same-length c = long (c .before)
 
 returns : tie.Need-returns Inv-loop μ-loop
 returns c =
-    let s = c .before .before .before .before .before in
+    let s = start (c .before) in
     let l = c .before .loop in
     row-end (s .args .q) (s .args .c) (s .args .first) (s .args .row .now) (s .pre .0) (s .pre .1) (l .out) (s .args .out .now) (l .n) (l .i) (search needs) (l .inv .1) (l .inv .2)
 

@@ -10,28 +10,28 @@ use Rattle.report_form.proofs.Bytes.{inside, byte-found, byte-missing}
 use Rattle.report_form.proofs.expect.Statement.{statement}
 use Rattle.report_form.proofs.expect.Tie as tie
 
+-- ---- the points
+abbrev start : tie.After-byte-at → tie.Start
+start c = c .before .before .before
+
 byte-at-requires : tie.Need-byte-at-requires
 byte-at-requires c κs = search needs
 
 add-t8 : tie.Need-add-t8
 add-t8 c =
-    let s = c .before .before .before .before in
-    let a = c .before .before .before .before .args in
-    let p = c .before .before .before .before .pre in
+    let a = start (c .before) .args in
     let h : 0 < getD (a .text .now) (a .at) 0 = omega (arith, c .before .byte-at .ensures, c .if2 .taken) in
     omega (arith, inside (a .text .now) (a .at) h)
 
 returns : tie.Need-returns
 returns c =
-    let s = c .before .before .before .before in
-    let a = c .before .before .before .before .args in
+    let a = start (c .before) .args in
     reads-right (c .before .before .if1 .taken)
-    (byte-found (a .text .now) (a .at) (a .b) (s .pre) (sym (c .before .byte-at .ensures) ∙ c .if2 .taken))
+    (byte-found (a .text .now) (a .at) (a .b) (start (c .before) .pre) (sym (c .before .byte-at .ensures) ∙ c .if2 .taken))
 
 returns-2 : tie.Need-returns-2
 returns-2 c =
-    let s = c .before .before .before .before in
-    let a = c .before .before .before .before .args in
+    let a = start (c .before) .args in
     reads-none
     (byte-missing (a .text .now) (a .at) (a .b) (λ e. c .if2 .left (c .before .byte-at .ensures ∙ e)))
 

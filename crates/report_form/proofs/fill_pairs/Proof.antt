@@ -2,7 +2,8 @@
 -- Assumes nothing.
 use mathlib.Core.Path.{_≡_, sym, ap, _∙_}
 use mathlib.Core.List.{List}
-use Prim.Native.Nat.{ℕ, _-_, _<_}
+use mathlib.Core.Logic.{_⊎_}
+use Prim.Native.Nat.{ℕ, _-_, _<_, _≤_}
 use borrow.Author.Needs.{needs}
 use native.Mathlib.Omega.{arith}
 use lib.ListN.{drop, getD}
@@ -23,6 +24,45 @@ Inv-loop text at n words₀ base i₀ count₀ words i count = Filling n base (d
 abbrev μ-loop : tie.MeasureT-loop
 μ-loop text at n words₀ base i₀ count₀ words i count = 64 - count
 
+-- ---- the points
+abbrev start : tie.At-loop Inv-loop μ-loop → tie.Start Inv-loop μ-loop
+start c = c .before .before
+
+abbrev looped : tie.Then1 Inv-loop μ-loop → tie.At-loop Inv-loop μ-loop
+looped c = c .before .before
+
+abbrev after : tie.Else1 Inv-loop μ-loop → tie.At-loop Inv-loop μ-loop
+after c = c .before .before
+
+abbrev read : tie.After-struct-told Inv-loop μ-loop → tie.After-read-pair Inv-loop μ-loop
+read c = c .before .before
+
+-- a turn has room for a pair, its mark stands at i, and the position that is read is one of the word's
+room : (c : tie.Then1 Inv-loop μ-loop) → looped c .loop .count < 64
+room c =
+    let e = looped c .loop in
+    goes-room (start (looped c) .args .text .now) (e .count) 64 (e .i) 9 (c .before .goes-on .ensures) (c .if1 .taken)
+
+marked : (c : tie.Then1 Inv-loop μ-loop) → getD (drop (looped c .loop .i) (start (looped c) .args .text .now)) 0 0 ≡ 9
+marked c =
+    let e = looped c .loop in
+    goes-mark (start (looped c) .args .text .now) (e .count) 64 (e .i) 9 (c .before .goes-on .ensures) (c .if1 .taken)
+
+below : (c : tie.After-read-pair Inv-loop μ-loop) → c .read-pair .result .position < start (looped (c .before)) .args .n
+below c =
+    let e = looped (c .before) .loop in
+    let s = start (looped (c .before)) in
+    let a = s .args in
+    let r = c .read-pair .result in
+    filling-below (a .n) (a .base) (drop (a .at) (a .text .now)) (a .words .now) (drop (e .i) (a .text .now)) (e .count) (e .words) (r .position) (r .value) (e .inv)
+    (marked (c .before)) (c .read-pair .ensures) (s .pre .1)
+
+-- behind the loop no pair is left
+ended : (c : tie.Else1 Inv-loop μ-loop) → (64 ≤ after c .loop .count) ⊎ (getD (drop (after c .loop .i) (start (after c) .args .text .now)) 0 0 ≡ 9 → ⊥)
+ended c =
+    let e = after c .loop in
+    goes-end (start (after c) .args .text .now) (e .count) 64 (e .i) 9 (c .before .goes-on .ensures) (c .if1 .left)
+
 loop-holds : tie.Need-loop-holds Inv-loop μ-loop
 loop-holds c = let a = c .before .args in filling-start (a .n) (a .base) (drop (a .at) (a .text .now)) (a .words .now)
 
@@ -37,76 +77,47 @@ cast-place c = search needs
 
 add-place : tie.Need-add-place Inv-loop μ-loop
 add-place c =
-    let s = c .before .before .before .before .before .before in
-    let good = c .before .before .before .before .before .before .good in
-    let a = c .before .before .before .before .before .before .args in
-    let e = c .before .before .before .before .loop in
-    let r = c .before .read-pair .result in
-    let b : r .position < a .n =
-    filling-below (a .n) (a .base) (drop (a .at) (a .text .now)) (a .words .now) (drop (e .i) (a .text .now)) (e .count) (e .words) (r .position) (r .value) (e .inv)
-    (goes-mark (a .text .now) (e .count) 64 (e .i) 9 (c .before .before .before .goes-on .ensures) (c .before .before .if1 .taken)) (c .before .read-pair .ensures) (s .pre .1) in
-    omega (arith, s .pre .0, good .1 .1 .1 .0 .0)
+    let s = start (looped (c .before .before)) in
+    omega (arith, below (c .before), s .pre .0, s .good .1 .1 .1 .0 .0)
 
 slice-set-from-value : tie.Need-slice-set-from-value Inv-loop μ-loop
 slice-set-from-value c =
-    let at-read-pair = c .before .before in
-    let at-goes-on = at-read-pair .before .before in
-    let s = at-goes-on .before .before .before in
-    let a = c .before .before .before .before .before .before .before .args in
-    let e = c .before .before .before .before .before .loop in
-    let r = at-read-pair .read-pair .result in
-    let b : r .position < a .n =
-    filling-below (a .n) (a .base) (drop (a .at) (a .text .now)) (a .words .now) (drop (e .i) (a .text .now)) (e .count) (e .words) (r .position) (r .value) (e .inv)
-    (goes-mark (a .text .now) (e .count) 64 (e .i) 9 (at-goes-on .goes-on .ensures) (c .before .before .before .if1 .taken)) (at-read-pair .read-pair .ensures) (s .pre .1) in
-    omega (arith, s .pre .0, e .inv .same)
+    let at-loop = looped (read c .before) in
+    omega (arith, below (read c), start at-loop .pre .0, at-loop .loop .inv .same)
 
 add-count : tie.Need-add-count Inv-loop μ-loop
-add-count c =
-    let at-goes-on = c .before .before .before .before in
-    let s = at-goes-on .before .before .before in
-    let e = c .before .before .before .before .before .loop in
-    omega (arith, goes-room (s .args .text .now) (e .count) 64 (e .i) 9 (at-goes-on .goes-on .ensures) (c .before .before .before .if1 .taken))
+add-count c = omega (arith, room (read c .before))
 
 loop-less : tie.Need-loop-less Inv-loop μ-loop
-loop-less c =
-    let at-goes-on = c .before .before .before .before in
-    let s = at-goes-on .before .before .before in
-    let e = c .before .before .before .before .before .loop in
-    omega (arith, goes-room (s .args .text .now) (e .count) 64 (e .i) 9 (at-goes-on .goes-on .ensures) (c .before .before .before .if1 .taken))
+loop-less c = omega (arith, room (read c .before))
 
 loop-again : tie.Need-loop-again Inv-loop μ-loop
 loop-again c =
-    let at-read-pair = c .before .before in
-    let at-goes-on = at-read-pair .before .before in
-    let s = at-goes-on .before .before .before in
-    let a = c .before .before .before .before .before .before .before .args in
-    let q = c .before .before .before .before .before .loop in
-    let r = at-read-pair .read-pair .result in
+    let at-loop = looped (read c .before) in
+    let a = start at-loop .args in
+    let q = at-loop .loop in
+    let r = read c .read-pair .result in
     let e = sym (toZ-ofZ w8 (r .value) (record { sfits = c .struct-told .given .1 .1 .0 .1 })) in
     filling-again (a .n) (a .base) (drop (a .at) (a .text .now)) (a .words .now) (drop (q .i) (a .text .now)) (q .count) (q .words) (r .position) (toZ w8 (ofZ w8 (r .value))) (q .inv)
-    (goes-mark (a .text .now) (q .count) 64 (q .i) 9 (at-goes-on .goes-on .ensures) (c .before .before .before .if1 .taken))
-    (reads-as (at-read-pair .read-pair .ensures) (ap (pairFrom (r .position)) e))
+    (marked (read c .before)) (reads-as (read c .read-pair .ensures) (ap (pairFrom (r .position)) e))
 
 add-result : tie.Need-add-result Inv-loop μ-loop
 add-result c =
-    let s = c .before .before .before .before in
-    let a = c .before .before .before .before .args in
-    let q = c .before .before .loop in
+    let s = start (after c) in
+    let a = s .args in
+    let q = after c .loop in
     let x = s .pre .1 in
-    let e = no-pair (q .inv .left (x .pairs) (x .rest) (x .at-place)) (goes-end (a .text .now) (q .count) 64 (q .i) 9 (c .before .goes-on .ensures) (c .if1 .left)) .0 in
+    let e = no-pair (q .inv .left (x .pairs) (x .rest) (x .at-place)) (ended c) .0 in
     let h : getD (a .text .now) (q .i) 0 ≡ 10 = sym (head-at (a .text .now) (q .i)) ∙ ap (λ (l : List ℕ). getD l 0 0) e in
     omega (arith, inside (a .text .now) (q .i) (omega arith))
 
 same-length : tie.Need-same-length Inv-loop μ-loop
-same-length c = c .before .before .loop .inv .same
+same-length c = after c .loop .inv .same
 
 returns : tie.Need-returns Inv-loop μ-loop
 returns c =
-    let s = c .before .before .before .before in
-    let a = c .before .before .before .before .args in
-    let e = c .before .before .loop in
-    λ ps rest x.
-    filled-here (a .text .now) (e .i) rest (no-pair (e .inv .left ps rest x) (goes-end (a .text .now) (e .count) 64 (e .i) 9 (c .before .goes-on .ensures) (c .if1 .left)))
+    let e = after c .loop in
+    λ ps rest x. filled-here (start (after c) .args .text .now) (e .i) rest (no-pair (e .inv .left ps rest x) (ended c))
 
 pub fill-pairs-spec : {M : Type 1} → statement M
 fill-pairs-spec =

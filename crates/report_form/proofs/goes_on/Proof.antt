@@ -16,7 +16,7 @@ byte-at-requires c κs = search needs
 returns : tie.Need-returns
 returns c =
     let s = c .before .before .before in
-    let a = c .before .before .before .args in
+    let a = s .args in
     ap (λ (b : ℕ). eqb b (a .mark)) (c .byte-at .ensures)
     ∙ sym (ap (λ (b : Bool). b && eqb (getD (a .text .now) (a .at) 0) (a .mark)) (lt-ltb (a .count) (a .most) (c .before .if1 .taken)))
 

@@ -1,15 +1,41 @@
 -- `report_form::read` meets its contract: the lines read one after another make one description, or there is none.
 -- Assumes nothing.
-use mathlib.Core.Path.{refl, sym}
+use mathlib.Core.Path.{_≡_, refl, sym}
+use mathlib.Core.Bool.{true}
 use mathlib.Core.Logic.{inl, inr}
 use borrow.Author.Needs.{needs}
 use borrow.Author.Tests.{not-true, not-false}
+use lib.ListN.{drop}
 use mir.Syntax.{w8}
 use mir.Val.{toZ, ofZ}
 use mir.ValLaws.{toZ-ofZ}
+use Rattle.report_form.specs.Form.{Found, Reads}
+use Rattle.report_form.specs.Forms.{headForm}
 use Rattle.report_form.proofs.Whole.{head-reads, head-bound, no-head, body-reads, no-body, words-at, words-here, one-description, settings-as}
 use Rattle.report_form.proofs.read.Statement.{statement}
 use Rattle.report_form.proofs.read.Tie as tie
+
+-- ---- the points
+abbrev start : tie.After-expect → tie.Start
+start c = c .before .before
+
+abbrev line : tie.Else1 → tie.After-expect2
+line c = c .before .before
+
+abbrev lines : tie.Else2 → tie.After-read-words
+lines c = c .before .before
+
+abbrev filled : tie.After-struct-told → tie.After-fill-words
+filled c = c .before .before .before .before
+
+-- the first line: what was read of it, and that it is there
+first : (c : tie.After-expect2) → (let text = start (c .before .before) .args .text .now in
+    Reads headForm (λ x. (x .0 ≡ c .before .read-field .result .value) × Unit) true (c .expect2 .result .right) text (drop (c .expect2 .result .next) text))
+first c = head-reads (c .before .before .expect .ensures) (c .before .read-field .ensures) (c .expect2 .ensures)
+
+sized : (c : tie.Else1) → (let text = start (line c .before .before) .args .text .now in
+    Found headForm (λ x. (x .0 ≡ line c .before .read-field .result .value) × Unit) text (drop (line c .expect2 .result .next) text))
+sized c = first (line c) .found (not-false (line c .expect2 .result .right) (c .if1 .left))
 
 expect-requires : tie.Need-expect-requires
 expect-requires c κs = search needs
@@ -26,16 +52,7 @@ refused-requires c κs = search needs
 returns : tie.Need-returns
 returns c =
     let at-expect2 = c .before .before .before in
-    let at-read-field = at-expect2 .before in
-    let at-expect = at-read-field .before in
-    inl
-    (record {
-      none =
-          no-head (head-reads (at-expect .expect .ensures) (at-read-field .read-field .ensures) (at-expect2 .expect2 .ensures))
-          (not-true (at-expect2 .expect2 .result .right) (c .before .if1 .taken));
-      answer = c .refused .ensures;
-      kept = refl;
-    })
+    inl (record { none = no-head (first at-expect2) (not-true (at-expect2 .expect2 .result .right) (c .before .if1 .taken)); answer = c .refused .ensures; kept = refl })
 
 read-rows-requires : tie.Need-read-rows-requires
 read-rows-requires c κs = search needs
@@ -44,13 +61,7 @@ read-settings-requires : tie.Need-read-settings-requires
 read-settings-requires c κs = search needs
 
 read-words-requires : tie.Need-read-words-requires
-read-words-requires c κs =
-    let at-expect2 = c .before .before .before .before in
-    let at-read-field = at-expect2 .before in
-    let at-expect = at-read-field .before in
-    head-bound (at-read-field .read-field .result .value)
-    ((head-reads (at-expect .expect .ensures) (at-read-field .read-field .ensures) (at-expect2 .expect2 .ensures)) .found
-    (not-false (at-expect2 .expect2 .result .right) (c .before .before .if1 .left)))
+read-words-requires c κs = head-bound _ (sized (c .before .before))
 
 refused-requires-2 : tie.Need-refused-requires-2
 refused-requires-2 c κs = search needs
@@ -60,15 +71,10 @@ returns-2 c =
     let at-read-words = c .before .before .before in
     let at-read-settings = at-read-words .before in
     let at-read-rows = at-read-settings .before in
-    let at-if1 = at-read-rows .before in
-    let at-expect2 = at-if1 .before .before in
-    let at-read-field = at-expect2 .before in
-    let at-expect = at-read-field .before in
-    let n = at-read-field .read-field .result .value in
+    let n = line (at-read-rows .before) .before .read-field .result .value in
     inl
     (record {
-      none = no-body n
-          ((head-reads (at-expect .expect .ensures) (at-read-field .read-field .ensures) (at-expect2 .expect2 .ensures)) .found (not-false (at-expect2 .expect2 .result .right) (at-if1 .if1 .left)))
+      none = no-body n (sized (at-read-rows .before))
           ((body-reads n (at-read-rows .read-rows .ensures) (at-read-settings .read-settings .ensures) (at-read-words .read-words .ensures)) .missing refl (not-true (at-read-words .read-words .result .right) (c .before .if2 .taken)));
       answer = c .refused2 .ensures;
       kept = refl;
@@ -76,28 +82,22 @@ returns-2 c =
 
 fill-words-requires : tie.Need-fill-words-requires
 fill-words-requires c κs =
-    let at-read-words = c .before .before .before in
-    let at-read-field = at-read-words .before .before .before .before .before .before in
-    let s = at-read-field .before .before .before in
-    (s .pre, words-here (at-read-field .read-field .result .value) (at-read-words .read-words .ensures .found (not-false (at-read-words .read-words .result .right) (c .before .if2 .left))))
+    let at-read-words = lines (c .before) in
+    let at-read-field = line (at-read-words .before .before .before) .before in
+    (start (at-read-field .before) .pre, words-here (at-read-field .read-field .result .value) (at-read-words .read-words .ensures .found (not-false (at-read-words .read-words .result .right) (c .before .if2 .left))))
 
 same-length : tie.Need-same-length
-same-length c =
-    let fill-words = c .before .before .before .before .fill-words in
-    fill-words .kept .1 .1 .1 .0
+same-length c = filled c .fill-words .kept .1 .1 .1 .0
 
 returns-3 : tie.Need-returns-3
 returns-3 c =
-    let at-fill-words = c .before .before .before .before in
+    let at-fill-words = filled c in
     let at-if2 = at-fill-words .before .before in
-    let at-read-words = at-if2 .before .before in
+    let at-read-words = lines at-if2 in
     let at-read-settings = at-read-words .before in
     let at-read-rows = at-read-settings .before in
-    let at-if1 = at-read-rows .before in
-    let at-expect2 = at-if1 .before .before in
-    let at-read-field = at-expect2 .before in
-    let at-expect = at-read-field .before in
-    let s = at-expect .before .before in
+    let at-read-field = line (at-read-rows .before) .before in
+    let s = start (at-read-field .before) in
     let n = at-read-field .read-field .result .value in
     let e = at-read-settings .read-settings .result in
     let r = at-read-rows .read-rows .result in
@@ -107,8 +107,7 @@ returns-3 c =
     let f = at-read-words .read-words .ensures .found ok in
     inr
     (one-description n (r .count) (r .lengths) (r .total) (r .addresses) (e .lanes) (e .«iteration_limit») (toZ w8 (ofZ w8 (e .offset))) (e .layered) (e .step) (e .«round_limit») (e .«part_first») (e .«part_length») (at-read-words .read-words .result .value)
-    ((head-reads (at-expect .expect .ensures) (at-read-field .read-field .ensures) (at-expect2 .expect2 .ensures)) .found (not-false (at-expect2 .expect2 .result .right) (at-if1 .if1 .left)))
-    (at-read-rows .read-rows .ensures .found ok″ .0)
+    (sized (at-read-rows .before)) (at-read-rows .read-rows .ensures .found ok″ .0)
     (settings-as (at-read-settings .read-settings .ensures .found ok′) (sym (toZ-ofZ w8 (e .offset) (record { sfits = c .struct-told .given .1 .1 .1 .0 .1 }))))
     f
     (s .args .words .now) (at-fill-words .fill-words .last .1 .1 .1 .0) (s .pre) (at-fill-words .fill-words .ensures (f .it .0) (words-at n f)))

@@ -1,6 +1,7 @@
 -- `report_form::read_order` meets its contract.
 -- Assumes nothing.
-use mathlib.Core.Path.{sym, ap, _∙_}
+use mathlib.Core.Path.{_≡_, sym, ap, _∙_}
+use mathlib.Core.List.{_∷_}
 use borrow.Author.Needs.{needs}
 use Prim.Native.Nat.{_+_}
 use native.Mathlib.Omega.{arith}
@@ -12,13 +13,22 @@ use Rattle.report_form.proofs.Orders.{s-found, s-missing, step-found, s
 use Rattle.report_form.proofs.read_order.Statement.{statement}
 use Rattle.report_form.proofs.read_order.Tie as tie
 
+-- ---- the points
+abbrev start : tie.After-byte-at → tie.Start
+start c = c .before .before
+
+-- an S stands there
+lettered : (c : tie.Then1) → (let a = start (c .before) .args in drop (a .at) (a .text .now) ≡ 83 ∷ drop (a .at + 1) (a .text .now))
+lettered c =
+    let a = start (c .before) .args in
+    byte-here (a .text .now) (a .at) 83 (omega arith) (sym (c .before .byte-at .ensures) ∙ c .if1 .taken)
+
 byte-at-requires : tie.Need-byte-at-requires
 byte-at-requires c κs = search needs
 
 add-next : tie.Need-add-next
 add-next c =
-    let s = c .before .before .before in
-    let a = c .before .before .before .args in
+    let a = start (c .before) .args in
     omega (arith, inside (a .text .now) (a .at) (omega (arith, c .before .byte-at .ensures, c .if1 .taken)))
 
 digit-at-requires : tie.Need-digit-at-requires
@@ -26,25 +36,20 @@ digit-at-requires c κs = search needs
 
 returns : tie.Need-returns
 returns c =
-    let s = c .before .before .before .before .before in
-    let a = c .before .before .before .before .before .args in
-    let e = byte-here (a .text .now) (a .at) 83 (omega arith) (sym (c .before .before .before .byte-at .ensures) ∙ c .before .before .if1 .taken) in
-    reads-none (s-missing _ _ e (ap digit (head-at (a .text .now) (a .at + 1)) ∙ sym (c .before .digit-at .ensures) ∙ c .if2 .taken))
+    let a = start (c .before .before .before) .args in
+    reads-none (s-missing _ _ (lettered (c .before .before)) (ap digit (head-at (a .text .now) (a .at + 1)) ∙ sym (c .before .digit-at .ensures) ∙ c .if2 .taken))
 
 returns-2 : tie.Need-returns-2
 returns-2 c =
-    let s = c .before .before .before .before .before in
-    let a = c .before .before .before .before .before .args in
-    let e = byte-here (a .text .now) (a .at) 83 (omega arith) (sym (c .before .before .before .byte-at .ensures) ∙ c .before .before .if1 .taken) in
-    reads-one (s-found _ _ e (ap digit (head-at (a .text .now) (a .at + 1)) ∙ sym (c .before .digit-at .ensures) ∙ c .if2 .left))
+    let a = start (c .before .before .before) .args in
+    reads-one (s-found _ _ (lettered (c .before .before)) (ap digit (head-at (a .text .now) (a .at + 1)) ∙ sym (c .before .digit-at .ensures) ∙ c .if2 .left))
 
 read-number-requires : tie.Need-read-number-requires
 read-number-requires c κs = search needs
 
 returns-3 : tie.Need-returns-3
 returns-3 c =
-    let s = c .before .before .before .before in
-    let a = c .before .before .before .before .args in
+    let a = start (c .before .before) .args in
     let v = c .read-number .result in
     reads-both (c .read-number .ensures)
     (step-found (drop (a .at) (a .text .now)) (drop (v .next) (a .text .now)) (v .value))

@@ -1,7 +1,7 @@
 -- `report_form::read_row` meets its contract. The loop's invariant: the addresses so far, laid into the array.
 -- Assumes nothing.
 use mathlib.Core.Path.{refl}
-use Prim.Native.Nat.{_-_}
+use Prim.Native.Nat.{_+_, _-_, _<_}
 use borrow.Author.Needs.{needs}
 use borrow.Author.Tests.{not-true, not-false}
 use native.Mathlib.Omega.{arith}
@@ -17,12 +17,31 @@ Inv-loop text at from letter addresses₀ i₀ count₀ addresses i count = RowS
 abbrev μ-loop : tie.MeasureT-loop
 μ-loop text at from letter addresses₀ i₀ count₀ addresses i count = 4 - count
 
+-- ---- the points
+abbrev start : tie.After-expect Inv-loop μ-loop → tie.Start Inv-loop μ-loop
+start c = c .before .before
+
+abbrev looped : tie.Then1 Inv-loop μ-loop → tie.At-loop Inv-loop μ-loop
+looped c = c .before .before
+
+abbrev read : tie.Else2 Inv-loop μ-loop → tie.After-read-field Inv-loop μ-loop
+read c = c .before .before
+
+-- a turn has room for an address, also in the array
+room : (c : tie.Then1 Inv-loop μ-loop) → looped c .loop .count < 4
+room c =
+    let e = looped c .loop in
+    goes-room (start (looped c .before) .args .text .now) (e .count) 4 (e .i) 9 (c .before .goes-on .ensures) (c .if1 .taken)
+
+place : (c : tie.Else2 Inv-loop μ-loop) → start (looped (read c .before) .before) .args .from + looped (read c .before) .loop .count < 12
+place c = omega (arith, start (looped (read c .before) .before) .pre, room (read c .before))
+
 expect-requires : tie.Need-expect-requires Inv-loop μ-loop
 expect-requires c κs = search needs
 
 loop-holds : tie.Need-loop-holds Inv-loop μ-loop
 loop-holds c =
-    let s = c .before .before in
+    let s = start c in
     row-start (s .args .into) (s .args .from) (drop (c .expect .result .next) (s .args .text .now))
 
 goes-on-requires : tie.Need-goes-on-requires Inv-loop μ-loop
@@ -34,71 +53,42 @@ read-field-requires c κs = search needs
 returns : tie.Need-returns Inv-loop μ-loop
 returns c =
     let at-read-field = c .before .before in
-    let at-goes-on = at-read-field .before .before in
-    let at-loop = at-goes-on .before in
+    let at-loop = looped (at-read-field .before) in
     let at-expect = at-loop .before in
-    let s = at-expect .before .before in
-    row-none (s .args .into) (s .args .from) (at-loop .loop .count) (at-loop .loop .addresses) (at-expect .expect .ensures) (at-loop .loop .inv)
-    (goes-mark (s .args .text .now) (at-loop .loop .count) 4 (at-loop .loop .i) 9 (at-goes-on .goes-on .ensures) (c .before .before .before .if1 .taken))
+    let a = start at-expect .args in
+    row-none (a .into) (a .from) (at-loop .loop .count) (at-loop .loop .addresses) (at-expect .expect .ensures) (at-loop .loop .inv)
+    (goes-mark (a .text .now) (at-loop .loop .count) 4 (at-loop .loop .i) 9 (at-read-field .before .before .goes-on .ensures) (at-read-field .before .if1 .taken))
     (at-read-field .read-field .ensures .missing refl (not-true (at-read-field .read-field .result .right) (c .if2 .taken)))
 
 add-place : tie.Need-add-place Inv-loop μ-loop
-add-place c =
-    let at-goes-on = c .before .before .before .before in
-    let at-loop = at-goes-on .before in
-    let s = at-loop .before .before .before in
-    omega (arith, s .pre, goes-room (s .args .text .now) (at-loop .loop .count) 4 (at-loop .loop .i) 9 (at-goes-on .goes-on .ensures) (c .before .before .before .if1 .taken))
+add-place c = omega (arith, place c)
 
 cast-place : tie.Need-cast-place Inv-loop μ-loop
-cast-place c =
-    let at-goes-on = c .before .before .before .before in
-    let at-loop = at-goes-on .before in
-    let s = at-loop .before .before .before in
-    omega (arith, s .pre, goes-room (s .args .text .now) (at-loop .loop .count) 4 (at-loop .loop .i) 9 (at-goes-on .goes-on .ensures) (c .before .before .before .if1 .taken))
+cast-place c = omega (arith, place c)
 
 cast-addresses : tie.Need-cast-addresses Inv-loop μ-loop
 cast-addresses c =
-    let read-field = c .before .before .read-field in
-    let f = read-field .ensures .found (not-false (read-field .result .right) (c .if2 .left)) in
+    let f = read c .read-field .ensures .found (not-false (read c .read-field .result .right) (c .if2 .left)) in
     omega (arith, f .within, f .says)
 
 mul-addresses : tie.Need-mul-addresses Inv-loop μ-loop
-mul-addresses c =
-    let at-goes-on = c .before .before .before .before in
-    let at-loop = at-goes-on .before in
-    let s = at-loop .before .before .before in
-    omega (arith, s .pre, goes-room (s .args .text .now) (at-loop .loop .count) 4 (at-loop .loop .i) 9 (at-goes-on .goes-on .ensures) (c .before .before .before .if1 .taken))
+mul-addresses c = omega (arith, place c)
 
 array-write-addresses : tie.Need-array-write-addresses Inv-loop μ-loop
-array-write-addresses c =
-    let at-goes-on = c .before .before .before .before in
-    let at-loop = at-goes-on .before in
-    let s = at-loop .before .before .before in
-    omega (arith, s .pre, goes-room (s .args .text .now) (at-loop .loop .count) 4 (at-loop .loop .i) 9 (at-goes-on .goes-on .ensures) (c .before .before .before .if1 .taken))
+array-write-addresses c = omega (arith, place c)
 
 add-count : tie.Need-add-count Inv-loop μ-loop
-add-count c =
-    let at-goes-on = c .before .before .before .before in
-    let at-loop = at-goes-on .before in
-    let s = at-loop .before .before .before in
-    omega (arith, goes-room (s .args .text .now) (at-loop .loop .count) 4 (at-loop .loop .i) 9 (at-goes-on .goes-on .ensures) (c .before .before .before .if1 .taken))
+add-count c = omega (arith, room (read c .before))
 
 loop-less : tie.Need-loop-less Inv-loop μ-loop
-loop-less c =
-    let at-goes-on = c .before .before .before .before in
-    let at-loop = at-goes-on .before in
-    let s = at-loop .before .before .before in
-    omega (arith, goes-room (s .args .text .now) (at-loop .loop .count) 4 (at-loop .loop .i) 9 (at-goes-on .goes-on .ensures) (c .before .before .before .if1 .taken))
+loop-less c = omega (arith, room (read c .before))
 
 loop-again : tie.Need-loop-again Inv-loop μ-loop
 loop-again c =
-    let at-read-field = c .before .before in
-    let at-goes-on = at-read-field .before .before in
-    let at-loop = at-goes-on .before in
-    let s = at-loop .before .before .before in
-    row-again (s .args .into) (s .args .from) (at-loop .loop .count) (at-read-field .read-field .result .value) (at-loop .loop .addresses) (at-loop .loop .inv)
-    (at-read-field .read-field .ensures .found (not-false (at-read-field .read-field .result .right) (c .if2 .left)))
-    (goes-room (s .args .text .now) (at-loop .loop .count) 4 (at-loop .loop .i) 9 (at-goes-on .goes-on .ensures) (c .before .before .before .if1 .taken))
+    let at-loop = looped (read c .before) in
+    let a = start (at-loop .before) .args in
+    row-again (a .into) (a .from) (at-loop .loop .count) (read c .read-field .result .value) (at-loop .loop .addresses) (at-loop .loop .inv)
+    (read c .read-field .ensures .found (not-false (read c .read-field .result .right) (c .if2 .left))) (room (read c .before))
 
 expect-requires-2 : tie.Need-expect-requires-2 Inv-loop μ-loop
 expect-requires-2 c κs = search needs
@@ -107,7 +97,7 @@ returns-2 : tie.Need-returns-2 Inv-loop μ-loop
 returns-2 c =
     let at-loop = c .before .before .before in
     let at-expect = at-loop .before in
-    let s = at-expect .before .before in
+    let s = start at-expect in
     row-read (s .args .into) (s .args .from) (at-loop .loop .count) (at-loop .loop .addresses) (at-expect .expect .ensures) (at-loop .loop .inv)
     (goes-end (s .args .text .now) (at-loop .loop .count) 4 (at-loop .loop .i) 9 (c .before .before .goes-on .ensures) (c .before .if1 .left)) (c .expect2 .ensures)
 

@@ -1,7 +1,7 @@
 -- `report_form::read_rows` meets its contract. The loop's invariant: the rows so far, laid into the arrays.
 -- Assumes nothing.
 use mathlib.Core.Path.{refl}
-use Prim.Native.Nat.{_-_}
+use Prim.Native.Nat.{_-_, _<_, _≤_}
 use borrow.Author.Needs.{needs}
 use borrow.Author.Tests.{not-true, not-false}
 use native.Mathlib.Omega.{arith}
@@ -17,6 +17,27 @@ Inv-loop text right at lengths₀ addresses₀ count₀ total₀ i₀ lengths ad
 abbrev μ-loop : tie.MeasureT-loop
 μ-loop text right at lengths₀ addresses₀ count₀ total₀ i₀ lengths addresses count total i = 3 - count
 
+-- ---- the points
+abbrev start : tie.At-loop Inv-loop μ-loop → tie.Start Inv-loop μ-loop
+start c = c .before .before
+
+abbrev looped : tie.Then1 Inv-loop μ-loop → tie.At-loop Inv-loop μ-loop
+looped c = c .before .before
+
+abbrev read : tie.Else2 Inv-loop μ-loop → tie.After-read-row Inv-loop μ-loop
+read c = c .before .before
+
+-- a turn has room for a row, and for its addresses
+room : (c : tie.Then1 Inv-loop μ-loop) → looped c .loop .count < 3
+room c =
+    let e = looped c .loop in
+    goes-room (start (looped c) .args .text .now) (e .count) 3 (e .i) 82 (c .before .goes-on .ensures) (c .if1 .taken)
+
+total : (c : tie.Then1 Inv-loop μ-loop) → looped c .loop .total ≤ 8
+total c =
+    let e = looped c .loop in
+    omega (arith, rows-total (e .count) (e .lengths) (e .total) (e .addresses) (e .inv), room c)
+
 loop-holds : tie.Need-loop-holds Inv-loop μ-loop
 loop-holds c = rows-start (drop (c .before .args .at) (c .before .args .text .now))
 
@@ -24,85 +45,49 @@ goes-on-requires : tie.Need-goes-on-requires Inv-loop μ-loop
 goes-on-requires c κs = search needs
 
 read-row-requires : tie.Need-read-row-requires Inv-loop μ-loop
-read-row-requires c κs =
-    let s = c .before .before .before .before in
-    let e = c .before .before .loop in
-    omega (arith, rows-total (e .count) (e .lengths) (e .total) (e .addresses) (e .inv), goes-room (s .args .text .now) (e .count) 3 (e .i) 82 (c .before .goes-on .ensures) (c .if1 .taken))
+read-row-requires c κs = total c
 
 returns : tie.Need-returns Inv-loop μ-loop
 returns c =
     let at-read-row = c .before .before in
-    let at-goes-on = at-read-row .before .before in
-    let s = at-goes-on .before .before .before in
-    let e = c .before .before .before .before .before .loop in
-    rows-none (e .count) (e .lengths) (e .total) (e .addresses) (e .inv) (goes-mark (s .args .text .now) (e .count) 3 (e .i) 82 (at-goes-on .goes-on .ensures) (c .before .before .before .if1 .taken))
+    let at-loop = looped (at-read-row .before) in
+    let e = at-loop .loop in
+    rows-none (e .count) (e .lengths) (e .total) (e .addresses) (e .inv)
+    (goes-mark (start at-loop .args .text .now) (e .count) 3 (e .i) 82 (at-read-row .before .before .goes-on .ensures) (at-read-row .before .if1 .taken))
     (at-read-row .read-row .ensures .missing refl (not-true (at-read-row .read-row .result .right) (c .if2 .taken)))
 
 cast-place : tie.Need-cast-place Inv-loop μ-loop
-cast-place c =
-    let at-goes-on = c .before .before .before .before in
-    let s = at-goes-on .before .before .before in
-    let e = c .before .before .before .before .before .loop in
-    omega (arith, goes-room (s .args .text .now) (e .count) 3 (e .i) 82 (at-goes-on .goes-on .ensures) (c .before .before .before .if1 .taken))
+cast-place c = omega (arith, room (read c .before))
 
 mul-lengths : tie.Need-mul-lengths Inv-loop μ-loop
-mul-lengths c =
-    let at-goes-on = c .before .before .before .before in
-    let s = at-goes-on .before .before .before in
-    let e = c .before .before .before .before .before .loop in
-    omega (arith, goes-room (s .args .text .now) (e .count) 3 (e .i) 82 (at-goes-on .goes-on .ensures) (c .before .before .before .if1 .taken))
+mul-lengths c = omega (arith, room (read c .before))
 
 array-write-lengths : tie.Need-array-write-lengths Inv-loop μ-loop
-array-write-lengths c =
-    let at-goes-on = c .before .before .before .before in
-    let s = at-goes-on .before .before .before in
-    let e = c .before .before .before .before .before .loop in
-    omega (arith, goes-room (s .args .text .now) (e .count) 3 (e .i) 82 (at-goes-on .goes-on .ensures) (c .before .before .before .if1 .taken))
+array-write-lengths c = omega (arith, room (read c .before))
 
 add-total : tie.Need-add-total Inv-loop μ-loop
 add-total c =
-    let at-read-row = c .before .before .before in
-    let at-if1 = at-read-row .before in
-    let at-goes-on = at-if1 .before in
-    let s = at-goes-on .before .before .before in
-    let e = c .before .before .before .before .before .before .loop in
+    let at-read-row = read (c .before) in
     let f = at-read-row .read-row .ensures .found (not-false (at-read-row .read-row .result .right) (c .before .if2 .left)) in
-    omega (
-      arith,
-      rows-total (e .count) (e .lengths) (e .total) (e .addresses) (e .inv),
-      goes-room (s .args .text .now) (e .count) 3 (e .i) 82 (at-goes-on .goes-on .ensures) (at-if1 .if1 .taken),
-      f .within .few,
-      f .says .0,
-    )
+    omega (arith, total (at-read-row .before), f .within .few, f .says .0)
 
 add-count : tie.Need-add-count Inv-loop μ-loop
-add-count c =
-    let at-if1 = c .before .before .before .before in
-    let at-goes-on = at-if1 .before in
-    let s = at-goes-on .before .before .before in
-    let e = c .before .before .before .before .before .before .loop in omega (arith, goes-room (s .args .text .now) (e .count) 3 (e .i) 82 (at-goes-on .goes-on .ensures) (at-if1 .if1 .taken))
+add-count c = omega (arith, room (read (c .before) .before))
 
 loop-less : tie.Need-loop-less Inv-loop μ-loop
-loop-less c =
-    let at-if1 = c .before .before .before .before in
-    let at-goes-on = at-if1 .before in
-    let s = at-goes-on .before .before .before in
-    let e = c .before .before .before .before .before .before .loop in omega (arith, goes-room (s .args .text .now) (e .count) 3 (e .i) 82 (at-goes-on .goes-on .ensures) (at-if1 .if1 .taken))
+loop-less c = omega (arith, room (read (c .before) .before))
 
 loop-again : tie.Need-loop-again Inv-loop μ-loop
 loop-again c =
-    let at-read-row = c .before .before .before in
-    let at-if1 = at-read-row .before in
-    let at-goes-on = at-if1 .before in
-    let s = at-goes-on .before .before .before in
-    let e = c .before .before .before .before .before .before .loop in
+    let at-read-row = read (c .before) in
+    let e = looped (at-read-row .before) .loop in
     let r = at-read-row .read-row .result in
     rows-again (e .count) (e .lengths) (e .total) (e .addresses) (r .count) (r .addresses) (e .inv) (at-read-row .read-row .ensures .found (not-false (r .right) (c .before .if2 .left)))
-    (goes-room (s .args .text .now) (e .count) 3 (e .i) 82 (at-goes-on .goes-on .ensures) (at-if1 .if1 .taken))
+    (room (at-read-row .before))
 
 returns-2 : tie.Need-returns-2 Inv-loop μ-loop
 returns-2 c =
-    let s = c .before .before .before .before in
+    let s = start (c .before .before) in
     let e = c .before .before .loop in
     rows-read (e .count) (e .lengths) (e .total) (e .addresses) (e .inv) (goes-end (s .args .text .now) (e .count) 3 (e .i) 82 (c .before .goes-on .ensures) (c .if1 .left))
 

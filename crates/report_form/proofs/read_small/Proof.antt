@@ -2,8 +2,8 @@
 -- Assumes nothing.
 use mathlib.Core.Path.{_≡_, sym, _∙_, subst}
 use mathlib.Core.Bool.{true, false}
-use mathlib.Core.List.{List}
-use Prim.Native.Nat.{ℕ, _+_}
+use mathlib.Core.List.{List, _∷_}
+use Prim.Native.Nat.{ℕ, _+_, _≤_}
 use borrow.Author.Needs.{needs}
 use native.Mathlib.Omega.{arith}
 use lib.IntN.{pos}
@@ -18,6 +18,27 @@ use Rattle.report_form.proofs.Smalls.{plus-found, plus-missing, minus-f
 use Rattle.report_form.proofs.read_small.Statement.{statement}
 use Rattle.report_form.proofs.read_small.Tie as tie
 
+-- ---- the points
+abbrev start : tie.After-byte-at → tie.Start
+start c = c .before .before
+
+abbrev unsigned : tie.After-read-number → tie.After-byte-at
+unsigned c = c .before .before
+
+abbrev behind : tie.After-read-number2 → tie.After-byte-at
+behind c = c .before .before
+
+-- without a minus the number is at most 127; with one, the text begins with it
+plain : (c : tie.Then2) → c .before .read-number .result .value ≤ 127
+plain c =
+    let f = c .before .read-number .ensures .found (c .if2 .taken) in
+    omega (arith, f .within, f .says)
+
+signed : (c : tie.After-read-number2) → (let a = start (behind c) .args in 45 ∷ drop (a .at + 1) (a .text .now) ≡ drop (a .at) (a .text .now))
+signed c =
+    let a = start (behind c) .args in
+    sym (byte-here (a .text .now) (a .at) 45 (omega arith) (sym (behind c .byte-at .ensures) ∙ c .before .if1 .left))
+
 byte-at-requires : tie.Need-byte-at-requires
 byte-at-requires c κs = search needs
 
@@ -25,23 +46,18 @@ read-number-requires : tie.Need-read-number-requires
 read-number-requires c κs = search needs
 
 cast-t11 : tie.Need-cast-t11
-cast-t11 c =
-    let f = c .before .read-number .ensures .found (c .if2 .taken) in
-    omega (arith, f .within, f .says)
+cast-t11 c = omega (arith, plain c)
 
 returns : tie.Need-returns
 returns c =
-    let s = c .before .before .before .before .before in
-    let a = c .before .before .before .before .before .args in
+    let a = start (unsigned (c .before)) .args in
     let v = c .before .read-number .result in
-    let f = c .before .read-number .ensures .found (c .if2 .taken) in
     reads-found (c .before .read-number .ensures) (c .if2 .taken)
-    (plus-found (drop (a .at) (a .text .now)) (drop (v .next) (a .text .now)) (v .value) _ (sym (toZ-pos w8 (v .value) (omega (arith, f .within, f .says)))))
+    (plus-found (drop (a .at) (a .text .now)) (drop (v .next) (a .text .now)) (v .value) _ (sym (toZ-pos w8 (v .value) (omega (arith, plain c)))))
 
 add-read-number : tie.Need-add-read-number
 add-read-number c =
-    let s = c .before .before .before in
-    let a = c .before .before .before .args in
+    let a = start (c .before) .args in
     omega (arith, inside (a .text .now) (a .at) (omega (arith, c .before .byte-at .ensures, c .if1 .left)))
 
 read-number-requires-2 : tie.Need-read-number-requires-2
@@ -55,41 +71,32 @@ minus-requires c κs =
 returns-2 : tie.Need-returns-2
 returns-2 c =
     let at-read-number2 = c .before .before .before in
-    let at-if1 = at-read-number2 .before in
-    let at-byte-at = at-if1 .before in
-    let s = at-byte-at .before .before in
-    let a = c .before .before .before .before .before .before .before .args in
+    let a = start (behind at-read-number2) .args in
     let v = at-read-number2 .read-number2 .result in
-    subst (λ (t : List ℕ). Reads smalls (λ z. z ≡ toZ w8 (ofZ w8 (c .minus .result))) (a .right) true t (drop (v .next) (a .text .now)))
-    (sym (byte-here (a .text .now) (a .at) 45 (omega arith) (sym (at-byte-at .byte-at .ensures) ∙ at-if1 .if1 .left)))
+    subst (λ (t : List ℕ). Reads smalls (λ z. z ≡ toZ w8 (ofZ w8 (c .minus .result))) (a .right) true t (drop (v .next) (a .text .now))) (signed at-read-number2)
     (reads-found (at-read-number2 .read-number2 .ensures) (c .before .before .if3 .taken)
     (minus-found (drop (a .at + 1) (a .text .now)) (drop (v .next) (a .text .now)) (v .value) (toZ w8 (ofZ w8 (c .minus .result))) (c .before .if4 .taken) (sym (c .minus .ensures) ∙ sym (toZ-ofZ w8 (c .minus .result) (record { sfits = c .minus .ok })))))
 
 returns-3 : tie.Need-returns-3
 returns-3 c =
-    let s = c .before .before .before .before .before in
-    let a = c .before .before .before .before .before .args in
+    let at-byte-at = unsigned (c .before) in
+    let a = start at-byte-at .args in
     reads-missing (c .before .read-number .ensures) (c .if2 .left)
-    (plus-missing (drop (a .at) (a .text .now)) (λ e. c .before .before .if1 .taken (c .before .before .before .byte-at .ensures ∙ sym (head-at (a .text .now) (a .at)) ∙ e)))
+    (plus-missing (drop (a .at) (a .text .now)) (λ e. c .before .before .if1 .taken (at-byte-at .byte-at .ensures ∙ sym (head-at (a .text .now) (a .at)) ∙ e)))
 
 returns-4 : tie.Need-returns-4
 returns-4 c =
     let at-read-number2 = c .before .before in
-    let at-byte-at = at-read-number2 .before .before in
-    let s = at-byte-at .before .before in
-    let a = c .before .before .before .before .before .before .args in
+    let a = start (behind at-read-number2) .args in
     let v = at-read-number2 .read-number2 .result in
-    subst (λ (t : List ℕ). Reads smalls (λ z. z ≡ pos 0) (a .right) false t (a .text .now))
-    (sym (byte-here (a .text .now) (a .at) 45 (omega arith) (sym (at-byte-at .byte-at .ensures) ∙ c .before .before .before .if1 .left)))
+    subst (λ (t : List ℕ). Reads smalls (λ z. z ≡ pos 0) (a .right) false t (a .text .now)) (signed at-read-number2)
     (reads-spoiled (at-read-number2 .read-number2 .ensures) (c .before .if3 .taken)
     (minus-zero (drop (a .at + 1) (a .text .now)) (drop (v .next) (a .text .now)) (v .value) (c .if4 .left)))
 
 returns-5 : tie.Need-returns-5
 returns-5 c =
-    let s = c .before .before .before .before .before in
-    let a = c .before .before .before .before .before .args in
-    subst (λ (t : List ℕ). Reads smalls (λ z. z ≡ pos 0) (a .right) false t (a .text .now))
-    (sym (byte-here (a .text .now) (a .at) 45 (omega arith) (sym (c .before .before .before .byte-at .ensures) ∙ c .before .before .if1 .left)))
+    let a = start (behind (c .before)) .args in
+    subst (λ (t : List ℕ). Reads smalls (λ z. z ≡ pos 0) (a .right) false t (a .text .now)) (signed (c .before))
     (reads-missing (c .before .read-number2 .ensures) (c .if3 .left) (minus-missing (drop (a .at + 1) (a .text .now))))
 
 pub read-small-spec : {M : Type 1} → statement M
