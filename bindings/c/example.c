@@ -69,14 +69,14 @@ static void run(uint32_t limit, uint32_t rounds)
 
     accepted("sizes", raxdov_run_sizes(N, lens, ROWS, addrs, ADDRESSES, LANES, needs));
     work = malloc(needs[RAXDOV_NEEDS_WORK] * sizeof *work);
-    lists = malloc(needs[RAXDOV_NEEDS_INDEX] * sizeof *lists);
+    lists = malloc(needs[RAXDOV_NEEDS_LISTS] * sizeof *lists);
     if (work == NULL || lists == NULL) {
         fprintf(stderr, "no memory\n");
         exit(1);
     }
     accepted("run", raxdov_run(N, lens, ROWS, addrs, ADDRESSES, soft, N, LANES, limit, /* sequential */ 0, 0,
                                /* offset */ 1, rounds, /* BCH part */ 0, K, out, N, record, RAXDOV_RECORD_COUNT, tally,
-                               &ending, work, needs[RAXDOV_NEEDS_WORK], lists, needs[RAXDOV_NEEDS_INDEX]));
+                               &ending, work, needs[RAXDOV_NEEDS_WORK], lists, needs[RAXDOV_NEEDS_LISTS]));
     free(work);
     free(lists);
     printf("limit %u: %s after %u rounds: ", (unsigned)limit, ending == RAXDOV_FINISHED ? "finished" : "stopped",

@@ -78,7 +78,7 @@ enum raxdov_sizes {
 /* What raxdov_run_sizes writes. */
 enum raxdov_run_needs {
     RAXDOV_NEEDS_WORK = 0,  /* the elements of work: (n + 3 * E) * lanes */
-    RAXDOV_NEEDS_INDEX = 1, /* the elements of lists: E + P + 1 */
+    RAXDOV_NEEDS_LISTS = 1, /* the elements of lists: E + P + 1 */
     RAXDOV_NEEDS_COUNT = 2
 };
 

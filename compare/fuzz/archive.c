@@ -541,7 +541,7 @@ static int test_run(void)
     size_t p = n - 374 * c.code.rows, e = 374 * c.code.total + 2 * p - 1;
     Lent need = {c.refused ? 3 : size, c.refused ? 4 : 5 * (size / n), c.refused ? 5 : (n + 3 * e) * set.lanes, c.refused ? 6 : e + p + 1};
     if (need.work > 4000000) need.work = 100;
-    Lent lent = {near(need.out), near(need.records), near(need.work), near(need.index)};
+    Lent lent = {near(need.out), near(need.records), near(need.work), near(need.lists)};
     uint32_t refused = run_refusal(c.code, size, set, lent);
     Slice soft = lend(size, 1);
     take_soft(c, (int8_t *)soft.p, size);
@@ -554,11 +554,11 @@ static int test_run(void)
         give_code(c);
         return 0;
     }
-    Slice out = lend(lent.out, 1), records = lend(lent.records, 4), tally = lend(5, 4), ending = lend(1, 4), work = lend(lent.work, 1), index = lend(lent.index, 4);
-    answered(13, raxdov_run(CODE(c), (const int8_t *)soft.p, size, set.lanes, set.limit, set.layered, set.step, set.offset, set.rounds, set.first, set.length, out.p, lent.out, (uint32_t *)records.p, lent.records, (uint32_t *)tally.p, (uint32_t *)ending.p, (int8_t *)work.p, lent.work, (uint32_t *)index.p, lent.index), refused);
+    Slice out = lend(lent.out, 1), records = lend(lent.records, 4), tally = lend(5, 4), ending = lend(1, 4), work = lend(lent.work, 1), lists = lend(lent.lists, 4);
+    answered(13, raxdov_run(CODE(c), (const int8_t *)soft.p, size, set.lanes, set.limit, set.layered, set.step, set.offset, set.rounds, set.first, set.length, out.p, lent.out, (uint32_t *)records.p, lent.records, (uint32_t *)tally.p, (uint32_t *)ending.p, (int8_t *)work.p, lent.work, (uint32_t *)lists.p, lent.lists), refused);
     unchanged(soft);
     if (refused) {
-        unchanged(out), unchanged(records), unchanged(tally), unchanged(ending), unchanged(work), unchanged(index);
+        unchanged(out), unchanged(records), unchanged(tally), unchanged(ending), unchanged(work), unchanged(lists);
     } else {
         Lists l = lists_of(c.code);
         const uint32_t *got = (const uint32_t *)tally.p;
@@ -591,17 +591,17 @@ static int test_run(void)
         for (size_t i = 0; i < w; i++)
             if (work.p[i]) wrong("work not left zero");
         for (size_t i = 0; i < x; i++)
-            if (index.p[i]) wrong("index not left zero");
+            if (lists.p[i]) wrong("lists not left zero");
         unchanged_from(out, size, "tail of the output changed");
         unchanged_from(records, 20 * words, "tail of the records changed");
         unchanged_from(work, w, "tail of work changed");
-        unchanged_from(index, x, "tail of index changed");
+        unchanged_from(lists, x, "tail of lists changed");
         unchanged_from(tally, 20, "");
         unchanged_from(ending, 4, "");
         lists_free(l);
         run_free(&run);
     }
-    give_back(out), give_back(records), give_back(tally), give_back(ending), give_back(work), give_back(index), give_back(soft);
+    give_back(out), give_back(records), give_back(tally), give_back(ending), give_back(work), give_back(lists), give_back(soft);
     give_code(c);
     return 1;
 }

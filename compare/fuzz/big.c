@@ -74,9 +74,9 @@ int main(int argc, char **argv)
     CALL(raxdov_ldpc_new(N, lens, 1, addrs, 3, (uint32_t *)b, size / 4, five)), told("ldpc_new, huge lists", got, 0, five[3] == E && zeros_from(b, 4 * (P + 1 + E)));
     memset(b, 0, 4 * (P + 1 + E));
     int8_t soft[N * WORDS];
-    static uint32_t index[P + 1 + E];
+    static uint32_t lists[P + 1 + E];
     for (int i = 0; i < N * WORDS; i++) soft[i] = i % 97 ? 20 : -9;
-    CALL(raxdov_run(N, lens, 1, addrs, 3, soft, sizeof soft, LANES, 50, 0, 0, 1, 99, 0, N, b, size, (uint32_t *)c, size / 4, tally, &ending, (int8_t *)d, size, index, P + 1 + E));
+    CALL(raxdov_run(N, lens, 1, addrs, 3, soft, sizeof soft, LANES, 50, 0, 0, 1, 99, 0, N, b, size, (uint32_t *)c, size / 4, tally, &ending, (int8_t *)d, size, lists, P + 1 + E));
     told("run, huge output, records and work", got, 0, tally[1] == WORDS && ending == 0 && zeros_from(b, N * WORDS) && zeros_from(c, 20 * WORDS) && zeros_from(d, 0));
 
     /* soft values from as many floats as fit */

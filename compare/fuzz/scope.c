@@ -337,7 +337,7 @@ uint32_t run_refusal(Code code, size_t soft, Settings set, Lent lent)
     if (set.layered && set.step == 0) return 10;
     if (set.length < 193 || set.length > 65535 || (uint64_t)set.first + set.length > code.n) return 11;
     size_t words = soft / code.n, p = code.n - 374 * code.rows, e = 374 * code.total + 2 * p - 1;
-    if (lent.out < soft || lent.records / 5 < words || lent.work < (code.n + 3 * e) * set.lanes || lent.index < e + p + 1) return 13;
+    if (lent.out < soft || lent.records / 5 < words || lent.work < (code.n + 3 * e) * set.lanes || lent.lists < e + p + 1) return 13;
     return 0;
 }
 

@@ -31,7 +31,7 @@ typedef struct {
 
 /* Lengths of what is lent to a run. */
 typedef struct {
-    size_t out, records, work, index;
+    size_t out, records, work, lists;
 } Lent;
 
 typedef struct {

@@ -42,7 +42,7 @@ unsafe extern "C" {
 /// The earlier archive's run, as `harness::archive::run` calls the present one's. Every pointer is that of a live slice of the length passed with it.
 fn before(t: &Table, soft: &Lent<i8>, set: Settings, to: &mut Space) -> u32 {
     let (out, records) = (to.out.len(), to.records.len());
-    let (work, lists) = (to.work.len(), to.index.len());
+    let (work, lists) = (to.work.len(), to.lists.len());
     unsafe {
         before_raxdov_run(
             t.n,
@@ -68,7 +68,7 @@ fn before(t: &Table, soft: &Lent<i8>, set: Settings, to: &mut Space) -> u32 {
             to.ending.ptr_mut(),
             to.work.ptr_mut(),
             work,
-            to.index.ptr_mut(),
+            to.lists.ptr_mut(),
             lists,
         )
     }

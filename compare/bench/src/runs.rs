@@ -47,7 +47,7 @@ pub fn space(r: &mut Random, table: &Table, words: usize, lanes: u32) -> Space {
         tally: Lent::filled(5, r),
         ending: Lent::filled(1, r),
         work: Lent::filled(need.work, r),
-        index: Lent::filled(need.index, r),
+        lists: Lent::filled(need.lists, r),
     }
 }
 

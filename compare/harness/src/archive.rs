@@ -43,7 +43,7 @@ pub struct Space {
     pub tally: Lent<u32>,
     pub ending: Lent<u32>,
     pub work: Lent<i8>,
-    pub index: Lent<u32>,
+    pub lists: Lent<u32>,
 }
 
 // Every pointer below is that of a live slice of the length passed with it, or of the array's own length; nothing is
@@ -194,11 +194,11 @@ pub fn run_sizes(t: &Table, lanes: u32, sizes: &mut Lent<usize>) -> u32 {
 
 pub fn run(t: &Table, soft: &Lent<i8>, set: Settings, to: &mut Space) -> u32 {
     assert_eq!((to.tally.len(), to.ending.len()), (5, 1));
-    let (out, records, work, index) = (
+    let (out, records, work, lists) = (
         to.out.len(),
         to.records.len(),
         to.work.len(),
-        to.index.len(),
+        to.lists.len(),
     );
     unsafe {
         raxdov_run(
@@ -225,8 +225,8 @@ pub fn run(t: &Table, soft: &Lent<i8>, set: Settings, to: &mut Space) -> u32 {
             to.ending.ptr_mut(),
             to.work.ptr_mut(),
             work,
-            to.index.ptr_mut(),
-            index,
+            to.lists.ptr_mut(),
+            lists,
         )
     }
 }

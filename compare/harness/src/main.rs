@@ -176,7 +176,7 @@ fn selftest(r: &mut Random) {
         case.lent.out += 1;
         case.lent.records += 1;
         case.lent.work += 1;
-        case.lent.index += 1;
+        case.lent.lists += 1;
         disagree(&case, &mut run::Counts::default());
         for what in run::SPOILS {
             if run::compare(&case, &mut run::Counts::default(), Some(what)).is_ok() {

@@ -62,7 +62,7 @@ pub enum Spoil {
     Ending,
     Work,
     WorkTail,
-    Index,
+    Lists,
     IndexTail,
     GuardBefore,
     GuardBehind,
@@ -87,7 +87,7 @@ pub const SPOILS: [Spoil; 22] = [
     Spoil::Ending,
     Spoil::Work,
     Spoil::WorkTail,
-    Spoil::Index,
+    Spoil::Lists,
     Spoil::IndexTail,
     Spoil::GuardBefore,
     Spoil::GuardBehind,
@@ -122,10 +122,10 @@ fn spoil(what: Spoil, case: &Case, answer: &mut u32, soft: &mut Lent<i8>, to: &m
         Spoil::WorkTail => to
             .work
             .spoil(need.work as isize, to.work.now()[need.work] ^ 1),
-        Spoil::Index => to.index.spoil(need.index as isize - 1, 1),
+        Spoil::Lists => to.lists.spoil(need.lists as isize - 1, 1),
         Spoil::IndexTail => to
-            .index
-            .spoil(need.index as isize, to.index.now()[need.index] ^ 1),
+            .lists
+            .spoil(need.lists as isize, to.lists.now()[need.lists] ^ 1),
         Spoil::GuardBefore => to.out.spoil(-1, to.out.guard_value(-1) ^ 1),
         Spoil::GuardBehind => {
             let n = to.work.len() as isize;
@@ -282,7 +282,7 @@ pub fn compare(case: &Case, counts: &mut Counts, spoils: Option<Spoil>) -> Resul
         tally: Lent::filled(5, &mut r),
         ending: Lent::filled(1, &mut r),
         work: Lent::filled(case.lent.work, &mut r),
-        index: Lent::filled(case.lent.index, &mut r),
+        lists: Lent::filled(case.lent.lists, &mut r),
     };
     let mut number = archive::run(&table, &soft, case.set, &mut to);
     if let Some(what) = spoils {
@@ -307,7 +307,7 @@ pub fn compare(case: &Case, counts: &mut Counts, spoils: Option<Spoil>) -> Resul
         to.tally.unchanged("tally")?;
         to.ending.unchanged("ending")?;
         to.work.unchanged("work")?;
-        return to.index.unchanged("index");
+        return to.lists.unchanged("lists");
     }
 
     let code = case.code.as_ref().expect("an accepted plan's code");
@@ -372,7 +372,7 @@ pub fn compare(case: &Case, counts: &mut Counts, spoils: Option<Spoil>) -> Resul
         .holds("tally", &[rounds.rounds, loaded, given, kept, lost], 5)?;
     to.ending.holds("ending", &[u32::from(rounds.stopped)], 1)?;
     to.work.holds("work", &vec![0; need.work], need.work)?;
-    to.index.holds("index", &vec![0; need.index], need.index)?;
+    to.lists.holds("lists", &vec![0; need.lists], need.lists)?;
     counts.words += words as u64;
     counts.lost += u64::from(lost);
     counts.iterations += u64::from(given);
@@ -492,7 +492,7 @@ pub fn case(r: &mut Random, plan: &Rc<Plan>, code: &Rc<Code>) -> Case {
         out: more(r, need.out),
         records: more(r, need.records),
         work: more(r, need.work),
-        index: more(r, need.index),
+        lists: more(r, need.lists),
     };
     Case {
         plan: plan.clone(),
@@ -542,7 +542,7 @@ pub fn faulty(r: &mut Random, plan: &Rc<Plan>, code: &Rc<Code>) -> Case {
             8 => c.lent.out = r.below(c.lent.out + 1),
             9 => c.lent.records = r.below(c.lent.records + 1),
             10 => c.lent.work = r.below(c.lent.work + 1),
-            _ => c.lent.index = r.below(c.lent.index + 1),
+            _ => c.lent.lists = r.below(c.lent.lists + 1),
         }
     }
     c

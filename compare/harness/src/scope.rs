@@ -37,13 +37,13 @@ pub fn shape(n: u32, lens: &[u32], addrs: &[u16]) -> (usize, usize, usize, usize
     (k, p, p / 374, 374 * addrs.len() + 2 * p - 1)
 }
 
-/// How long each slice lent to a run is: output, records (in u32s), work, index.
+/// How long each slice lent to a run is: output, records (in u32s), work, lists.
 #[derive(Clone, Copy, Debug)]
 pub struct Lengths {
     pub out: usize,
     pub records: usize,
     pub work: usize,
-    pub index: usize,
+    pub lists: usize,
 }
 
 /// What an accepted run needs.
@@ -54,7 +54,7 @@ pub fn needs(n: u32, lens: &[u32], addrs: &[u16], words: usize, lanes: u32) -> L
         out: words * n,
         records: 5 * words,
         work: (n + 3 * e) * lanes as usize,
-        index: e + p + 1,
+        lists: e + p + 1,
     }
 }
 
@@ -93,7 +93,7 @@ pub fn run_refusal(
     let short = lent.out < need.out
         || lent.records < need.records
         || lent.work < need.work
-        || lent.index < need.index;
+        || lent.lists < need.lists;
     if short { 13 } else { 0 }
 }
 

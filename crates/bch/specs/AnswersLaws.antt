@@ -1,4 +1,9 @@
 -- What each test of the code shows of the entry points' answers; that encoding gives a codeword; and that what `decode` promises holds.
+--
+-- In order: the tests of `parity`, `encode` and `decode` (`long-message` to `fair-word`); answer and output of a call that is refused and of one that is
+-- not; the encoded bytes (`encode-codeword`); what `decode` promises can be had (`decodes`), by each way through it.
+--
+-- Not here: that decoding is exact (ExactLaws); that any shortest register serves (DecodeLaws).
 use mathlib.Core.Path.{_≡_, refl, sym, ap, ap₂, _∙_, subst}
 use mathlib.Core.Logic.{_≢_, ite, if-pos, if-neg}
 use mathlib.Core.List.{List, [], _∷_, _++_, append-assoc}

@@ -1,4 +1,9 @@
 -- Words put together, and what that makes of their remainders. Encoding gives a codeword; remainder 0 and being divided by g are the same.
+--
+-- In order: numbers of words (`number-append`, `number-digit`); the digits of a remainder; remainders a byte at a time; codewords
+-- (`remainder-codeword`, `codeword-remainder`, `encoded-codeword`).
+--
+-- Not here: division by a polynomial (laws, Poly).
 use mathlib.Core.Path.{_≡_, refl, sym, ap, ap₂, _∙_, subst}
 use mathlib.Core.List.{List, [], _∷_, _++_}
 use Prim.Native.Nat.{ℕ, zero, suc, _+_, _-_, _*_, _/_, _%_, _^_, _≤_, _<_}

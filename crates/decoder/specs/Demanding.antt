@@ -20,10 +20,10 @@ use Rattle.decoder.specs.Demand.{beginning, Demanded}
 
 module _ (code : Code) (iterate : Word → Word) (plan : Plan) (soft : List ℤ) (order : List ℕ) (r : Result Word)
     (d : Whole-run (wordsOf code iterate plan soft) order (plan .lanes) (plan .limits .rounds) r) (bits : ℕ → List ℕ) (v : ℕ → View)
-    (told : (w : ℕ) → Tells code (plan .sizes .n) (plan .sizes .p) (plan .part) (bits w) (status (r .last) w) (v w)) where
+    (as-status : (w : ℕ) → Tells code (plan .sizes .n) (plan .sizes .p) (plan .part) (bits w) (status (r .last) w) (v w)) where
   pub demanded : (w : ℕ) → Demanded code iterate plan soft (bits w) w (status (r .last) w) (v w)
   unfolding wordsOf alone
-  demanded w = at (status (r .last) w) (told w) (d .as-alone w)
+  demanded w = at (status (r .last) w) (as-status w) (d .as-alone w)
     where
       at : (st : Status Word) → Tells code (plan .sizes .n) (plan .sizes .p) (plan .part) (bits w) st (v w) → As-alone (wordsOf code iterate plan soft) w st
           → Demanded code iterate plan soft (bits w) w st (v w)
@@ -38,7 +38,7 @@ module _ (code : Code) (iterate : Word → Word) (plan : Plan) (soft : List ℤ)
   -- a record's iterations are the word's
   spent-is : (w : ℕ) → v w .iterations ≡ spent (status (r .last) w)
   unfolding outcomeOf
-  spent-is w = at (status (r .last) w) (told w)
+  spent-is w = at (status (r .last) w) (as-status w)
     where
       at : (st : Status Word) → Tells code (plan .sizes .n) (plan .sizes .p) (plan .part) (bits w) st (v w) → v w .iterations ≡ spent st
       at waiting t = ap (λ (x : View). x .iterations) t

@@ -1,4 +1,9 @@
 -- The tests of a run's refusals, one after the other, and what none of them leaves.
+--
+-- In order: the first test that holds gives the number; what none of them leaves (`Accepted`); what the tests in the middle show; room for 4,096
+-- words is as good as more (`enough-room`).
+--
+-- Not here: the refusals of the code (ldpc_shape, Accepted).
 use mathlib.Core.Path.{_≡_, refl, sym, ap, _∙_, subst}
 use mathlib.Core.Bool.{Bool, true, false, not, _||_, cond}
 use mathlib.Core.List.{List}

@@ -1,4 +1,9 @@
 -- What is worked out of an accepted code's addresses, and what it says of the code's lists.
+--
+-- In order: the table of an accepted code (`Spanned`); where rows begin; an information bit of a row that is not flagged; a parity bit, unless q = 1;
+-- the edges of a row in a check's list; what a layer's runs count on (`shares`).
+--
+-- Not here: how the table is made (Marks); how often a bit stands in a layer's lists (Count).
 use mathlib.Core.Path.{_≡_, refl, sym, ap, _∙_, subst}
 use mathlib.Core.Bool.{Bool, true, false, true≢false}
 use mathlib.Core.List.{List, [], _∷_, _++_}

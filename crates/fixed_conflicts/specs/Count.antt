@@ -1,4 +1,7 @@
 -- How often a bit stands in the lists of a layer's checks: not more often than its row has addresses equal to the layer modulo q.
+--
+-- In order: how often a number stands in a list (`occurs`); sums over the first checks; the checks of a layer (`layer-occurs`); of one bit, of a row's
+-- bits, of all rows (`rows-own`).
 use mathlib.Core.Path.{_≡_, refl, sym, ap, ap₂, _∙_, subst}
 use mathlib.Core.Bool.{Bool, true, false, cond}
 use mathlib.Core.List.{List, [], _∷_, _++_}

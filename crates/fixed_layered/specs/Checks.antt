@@ -1,4 +1,9 @@
 -- A run check after check: each with its values but those of shared variables, which have other edges in the run. It makes the run but for those.
+--
+-- In order: the checks of a run on the memory (`PartMade`, `ChecksMade`); a run whose variables have one edge each (`turn-made`); with the values of the
+-- shared variables it is the run (`run-law`).
+--
+-- Not here: the same of one word (iteration, InTurn); those values (Rows).
 use mathlib.Core.Path.{_≡_, refl, sym, ap, _∙_, subst}
 use mathlib.Core.Bool.{Bool, true, false, cond}
 use mathlib.Core.List.{List}

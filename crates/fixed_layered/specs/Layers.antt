@@ -1,4 +1,9 @@
 -- THE COLUMN LAW of the layered iteration, stated once for any lane count: runs, layers, all.
+--
+-- In order: one run (`RunMade`), the first runs of a layer (`RunsMade`), the first layers (`LayersMade`); what a layer's runs count on (`InLayer`,
+-- `RowPart`), and of the table (`Sharing`).
+--
+-- Not here: what a run is made of (Checks, Rows).
 use mathlib.Core.Path.{_≡_, refl, sym, ap, _∙_, subst}
 use mathlib.Core.Bool.{Bool, true, false}
 use mathlib.Core.List.{List}

@@ -1,4 +1,9 @@
 -- The values of a row's variables at the end of a run, from all the edges that they have in it: gathered edge by edge, then settled, clamped once.
+--
+-- In order: a row's edges in a check stand together (`Grouped`); gathered (`Gathers`), check by check; settled (`CheckSettled`, `RowSettled`); the values
+-- of a row at the end of the run (`RowWritten`), and of the flagged ones of the first rows (`Written`).
+--
+-- Not here: what one variable gathers (Gather); that its sums fit (Bounds, Sums).
 use mathlib.Core.Path.{_≡_, refl, sym, ap, _∙_, subst}
 use mathlib.Core.Bool.{Bool, true, false, cond, true≢false}
 use mathlib.Core.List.{List}

@@ -1,5 +1,8 @@
 -- The generator's roots: the powers alpha^1 to alpha^24 and their conjugates, 192 in all. A binary polynomial is a multiple of the
 -- generator exactly when it vanishes at alpha, alpha^3, .. alpha^23.
+--
+-- In order: entry i vanishes, computed (`entry-vanishes`); the 192 roots (`root`); a polynomial that vanishes there is a multiple
+-- (`vanishing-multiple`); the same by the remainder.
 use mathlib.Core.Path.{_≡_, sym, ap, ap₂, _∙_, subst}
 use mathlib.Core.Bool.{not, _&&_}
 use mathlib.Core.List.{List, [], _∷_}

@@ -80,14 +80,3 @@ module _ (n : ℕ) (lens addrs : List ℕ) (A : Accepted n lens addrs) where
           variables = subst (λ (l : List ℕ). (e : ℕ) → e < length l → getD l e 0 < n) (sym (rows-are n lens addrs lists is)) rows-below;
           many = omega (arith, edges-are, big n lens addrs A);
         }
-
--- the same of p that was worked out
-module _ (n p : ℕ) (lens addrs lists : List ℕ) (checks : p ≡ pOf n lens) (is : lists ≡ edgeLists n lens addrs) where
-  pub code-at : codeIn p lists ≡ codeOf n lens addrs
-  code-at = ap (λ (z : ℕ). codeIn z lists) checks ∙ code-in n lens addrs lists is
-
-  pub edges-at : Accepted n lens addrs → edgesIn p lists ≡ eOf n lens addrs
-  edges-at A = ap (λ (z : ℕ). edgesIn z lists) checks ∙ edges-are n lens addrs A lists is
-
-  pub lists-at : Accepted n lens addrs → Lists n p lists
-  lists-at A = subst (λ (z : ℕ). Lists n z lists) (sym checks) (lists-in n lens addrs A lists is)

@@ -11,7 +11,7 @@ use Rattle.iteration.specs.Iteration.{Code, unsatisfied, unsatisfiedCoun
 use Rattle.iteration.specs.Count.{unmetAt, Names}
 
 -- what a count promises: how many of p checks the values x leave unsatisfied, and one of them
-pub record Counted (code : Code) (p : ℕ) (x : Word) (count check : ℕ) : Type 0 where
+pub record UnmetCounted (code : Code) (p : ℕ) (x : Word) (count check : ℕ) : Type 0 where
   pub all : count ≡ unsatisfiedCount code p (x .L)
   pub named : Names code p x check
 
@@ -34,19 +34,19 @@ module _ (code : Code) (x : Word) where
   unfolding unsatisfiedCount
   none-unmet = refl
 
-  pub counted-start : (count check : ℕ) → count ≡ 0 → check ≡ 0 → Counted code 0 x count check
+  pub counted-start : (count check : ℕ) → count ≡ 0 → check ≡ 0 → UnmetCounted code 0 x count check
   counted-start count check e f =
       record { all = e ∙ sym none-unmet; named = record { some = λ h. absurd (omega (arith, h, none-unmet)); none = λ h. f } }
 
   -- check c's bit is counted, and the check is named if it is 1
-  pub counted-again : {c count check : ℕ} (bit count′ check′ : ℕ) → Counted code c x count check → bit ≡ unmetAt code (x .L) c → count′ ≡ count + bit → check′ ≡ cond (eqb bit 0) check c
-      → Counted code (c + 1) x count′ check′
+  pub counted-again : {c count check : ℕ} (bit count′ check′ : ℕ) → UnmetCounted code c x count check → bit ≡ unmetAt code (x .L) c → count′ ≡ count + bit → check′ ≡ cond (eqb bit 0) check c
+      → UnmetCounted code (c + 1) x count′ check′
   counted-again {c} {count} {check} bit count′ check′ k e f g = go (eqb bit 0) refl
     where
       s : unsatisfiedCount code (c + 1) (x .L) ≡ unsatisfiedCount code c (x .L) + bit
       s = unmet-step c bit (sym e)
 
-      go : (b : Bool) → eqb bit 0 ≡ b → Counted code (c + 1) x count′ check′
+      go : (b : Bool) → eqb bit 0 ≡ b → UnmetCounted code (c + 1) x count′ check′
       go true q =
           let z = eqb-true bit 0 q in
           let same : check′ ≡ check = g ∙ ap (λ (b : Bool). cond b check c) q in

@@ -1,5 +1,10 @@
 -- A run check after check: each with its values but those of shared variables, which have other edges in the run. It makes the run but for those;
 -- where no variable has several edges, the run is its checks in turn.
+--
+-- In order: checks in turn that leave the values of shared variables; what the run gathers, and that those checks make it (`checks-run`);
+-- `in-turn-run`.
+--
+-- Not here: the same on memory (fixed_layered, Checks).
 use mathlib.Core.Path.{_≡_, refl, sym, ap, _∙_}
 use mathlib.Core.Bool.{Bool, true, false, cond}
 use Prim.Native.Nat.{ℕ, zero, suc, _+_, _-_, _≤_, _<_}

@@ -4,7 +4,7 @@
 -- 16 bits; the absolute value as a larger of two; signs: as a test, of a larger of two, of a product (`times-swap`, `times-twice`), and of the
 -- xor of two numbers (`xor-sign`).
 --
--- Not here: sat, magnitude and messages (lane_math).
+-- Not here: sat, magnitude and messages (iteration).
 use mathlib.Core.Path.{_≡_, refl, ap, _∙_}
 use mathlib.Core.Bool.{Bool, true, false, cond}
 use Prim.Native.Nat.{ℕ, zero, suc, _-_, _<_, _≤_, _^_, _/_}

@@ -1,4 +1,9 @@
 -- All edges of a code: those of the information bits, then the stairs. They are E, and each lies at one check.
+--
+-- In order: where a check's list begins (`start`); all edges, and those of one check (`all-check`); where they lie; how many (`start-last`); every bit of
+-- a list is below n (`check-below`).
+--
+-- Not here: how many a check has (Degree).
 use mathlib.Core.Path.{_≡_, refl, sym, ap, ap₂, _∙_, subst}
 use mathlib.Core.Bool.{Bool, true, false, cond}
 use mathlib.Core.List.{List, [], _∷_, _++_, append-nil}

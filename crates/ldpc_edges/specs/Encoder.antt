@@ -1,4 +1,7 @@
 -- The encoded word meets every check, and no other parity does.
+--
+-- In order: bits; the parity of this information (`parity-from`); a word with this information, check by check; the theorems (`encode-meets`,
+-- `encode-weight`, `parity-only`).
 use mathlib.Core.Path.{_≡_, refl, sym, ap, ap₂, _∙_, subst}
 use mathlib.Core.Bool.{Bool, true, false, cond}
 use mathlib.Core.List.{List, [], _∷_, _++_, append-nil}

@@ -1,4 +1,7 @@
 -- One address more in a row: each check that it meets gets one bit more, in its place among the ascending ones.
+--
+-- In order: a bit put among ascending ones (`insert`); ascending lists (`Rising`); a check's bits of a row ascend; the bit that an address joins to a
+-- check (`place`), and one address more (`row-cons`).
 use mathlib.Core.Path.{_≡_, refl, sym, ap, ap₂, _∙_, subst}
 use mathlib.Core.Bool.{Bool, true, false, cond}
 use mathlib.Core.List.{List, [], _∷_, _++_, append-assoc, append-nil}

@@ -1,4 +1,6 @@
 -- The layout of the lists in one slice, for its readers: check c's bits are `rows` from row_start[c] to row_start[c + 1].
+--
+-- In order: what readers count on (`Laid`); how long both parts are; where a check's list begins.
 use mathlib.Core.Path.{_≡_, refl, sym, ap, ap₂, _∙_, subst}
 use mathlib.Core.List.{List, _++_, append-assoc}
 use Prim.Native.Nat.{ℕ, zero, suc, _+_, _-_, _≤_, _<_}

@@ -1,4 +1,9 @@
 -- Filling the lists of all checks from their ends: each edge, the last first, is put before what its check has so far.
+--
+-- In order: the slice as starts and bits (`parts`); an edge put, and several (`putAll`); room for edges (`RoomForEdges`); filled with edges (`HoldsEdges`,
+-- `fill`); all lists (`Listed`); for the loops.
+--
+-- Not here: the ends that the filling begins with (Ends).
 use mathlib.Core.Path.{_≡_, refl, sym, ap, _∙_, subst}
 use mathlib.Core.Logic.{_≢_}
 use mathlib.Core.List.{List, [], _∷_, _++_}

@@ -13,10 +13,14 @@ use lib.Seq.{drop-cons, drop-length, getD-set-other, take-suc, take-length}
 use Rattle.laws.specs.Lists.{zeros-at}
 use Rattle.laws.specs.Choice.{or-left, or-right}
 use Rattle.laws.specs.Stores.{set-at}
-use Rattle.ldpc_shape.specs.Shape.{qOf, total, anyOver, countMod, countsMod, badLength, codeRefusal}
+use Rattle.ldpc_shape.specs.Shape.{kOf, pOf, qOf, total, anyOver, countMod, countsMod, badLength, codeRefusal}
 use Rattle.ldpc_shape.specs.Accepted.{total-drop, total-le}
-use Rattle.ldpc_shape.specs.Worked.{q-beside}
 use Rattle.ldpc_shape.specs.Counts.{CountsBelow, Counts-of, tops, tops-counts}
+
+-- q as the groups of 374 that n has beside the rows
+q-beside : (n : ℕ) (lens : List ℕ) → n % 374 ≡ 0 → n / 374 - length lens ≡ qOf n lens
+unfolding qOf pOf kOf
+q-beside n lens whole = omega (arith, whole)
 
 -- ---- counting
 count-append : (q l : ℕ) (xs : List ℕ) (a : ℕ) → countMod q l (xs ++ a ∷ []) ≡ cond (eqb (a % q) l) (suc (countMod q l xs)) (countMod q l xs)

@@ -3,7 +3,7 @@ ghost use mathlib.Core.Path.{_≡_};
 ghost use mathlib.Core.Bool.{false};
 ghost use Prim.Native.Nat.{_%_, _<_, _≤_};
 ghost use lib.ListN.{length};
-ghost use Rattle.ldpc_shape.specs.Shape.{pOf, eOf, sizesOf, total, anyOver, badLength, codeRefusal};
+ghost use Rattle.ldpc_shape.specs.Shape.{sizesOf, total, anyOver, badLength, codeRefusal};
 ghost use Rattle.ldpc_shape.specs.Counts.{Counts-of, tops};
 
 // The bits of a row, and the checks of each residue modulo q.
@@ -147,22 +147,4 @@ pub fn sizes_of(n: u32, lens: &[u32], addrs: &[u16]) -> Sizes
         q: p / GROUP,
         e: GROUP * addrs.len() + 2 * p - 1,
     }
-}
-
-// P, of an accepted code.
-pub fn checks(n: u32, lens: &[u32], addrs: &[u16]) -> usize
-    requires { ⌜ codeRefusal n (now lens) (now addrs) ≡ 0 ⌝ }
-    ensures { λ r. ⌜ r ≡ pOf n (now (lens .entry)) ⌝ }
-{
-    let sizes = sizes_of(n, lens, addrs);
-    sizes.p
-}
-
-// E, of an accepted code.
-pub fn edges(n: u32, lens: &[u32], addrs: &[u16]) -> usize
-    requires { ⌜ codeRefusal n (now lens) (now addrs) ≡ 0 ⌝ }
-    ensures { λ r. ⌜ r ≡ eOf n (now (lens .entry)) (now (addrs .entry)) ⌝ }
-{
-    let sizes = sizes_of(n, lens, addrs);
-    sizes.e
 }

@@ -20,12 +20,12 @@ use Rattle.outcome.specs.Outcome.{partOf, corrected, lost, bchResult, bc
 use Rattle.outcome.specs.Laws.{word-length}
 
 -- a part of an accepted length, inside the word
-pub record Inside (part : Part) (b : List ℕ) : Type 0 where
+pub record PartInside (part : Part) (b : List ℕ) : Type 0 where
   pub inside : part .first + part .length ≤ length b
   pub least : 193 ≤ part .length
   pub most : part .length ≤ 65535
 
-module _ (part : Part) (b : List ℕ) (P : Inside part b) where
+module _ (part : Part) (b : List ℕ) (P : PartInside part b) where
   abbrev bits : List ℕ
   bits = partOf part b
 

@@ -8,7 +8,7 @@ use borrow.Author.Tests.{eqb-true, eqb-false, eq-eqb, ne-eqb}
 use lib.Dec.{eqb}
 use Rattle.iteration.specs.Check.{Word}
 use Rattle.iteration.specs.Iteration.{Code, unsatisfiedCount}
-use Rattle.iteration.specs.CountLaws.{unmet-le, unmet-step, unmet-few, counted-again, Counted}
+use Rattle.iteration.specs.CountLaws.{unmet-le, unmet-step, unmet-few, counted-again, UnmetCounted}
 use Rattle.iteration.specs.Count.{unmetAt}
 use Rattle.outcome.specs.Outcome.{unmetOf, metOf}
 
@@ -48,23 +48,23 @@ module _ (code : Code) (x : Word) where
       omega (arith, z, step c 1 (eqb-true (unmetAt code (x .L) c) 1 e), unmet-more (c + 1) (p - (c + 1)), ap (λ (z : ℕ). unmetOf code z x) d))
 
   -- ---- the count and the named check, of the checks before c
-  pub counted-more : {c count check : ℕ} (count′ check′ : ℕ) → eqb (unmetAt code (x .L) c) 1 ≡ true → Counted code c x count check
-      → count′ ≡ count + 1 → check′ ≡ c → Counted code (c + 1) x count′ check′
+  pub counted-more : {c count check : ℕ} (count′ check′ : ℕ) → eqb (unmetAt code (x .L) c) 1 ≡ true → UnmetCounted code c x count check
+      → count′ ≡ count + 1 → check′ ≡ c → UnmetCounted code (c + 1) x count′ check′
   counted-more {c} {count} {check} count′ check′ e k f g = counted-again code x 1 count′ check′ k (sym (eqb-true (unmetAt code (x .L) c) 1 e)) f g
 
-  pub counted-same : {c count check : ℕ} (count′ check′ : ℕ) → eqb (unmetAt code (x .L) c) 1 ≡ false → Counted code c x count check
-      → count′ ≡ count → check′ ≡ check → Counted code (c + 1) x count′ check′
+  pub counted-same : {c count check : ℕ} (count′ check′ : ℕ) → eqb (unmetAt code (x .L) c) 1 ≡ false → UnmetCounted code c x count check
+      → count′ ≡ count → check′ ≡ check → UnmetCounted code (c + 1) x count′ check′
   counted-same {c} {count} {check} count′ check′ e k f g =
       let z : count′ ≡ count + 0 = omega arith in
       counted-again code x 0 count′ check′ k (sym (clear c e)) z g
 
-  pub counted-end : {c count check : ℕ} (p : ℕ) → c ≡ p → Counted code c x count check → Counted code p x count check
-  counted-end {c} {count} {check} p e k = subst (λ (z : ℕ). Counted code z x count check) e k
+  pub counted-end : {c count check : ℕ} (p : ℕ) → c ≡ p → UnmetCounted code c x count check → UnmetCounted code p x count check
+  counted-end {c} {count} {check} p e k = subst (λ (z : ℕ). UnmetCounted code z x count check) e k
 
-  pub counted-le : {c count check : ℕ} → Counted code c x count check → count ≤ c
+  pub counted-le : {c count check : ℕ} → UnmetCounted code c x count check → count ≤ c
   counted-le {c} {count} {check} k = omega (arith, k .all, unmet-few code x c)
 
-  pub named-le : {c count check : ℕ} → Counted code c x count check → check ≤ c
+  pub named-le : {c count check : ℕ} → UnmetCounted code c x count check → check ≤ c
   named-le {c} {count} {check} k = go (decLt 0 (unsatisfiedCount code c (x .L)))
     where
       go : Dec (0 < unsatisfiedCount code c (x .L)) → check ≤ c

@@ -1,4 +1,4 @@
--- A run counts unsatisfied checks on values (lane_math), `ldpc::syndrome_weight` on bytes (ldpc_edges). Both counts are the same: a word's unsatisfied
+-- A run counts unsatisfied checks on values (iteration), `ldpc::syndrome_weight` on bytes (ldpc_edges). Both counts are the same: a word's unsatisfied
 -- checks are the syndrome weight of its hard decisions. So the run's checks are those that encoding meets.
 use mathlib.Core.Path.{_≡_, refl, sym, ap, ap₂, _∙_}
 use mathlib.Core.Bool.{Bool, true, false, cond}

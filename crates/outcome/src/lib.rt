@@ -8,7 +8,7 @@ ghost use lib.ListN.{length};
 ghost use Rattle.iteration.specs.Iteration.{negatives};
 ghost use Rattle.iteration.specs.Lists.{var, Lists, codeIn};
 ghost use Rattle.iteration.specs.Count.{unmetAt};
-ghost use Rattle.iteration.specs.CountLaws.{Counted};
+ghost use Rattle.iteration.specs.CountLaws.{UnmetCounted};
 ghost use Rattle.outcome.specs.Outcome.{begin, bitsOf, metOf, corrected, bchResult, bchOf, stateOf, isFinished, keptOf, lostOf};
 ghost use Rattle.outcome.specs.Soft.{Edges, values, Lent};
 
@@ -62,7 +62,7 @@ pub fn soft_met(p: usize, lists: &[u32], soft: &[i8]) -> bool
 // How many checks a word's soft values leave unsatisfied, and one of them.
 pub fn soft_unmet(p: usize, lists: &[u32], soft: &[i8]) -> Unmet
     requires { ⌜ Lent p (now lists) (now soft) ⌝ }
-    ensures { λ r. ⌜ Counted (codeIn p (now (lists .entry))) p (begin (length (now (soft .entry))) (now (soft .entry))) (r .count) (r .check) ⌝ }
+    ensures { λ r. ⌜ UnmetCounted (codeIn p (now (lists .entry))) p (begin (length (now (soft .entry))) (now (soft .entry))) (r .count) (r .check) ⌝ }
 {
     let mut count: u32 = 0;
     let mut check: usize = 0;

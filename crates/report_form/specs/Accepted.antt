@@ -27,7 +27,7 @@ flat-few [] w = omega arith
 flat-few (r ∷ rs) w = omega (arith, length-append r (flat rs), w .0 .few, flat-few rs (w .1))
 
 -- the limits of the numbers
-pub record Limits (r : Reading) : Type 0 where
+pub record ReadingWithin (r : Reading) : Type 0 where
   pub n : r .n ≤ 1122
   pub rows : r .rows ≤ 3
   pub total : r .total ≤ 12
@@ -39,7 +39,7 @@ pub record Limits (r : Reading) : Type 0 where
 padded-length : (k : ℕ) (xs : List ℕ) → length xs ≤ k → length (padded k xs) ≡ k
 padded-length k xs h = omega (arith, length-append xs (replicate (k - length xs) 0), length-replicate {A = ℕ} (k - length xs) 0)
 
-limits-of : (d : Description) → Within d → Limits (readingOf d)
+limits-of : (d : Description) → Within d → ReadingWithin (readingOf d)
 limits-of d w =
     record {
       n = w .n;
@@ -63,8 +63,8 @@ soft-words-length n [] = omega arith
 soft-words-length n (w ∷ ws) = omega (arith, length-append (softWord n w) (softWords n ws), soft-word-length n w, soft-words-length n ws)
 
 module _ {text : List ℕ} {words : List ℤ} {r : Reading} {words′ : List ℤ} (d : OneDescription text words r words′) where
-  pub limits : Limits r
-  limits = subst Limits (sym (d .answer)) (limits-of (d .description) (d .within))
+  pub limits : ReadingWithin r
+  limits = subst ReadingWithin (sym (d .answer)) (limits-of (d .description) (d .within))
 
   -- the rows' lengths and addresses, without the padding
   pub lengths-are : take (r .rows) (r .lengths) ≡ map length (d .description .rows)

@@ -1,5 +1,10 @@
 -- A form: how values are written, which of them are within the limits, what may follow, and that a text begins with at most one of them.
 -- Reading one at a place of a text, several one after another, and a list of them.
+--
+-- In order: a form, and what reading it answers (`Found`, `Missing`, `Reads`); one byte, and the end; a form behind another (`seq`); a form's values in
+-- place of others (`via`); a text in front (`lead`); lists of a form's values (`Items`, `Listed`).
+--
+-- Not here: the report's own forms (Forms).
 use mathlib.Core.Path.{_≡_, refl, sym, ap, ap₂, _∙_, subst}
 use mathlib.Core.Bool.{Bool, true, false}
 use mathlib.Core.Logic.{_⊎_, inl, inr}

@@ -1,4 +1,6 @@
 -- The forms of the report's text: numbers, the fields of a line, the lines.
+--
+-- In order: numbers; the schedule; a row; the settings; pairs, and a word; all rows, all words, what follows the first line, and the first line.
 use mathlib.Core.Path.{_≡_, refl, sym, ap, ap₂, _∙_, subst}
 use mathlib.Core.Bool.{Bool, _&&_}
 use mathlib.Core.List.{List, [], _∷_, _++_, map}

@@ -1,4 +1,4 @@
--- What to believe: Description (what a text says and how it is written) and Reading (what reading answers). The rest are laws: Unique, Longest,
+-- What to believe: Description (what a text says and how it is written). Reading: what a reader answers. The rest are laws: Unique, Longest,
 -- Listing and Accepted for others, Form, Forms and Places for the readers' contracts.
 pub mod Description
 pub mod Reading

@@ -1,6 +1,6 @@
 -- The run as the scope tells it ("Lane values and messages", last paragraph): lanes, refilling, rounds. A word is a number, and has values:
 -- of what kind is left open (the decoder's are L and the messages). Every test is made on the values that a lane holds. (The runs of checks of a
--- layered iteration are another thing: lane_math, Iteration.)
+-- layered iteration are another thing: iteration, Iteration.)
 use mathlib.Core.Bool.{Bool, true, false, cond, _||_}
 use mathlib.Core.List.{List, [], _∷_, map}
 use Prim.Native.Nat.{ℕ, zero, suc}

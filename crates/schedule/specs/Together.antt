@@ -1,5 +1,8 @@
 -- Refilling in passes, as the Rust does: every empty lane takes a word, all are tested together, and those that were over leave room for
 -- the next pass. The run is the same up to which lane a word sits in: the ending, the rounds, the words that wait, and every word's status.
+--
+-- In order: the run in passes (`run-together`); what refilling does to free lanes and a queue, lane by lane and in passes; two states that differ only in
+-- which lane a word sits in (`Alike`); `same-run`; `same-status`.
 use mathlib.Core.Path.{_≡_, refl, sym, ap, ap₂, _∙_, subst}
 use mathlib.Core.Logic.{_⊎_, inl, inr}
 use mathlib.Core.Bool.{Bool, true, false, cond, true≢false, false≢true}

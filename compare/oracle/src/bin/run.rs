@@ -2,7 +2,7 @@
 //! named second).
 //!
 //! A case has 20 numbers of 32 bits, lowest byte first: n, rows, addresses, soft values, lanes, iteration limit, 1 for layered,
-//! step, offset + 128, round limit, first, length, the lengths of the lent output, records, work and index, bytes of base
+//! step, offset + 128, round limit, first, length, the lengths of the lent output, records, work and lists, bytes of base
 //! words, recipes, bytes of maps, P. Then come the row lengths (4 bytes each), the addresses (2 bytes each), the base words
 //! (n bits each, one behind the other, lowest bit of a byte first), the recipes (12 bytes each), and a map of P bits for each
 //! word: its unsatisfied checks. Bits behind the end of what is stored are 0.
@@ -11,7 +11,7 @@
 //! a seed of four. The state starts at the seed plus w. For each place six numbers are drawn: the value is a, or -a where the base word has a 1, and noise of -b to b;
 //! it is negated by chance of c in 256, any value by chance of d, one of -128, -1, 0, 1, 127 by chance of e; then clamped.
 //!
-//! The output is lent with (7i + 13) mod 251 at place i, work with 77, index with 777,777,777, and the tally with 901 to 905.
+//! The output is lent with (7i + 13) mod 251 at place i, work with 77, lists with 777,777,777, and the tally with 901 to 905.
 
 use oracle::bch;
 use oracle::ldpc::Code;
@@ -85,7 +85,7 @@ struct Case {
     out: usize,
     room: usize,
     work: usize,
-    index: usize,
+    lists: usize,
     bases: Vec<Vec<u8>>,
     recipes: Vec<Recipe>,
 }
@@ -97,21 +97,21 @@ impl Case {
         if number > 0 {
             return number;
         }
-        let (work, index) = rounds::work(self.n, &self.lens, &self.addrs, self.set.lanes);
+        let (work, lists) = rounds::work(self.n, &self.lens, &self.addrs, self.set.lanes);
         let words = self.soft / self.n as usize;
-        if self.out < self.soft || self.room < words || self.work < work || self.index < index {
+        if self.out < self.soft || self.room < words || self.work < work || self.lists < lists {
             return 13;
         }
         0
     }
 
     /// Slices as long as needed, and longer by these.
-    fn lend(&mut self, out: usize, room: usize, work: usize, index: usize) {
+    fn lend(&mut self, out: usize, room: usize, work: usize, lists: usize) {
         let need = rounds::work(self.n, &self.lens, &self.addrs, self.set.lanes);
         self.out = self.soft + out;
         self.room = self.soft / self.n as usize + room;
         self.work = need.0 + work;
-        self.index = need.1 + index;
+        self.lists = need.1 + lists;
     }
 
     fn word(&self, w: usize) -> Vec<i8> {
@@ -153,7 +153,7 @@ impl Case {
             self.out as u32,
             self.room as u32,
             self.work as u32,
-            self.index as u32,
+            self.lists as u32,
             packed.len() as u32,
             self.recipes.len() as u32,
             map.len() as u32,
@@ -175,7 +175,7 @@ impl Case {
         }
         r.extend(map);
         assert!(self.lens.len() <= 128 && self.addrs.len() <= 512 && self.recipes.len() <= 100);
-        assert!(self.soft <= 1_532_300 && self.out <= 1_532_300 && self.work <= 1_300_000 && self.index <= 140_000);
+        assert!(self.soft <= 1_532_300 && self.out <= 1_532_300 && self.work <= 1_300_000 && self.lists <= 140_000);
         r
     }
 }
@@ -207,8 +207,8 @@ impl Seen {
         let case = &Case { bases: vec![], recipes: vec![], ..case.clone() };
         self.input.extend(case.bytes(0, &[]));
         let out: Vec<u8> = (0..case.out).map(|i| ((7 * i + 13) % 251) as u8).collect();
-        let (work, index) = (case.work, case.index);
-        writeln!(self.output, "{} refused {number} 901 902 903 904 905 {} 0 {work} 0 {index}", self.cases, sum(&out)).unwrap();
+        let (work, lists) = (case.work, case.lists);
+        writeln!(self.output, "{} refused {number} 901 902 903 904 905 {} 0 {work} 0 {lists}", self.cases, sum(&out)).unwrap();
         self.cases += 1;
         self.count("refused");
     }
@@ -226,11 +226,11 @@ impl Seen {
                 out[w * code.n()..(w + 1) * code.n()].copy_from_slice(bits);
             }
         }
-        let (work, index) = rounds::work(case.n, &case.lens, &case.addrs, case.set.lanes);
+        let (work, lists) = rounds::work(case.n, &case.lens, &case.addrs, case.set.lanes);
         let ending = if ran.stopped { "stopped" } else { "finished" };
         write!(self.output, "{} {ending} {} {} ", self.cases, ran.rounds, ran.loaded).unwrap();
         write!(self.output, "{} {} {} {} ", ran.given, ran.kept, ran.lost, sum(&out)).unwrap();
-        writeln!(self.output, "{work} {} {index} {}", case.work - work, case.index - index).unwrap();
+        writeln!(self.output, "{work} {} {lists} {}", case.work - work, case.lists - lists).unwrap();
         for word in &ran.words {
             let state = word.state as u32;
             let bch = word.bch.map_or("-".into(), |fixed| fixed.to_string());
@@ -486,7 +486,7 @@ fn case(choice: &mut Choice, t: usize, (n, lens, addrs): &(u32, Vec<u32>, Vec<u1
         out: 0,
         room: 0,
         work: 0,
-        index: 0,
+        lists: 0,
         bases,
         recipes,
     };
@@ -548,7 +548,7 @@ fn plain() -> Case {
         out: 0,
         room: 0,
         work: 0,
-        index: 0,
+        lists: 0,
         bases: vec![vec![0; 748]],
         recipes: vec![Recipe { a: 10, c: 9, seed: 5, ..Recipe::default() }],
     };
@@ -644,9 +644,9 @@ const CHANGES: [Change; 50] = [
     (13, |c| c.out = 0),
     (13, |c| c.room -= 4),
     (13, |c| c.work -= 4),
-    (13, |c| c.index -= 4),
+    (13, |c| c.lists -= 4),
     (13, |c| (c.soft, c.work) = (0, 0)),
-    (13, |c| (c.soft, c.out, c.room, c.index) = (0, 0, 0, 10)),
+    (13, |c| (c.soft, c.out, c.room, c.lists) = (0, 0, 0, 10)),
 ];
 
 /// Every change, and every two that do not undo each other: the lower number is given.

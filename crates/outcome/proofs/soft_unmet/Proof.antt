@@ -7,7 +7,7 @@ use mathlib.Core.Bool.{true, false}
 use Prim.Native.Nat.{_-_, _≤_}
 use lib.ListN.{length}
 use Rattle.iteration.specs.Lists.{codeIn}
-use Rattle.iteration.specs.CountLaws.{counted-start, Counted}
+use Rattle.iteration.specs.CountLaws.{counted-start, UnmetCounted}
 use Rattle.outcome.specs.Outcome.{begin}
 use Rattle.outcome.specs.Soft.{odd-is}
 use Rattle.outcome.specs.Scan.{counted-more, counted-same, counted-end, counted-le, named-le}
@@ -17,7 +17,7 @@ use Rattle.outcome.proofs.soft_unmet.Statement.{statement}
 use Rattle.outcome.proofs.soft_unmet.Tie as tie
 
 abbrev Inv-loop : tie.InvT-loop
-Inv-loop p lists soft count₀ check₀ c₀ count check c = (c ≤ p) × Counted (codeIn p lists) c (begin (length soft) soft) count check
+Inv-loop p lists soft count₀ check₀ c₀ count check c = (c ≤ p) × UnmetCounted (codeIn p lists) c (begin (length soft) soft) count check
 
 abbrev μ-loop : tie.MeasureT-loop
 μ-loop p lists soft count₀ check₀ c₀ count check c = p - c
