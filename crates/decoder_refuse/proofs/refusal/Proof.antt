@@ -70,6 +70,17 @@ part-so c =
     let a = start (behind-code at-lanes) .args in
     sym (c .before .bad-part .ensures ∙ ap (λ (of : Sizes). badPart (of .n) (a .set .part)) (sizes-so (sized at-lanes))) ∙ c .if6 .left
 
+-- all of it, where the part's test has failed
+passed : (c : tie.Else6) → (let a = start (behind-code (laned c)) .args in
+    (codeRefusal (a .n) (a .lens .now) (a .addrs .now) ≡ 0) × (badLanes (a .set .lanes) ≡ false) × (badWords (a .n) (a .lent .soft) ≡ false)
+    × (badLimit (a .set .limits .iterations) ≡ false) × (badStep (a .set .schedule) ≡ false) × (badPart (a .n) (a .set .part) ≡ false))
+passed c =
+    let at-step = behind-step c in
+    let at-limit = behind-limit at-step in
+    let at-words = behind-words at-limit in
+    let at-lanes = behind-lanes at-words in
+    (code-so (behind-code at-lanes), lanes-so at-lanes, words-so at-words, limit-so at-limit, step-so at-step, part-so c)
+
 -- ---- the needs
 refusal-requires : tie.Need-refusal-requires
 refusal-requires c κs = search needs
@@ -138,13 +149,13 @@ wide-requires c κs = search needs
 
 too-short-requires : tie.Need-too-short-requires
 too-short-requires c κs =
-    let at-words = behind-words (behind-limit (behind-step (c .before))) in
-    let at-lanes = behind-lanes at-words in
+    let at-lanes = laned (c .before) in
     let a = start (behind-code at-lanes) .args in
-    let is = sizes-so (sized at-lanes) in (
-      subst Bounded (sym is) (bounded _ _ _ (code-so (behind-code at-lanes))),
-      omega (arith, lanes-few _ (lanes-so at-lanes), c .wide .ensures),
-      subst (λ (of : Sizes). a .lent .soft / of .n ≤ 4096) (sym is) (words-few (a .n) _ (words-so at-words)),
+    let is = sizes-so (sized at-lanes) in
+    let so = passed (c .before) in (
+      subst Bounded (sym is) (bounded _ _ _ (so .0)),
+      omega (arith, lanes-few _ (so .1), c .wide .ensures),
+      subst (λ (of : Sizes). a .lent .soft / of .n ≤ 4096) (sym is) (words-few (a .n) _ (so .2)),
     )
 
 -- the last test, of the sizes and the lanes as they were worked out
@@ -158,24 +169,14 @@ short-is c =
 returns-7 : tie.Need-returns-7
 unfolding firstRefusal
 returns-7 c =
-    let at-part = behind-part (c .before) in
-    let at-step = behind-step at-part in
-    let at-limit = behind-limit at-step in
-    let at-words = behind-words at-limit in
-    let at-lanes = behind-lanes at-words in
-    first-short _ _ _ _ _ _ _ (code-so (behind-code at-lanes)) (lanes-so at-lanes) (words-so at-words) (limit-so at-limit) (step-so at-step) (part-so at-part)
-    (sym (short-is (c .before)) ∙ c .if7 .taken)
+    let so = passed (behind-part (c .before)) in
+    first-short _ _ _ _ _ _ _ (so .0) (so .1) (so .2) (so .3) (so .4) (so .5) (sym (short-is (c .before)) ∙ c .if7 .taken)
 
 returns-8 : tie.Need-returns-8
 unfolding firstRefusal
 returns-8 c =
-    let at-part = behind-part (c .before) in
-    let at-step = behind-step at-part in
-    let at-limit = behind-limit at-step in
-    let at-words = behind-words at-limit in
-    let at-lanes = behind-lanes at-words in
-    first-none _ _ _ _ _ _ _ (code-so (behind-code at-lanes)) (lanes-so at-lanes) (words-so at-words) (limit-so at-limit) (step-so at-step) (part-so at-part)
-    (sym (short-is (c .before)) ∙ c .if7 .left)
+    let so = passed (behind-part (c .before)) in
+    first-none _ _ _ _ _ _ _ (so .0) (so .1) (so .2) (so .3) (so .4) (so .5) (sym (short-is (c .before)) ∙ c .if7 .left)
 
 pub refusal-spec : {M : Type 1} → statement M
 refusal-spec =

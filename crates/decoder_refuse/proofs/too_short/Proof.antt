@@ -18,8 +18,11 @@ start c = c .before .before
 abbrev sized : tie.Else1 → tie.After-struct-known2
 sized c = c .before .before .before
 
-abbrev asked : tie.After-struct-known7 → tie.Else1
-asked c = c .before .before .before .before .before .before
+abbrev tested : tie.Else2 → tie.Else1
+tested c = c .before .before
+
+abbrev asked : tie.After-struct-known7 → tie.Else2
+asked c = c .before .before .before .before
 
 div-words : tie.Need-div-words
 div-words c = let s = start c in omega (arith, s .pre .0 .p-pos, s .pre .0 .p-le)
@@ -39,17 +42,17 @@ unfolding tooShort outNeed
 returns-2 c = simp (le-ltb _ _ (c .before .before .if1 .left), lt-ltb _ _ (c .if2 .taken))
 
 work-need-requires : tie.Need-work-need-requires
-work-need-requires c κs = let s = start (sized (c .before .before)) in (s .pre .0, s .pre .1)
+work-need-requires c κs = let s = start (sized (tested c)) in (s .pre .0, s .pre .1)
 
 returns-3 : tie.Need-returns-3
 returns-3 c =
     let at-if2 = c .before .before .before in
-    let at-if1 = at-if2 .before .before in
+    let at-if1 = tested at-if2 in
     short-work _ _ _ (at-if1 .if1 .left) (at-if2 .if2 .left) _ (c .before .before .work-need .ensures) (c .if3 .taken)
 
 -- the lists' length is small
-lists-small : (c : tie.After-struct-known7) → (let of = start (sized (asked c)) .args .of in of .e + of .p ≤ 6044880)
-lists-small c = let B = start (sized (asked c)) .pre .0 in omega (arith, B .e-le, B .n-le, B .p-le)
+lists-small : (c : tie.After-struct-known7) → (let of = start (sized (tested (asked c))) .args .of in of .e + of .p ≤ 6044880)
+lists-small c = let B = start (sized (tested (asked c))) .pre .0 in omega (arith, B .e-le, B .n-le, B .p-le)
 
 add-result : tie.Need-add-result
 add-result c = omega (arith, lists-small c)
@@ -61,7 +64,7 @@ returns-4 : tie.Need-returns-4
 returns-4 c =
     let at-if3 = c .before .before in
     let at-if2 = at-if3 .before .before .before in
-    let at-if1 = at-if2 .before .before in
+    let at-if1 = tested at-if2 in
     short-lists _ _ _ (at-if1 .if1 .left) (at-if2 .if2 .left) _ (at-if3 .before .before .work-need .ensures) (at-if3 .if3 .left)
 
 pub too-short-spec : {M : Type 1} → statement M
