@@ -7,6 +7,10 @@ use Rattle.fixed.specs.Sequential.{iterated}
 use Rattle.fixed.proofs.iteration.Statement.{statement}
 use Rattle.fixed.proofs.iteration.Tie as tie
 
+-- the entry, which several needs reach
+abbrev start : tie.After-u → tie.Start
+start c = c .before .before .before .before .before
+
 add-base : tie.Need-add-base
 add-base c = search needs
 
@@ -30,7 +34,7 @@ slice-aggregate-checks-2 c = search needs
 
 checks-requires : tie.Need-checks-requires
 checks-requires c κs =
-    let s = c .before .before .before .before .before in
+    let s = start c in
     ((s .pre, rows-part (s .args .p) (s .args .lists .now)), (λ x h. omega (arith, h), (omega arith, omega arith)))
 
 same-length : tie.Need-same-length
@@ -38,8 +42,9 @@ same-length c = search needs
 
 returns : tie.Need-returns
 returns c =
-    let s = c .before .before .before .before .before .before .before .before .before in
-    iterated (plain (s .args .offset) (s .fits .offset)) (c .before .before .before .checks .ensures)
+    let at-checks = c .before .before .before in
+    let s = start (at-checks .before) in
+    iterated (plain (s .args .offset) (s .fits .offset)) (at-checks .checks .ensures)
 
 pub iteration-spec : {M : Type 1} → statement M
 iteration-spec =

@@ -14,6 +14,21 @@ Inv-loop table₀ counts g q l₀ table l = (l ≤ q) × NextRow table₀ counts
 abbrev μ-loop : tie.MeasureT-loop
 μ-loop table₀ counts g q l₀ table l = q - l
 
+-- the points that several needs reach
+abbrev start : tie.At-loop Inv-loop μ-loop → tie.Start Inv-loop μ-loop
+start c = c .before .before
+
+abbrev tested : tie.After-span Inv-loop μ-loop → tie.In-loop Inv-loop μ-loop
+tested c = c .before .before
+
+-- the next row's edges begin at a number of eight bits
+small : (c : tie.After-span Inv-loop μ-loop) → (let h = tested c .before in c .span .result + getD (start h .args .counts .now) (h .loop .l) 0 ≤ 255)
+small c =
+    let h = tested c .before in
+    let s = start h in
+    let q = tested c .loop-test .taken in
+    omega (arith, s .pre .1 (h .loop .l) q, c .span .ensures .0, h .loop .inv .1 .still (s .args .g * 120 + h .loop .l) (omega (arith, q, s .pre .0 .1 .1)))
+
 loop-holds : tie.Need-loop-holds Inv-loop μ-loop
 loop-holds c = let a = c .before .args in (search needs, next-row-start (a .table .now) (a .counts .now) (a .g))
 
@@ -30,18 +45,10 @@ element-copy-out-count : tie.Need-element-copy-out-count Inv-loop μ-loop
 element-copy-out-count c = search needs
 
 add-table : tie.Need-add-table Inv-loop μ-loop
-add-table c =
-    let s = c .before .before .before .before .before .before in
-    let h = c .before .before .before .before in
-    let q = c .before .before .before .loop-test .taken in
-    record { fits = omega (arith, s .pre .1 (h .loop .l) q, c .before .span .ensures .0, h .loop .inv .1 .still (s .args .g * 120 + h .loop .l) (omega (arith, q, s .pre .0 .1 .1))) }
+add-table c = record { fits = omega (arith, small (c .before)) }
 
 cast-table : tie.Need-cast-table Inv-loop μ-loop
-cast-table c =
-    let s = c .before .before .before .before .before .before in
-    let h = c .before .before .before .before in
-    let q = c .before .before .before .loop-test .taken in
-    record { fits = omega (arith, s .pre .1 (h .loop .l) q, c .before .span .ensures .0, h .loop .inv .1 .still (s .args .g * 120 + h .loop .l) (omega (arith, q, s .pre .0 .1 .1))) }
+cast-table c = record { fits = omega (arith, small (c .before)) }
 
 add-table-2 : tie.Need-add-table-2 Inv-loop μ-loop
 add-table-2 c = search needs
@@ -63,9 +70,10 @@ loop-less c = search needs
 
 loop-again : tie.Need-loop-again Inv-loop μ-loop
 loop-again c =
-    let s = c .before .before .before .before .before .before in
-    let h = c .before .before .before .before in
-    let q = c .before .before .before .loop-test .taken in (
+    let at-loop-test = tested (c .before) in
+    let h = at-loop-test .before in
+    let s = start h in
+    let q = at-loop-test .loop-test .taken in (
       omega (arith, q),
       next-row-again (h .loop .inv .1) (omega (arith, q, s .pre .0 .1 .1)) (omega (arith, q, s .pre .0))
           (ap (λ (z : ℕ). z + getD (s .args .counts .now) (h .loop .l) 0) (c .before .span .ensures .0)),

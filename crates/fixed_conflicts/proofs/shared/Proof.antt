@@ -52,9 +52,10 @@ loop-less c = search needs
 
 loop-again : tie.Need-loop-again Inv-loop μ-loop
 loop-again c =
-    let s = c .before .before .before .before .before .before in
-    let h = c .before .before .before .before in
-    let q = c .before .before .before .loop-test .taken in
+    let at-loop-test = c .before .before .before in
+    let h = at-loop-test .before in
+    let s = h .before .before in
+    let q = at-loop-test .loop-test .taken in
     (omega (arith, q), flagged-again (h .loop .inv .1) q (omega (arith, s .pre .1 .0)) (λ i. ltb (c .before .before .span .ensures .0 i + 1) (c .before .span2 .ensures .0 i)) (c .either .ensures))
 
 returns : tie.Need-returns Inv-loop μ-loop

@@ -17,6 +17,19 @@ Inv-loop lens addrs table₀ few q at₀ g₀ table at g = (g ≤ length lens) �
 abbrev μ-loop : tie.MeasureT-loop
 μ-loop lens addrs table₀ few q at₀ g₀ table at g = length lens - g
 
+-- the points that several needs reach
+abbrev start : tie.After-slice-known Inv-loop μ-loop → tie.Start Inv-loop μ-loop
+start c = c .before .before .before
+
+abbrev tested : tie.After-wide Inv-loop μ-loop → tie.In-loop Inv-loop μ-loop
+tested c = c .before .before
+
+abbrev counted : tie.After-counts2 Inv-loop μ-loop → tie.After-counts Inv-loop μ-loop
+counted c = c .before .before
+
+abbrev measured : tie.After-counts Inv-loop μ-loop → tie.After-wide Inv-loop μ-loop
+measured c = c .before .before
+
 -- the code is accepted, and q is its q
 accept : (s : tie.Start Inv-loop μ-loop) → Accepted (s .args .of .n) (s .args .lens .now) (s .args .addrs .now)
 accept s = accepted (s .args .of .n) (s .args .lens .now) (s .args .addrs .now) (s .pre .0 .0)
@@ -37,19 +50,22 @@ few-addrs : (s : tie.Start Inv-loop μ-loop) → length (s .args .addrs .now) �
 few-addrs s = addrs-le (s .args .of .n) (s .args .lens .now) (s .args .addrs .now) (accept s)
 
 -- the row ends within the addresses
-ends : (c : tie.After-wide Inv-loop μ-loop) → c .before .before .before .loop .at + c .wide .result ≤ length (c .before .before .before .before .before .before .before .args .addrs .now)
+ends : (c : tie.After-wide Inv-loop μ-loop) → (let h = tested c .before in h .loop .at + c .wide .result ≤ length (start (h .before) .args .addrs .now))
 ends c =
-    let s = c .before .before .before .before .before .before .before in
-    let h = c .before .before .before in
+    let h = tested c .before in
+    let s = start (h .before) in
     let lens = s .args .lens .now in
-    omega (arith, total-next lens (h .loop .g) (c .before .before .loop-test .taken), total-within lens (suc (h .loop .g)), accept s .adds, h .loop .inv .1 .at-is, c .wide .ensures)
+    omega (arith, total-next lens (h .loop .g) (tested c .loop-test .taken), total-within lens (suc (h .loop .g)), accept s .adds, h .loop .inv .1 .at-is, c .wide .ensures)
+
+short : (c : tie.After-wide Inv-loop μ-loop) → tested c .before .loop .at + c .wide .result ≤ 15360
+short c = let h = tested c .before in omega (arith, ends c, few-addrs (start (h .before)))
 
 cast-q : tie.Need-cast-q Inv-loop μ-loop
-cast-q c = record { fits = omega (arith, few (c .before .before .before)) }
+cast-q c = record { fits = omega (arith, few (start c)) }
 
 loop-holds : tie.Need-loop-holds Inv-loop μ-loop
 loop-holds c =
-    let s = c .before .before .before in
+    let s = start c in
     (search needs, begun-start (s .args .of .q) (s .args .lens .now) (s .args .addrs .now) (s .args .table .now) (s .pre .1 .0) (few s) (s .pre .1 .1))
 
 mul-wide : tie.Need-mul-wide Inv-loop μ-loop
@@ -62,10 +78,10 @@ wide-requires : tie.Need-wide-requires Inv-loop μ-loop
 wide-requires c κs = search needs
 
 add-to : tie.Need-add-to Inv-loop μ-loop
-add-to c = record { fits = omega (arith, ends c, few-addrs (c .before .before .before .before .before .before .before)) }
+add-to c = record { fits = omega (arith, short c) }
 
 mul-counts : tie.Need-mul-counts Inv-loop μ-loop
-mul-counts c = record { fits = omega (arith, ends c, few-addrs (c .before .before .before .before .before .before .before)) }
+mul-counts c = record { fits = omega (arith, short c) }
 
 sub-counts : tie.Need-sub-counts Inv-loop μ-loop
 sub-counts c = search needs
@@ -79,8 +95,8 @@ part-counts-end c = ends c
 counts-requires : tie.Need-counts-requires Inv-loop μ-loop
 counts-requires c κs =
     let at-wide = c .before in
-    let h = at-wide .before .before .before in
-    let s = h .before .before .before .before in (
+    let h = tested at-wide .before in
+    let s = start (h .before) in (
       some s,
       few s,
       omega (
@@ -94,12 +110,12 @@ counts-requires c κs =
 
 advance-requires : tie.Need-advance-requires Inv-loop μ-loop
 advance-requires c κs =
-    let at-wide = c .before .before .before .before in
-    let h = at-wide .before .before .before in
-    let s = h .before .before .before .before in
-    let q = at-wide .before .before .loop-test .taken in
+    let at-wide = measured (counted c) in
+    let h = tested at-wide .before in
+    let s = start (h .before) in
+    let q = tested at-wide .loop-test .taken in
     let v = at-wide .wide in
-    let k = c .before .before .counts in
+    let k = counted c .counts in
     let w = h .loop .inv .1 in (
       (w .long, (omega (arith, few-rows s, q), few s)),
       λ l i. begun-small (accept s) (layers s) w (h .loop .at + v .result) (k .result) q (ap (λ (z : ℕ). h .loop .at + z) (v .ensures)) (k .ensures .below) l i,
@@ -114,11 +130,11 @@ loop-less c = search needs
 loop-again : tie.Need-loop-again Inv-loop μ-loop
 loop-again c =
     let at-advance = c .before .before in
-    let at-counts = at-advance .before .before .before in
-    let at-wide = at-counts .before .before in
-    let h = at-wide .before .before .before in
-    let s = h .before .before .before .before in
-    let q = at-wide .before .before .loop-test .taken in
+    let at-counts = counted (at-advance .before) in
+    let at-wide = measured at-counts in
+    let h = tested at-wide .before in
+    let s = start (h .before) in
+    let q = tested at-wide .loop-test .taken in
     let v = at-wide .wide in
     let k = at-counts .counts in (
       omega (arith, q),
@@ -128,7 +144,7 @@ loop-again c =
 advance-requires-2 : tie.Need-advance-requires-2 Inv-loop μ-loop
 advance-requires-2 c κs =
     let h = c .before .before .before in
-    let s = h .before .before .before .before in
+    let s = start (h .before) in
     let w = h .loop .inv .1 in (
       (w .long, (omega (arith, few-rows s, h .loop .inv .0), few s)),
       λ l i. omega (arith, begun-few (accept s) (layers s) w l i, getD-replicate {A = ℕ} 120 l 2 0 (omega (arith, i, few s))),
@@ -142,7 +158,7 @@ returns c =
     let at-advance2 = c .before .before in
     let at-loop-test = at-advance2 .before .before .before in
     let h = at-loop-test .before in
-    let s = h .before .before .before .before in
+    let s = start (h .before) in
     begun-end (omega (arith, h .loop .inv .0, at-loop-test .loop-test .left)) (layers s) (few s) (h .loop .inv .1) (λ l i. getD-replicate 120 l 2 0 (omega (arith, i, few s)))
     (at-advance2 .advance2 .ensures)
 

@@ -22,9 +22,9 @@ loop-holds c = let a = c .args in (search needs, (refl, row-start (a .lanes) (a 
 
 value-requires : tie.Need-value-requires Inv-loop μ-loop
 value-requires c κs =
-    let s = c .before .before .before in
-    let h = c .before .before in
-    omega (arith, s .pre .0, c .before .loop-test .taken, h .loop .inv .1 .0)
+    let t = c .before in
+    let h = t .before in
+    omega (arith, h .before .pre .0, t .loop-test .taken, h .loop .inv .1 .0)
 
 element-copy-out-pick : tie.Need-element-copy-out-pick Inv-loop μ-loop
 element-copy-out-pick c = search needs
@@ -36,8 +36,7 @@ place-requires : tie.Need-place-requires Inv-loop μ-loop
 place-requires c κs =
     let t = c .before .before .before .before .before in
     let h = t .before in
-    let s = h .before in
-    (omega (arith, s .pre .0, t .loop-test .taken, h .loop .inv .1 .0), t .loop-test .taken)
+    (omega (arith, h .before .pre .0, t .loop-test .taken, h .loop .inv .1 .0), t .loop-test .taken)
 
 add-i : tie.Need-add-i Inv-loop μ-loop
 add-i c = search needs
@@ -47,17 +46,18 @@ loop-less c = search needs
 
 loop-again : tie.Need-loop-again Inv-loop μ-loop
 loop-again c =
-    let loop-test = c .before .before .before .before .before .before .before .loop-test in
-    let s = c .before .before .before .before .before .before .before .before .before in
-    let h = c .before .before .before .before .before .before .before .before in
-    let q = loop-test .taken in
-    let v = c .before .before .before .before .before .value in
-    let y = c .before .before .before .pick in
+    let at-pick = c .before .before .before in
+    let at-value = at-pick .before .before in
+    let t = at-value .before .before in
+    let h = t .before in
+    let s = h .before in
+    let v = at-value .value in
+    let y = at-pick .pick in
     let k = c .before .place in (
       search needs,
       (
         omega (arith, k .kept, h .loop .inv .1 .0),
-        row-again (h .loop .inv .1 .1) q (v .ensures)
+        row-again (h .loop .inv .1 .1) (t .loop-test .taken) (v .ensures)
             (plain (y .result) (record { sfits = y .ok }) ∙ y .ensures ∙ ap (λ (z : ℤ). cond (on (s .args .fresh .now) (h .loop .i)) (pos 0) z) (plain (v .result) (record { sfits = v .ok }))) (k .ensures),
       ),
     )

@@ -21,12 +21,16 @@ Inv-loop work n lanes lane out₀ u₀ out u = (u ≤ n) × Deciding (within n (
 abbrev μ-loop : tie.MeasureT-loop
 μ-loop work n lanes lane out₀ u₀ out u = n - u
 
+-- the entry, which several needs reach
+abbrev start : tie.At-loop Inv-loop μ-loop → tie.Start Inv-loop μ-loop
+start c = c .before .before
+
 loop-holds : tie.Need-loop-holds Inv-loop μ-loop
 loop-holds c = (search needs, deciding-start _ _)
 
 value-requires : tie.Need-value-requires Inv-loop μ-loop
 value-requires c κs =
-    let s = c .before .before .before in
+    let s = start (c .before) in
     inside-rows (c .before .loop .u) (s .args .n) (s .args .lanes) (s .args .lane) _ (c .loop-test .taken) (s .pre .1 .0) (s .pre .0)
 
 bit-requires : tie.Need-bit-requires Inv-loop μ-loop
@@ -43,10 +47,11 @@ loop-less c = search needs
 
 loop-again : tie.Need-loop-again Inv-loop μ-loop
 loop-again c =
-    let s = c .before .before .before .before .before in
-    let h = c .before .before .before in
+    let at-loop-test = c .before .before in
+    let h = at-loop-test .before in
+    let s = start h in
     let v = c .before .value in
-    let q = c .before .before .loop-test .taken in (
+    let q = at-loop-test .loop-test .taken in (
       search needs,
       deciding-again (h .loop .inv .1) (omega (arith, q, s .pre .1 .1))
           (c .bit .ensures ∙ ap (λ (z : ℤ). hard z) (plain (v .result) (record { sfits = v .ok }) ∙ v .ensures ∙ sym (within-at (s .args .n) (column (s .args .lanes) (s .args .work .now) (s .args .lane)) (h .loop .u) q))) (simp length-set) refl,
@@ -57,7 +62,7 @@ same-length c = c .before .loop .inv .1 .long
 
 returns : tie.Need-returns Inv-loop μ-loop
 returns c =
-    let s = c .before .before .before in
+    let s = start (c .before) in
     deciding-end (omega (arith, c .before .loop .inv .0, c .loop-test .left)) (s .pre .1 .1) (c .before .loop .inv .1)
 
 pub hard-spec : {M : Type 1} → statement M

@@ -26,9 +26,10 @@ shared-slice-copy-out-place c = search needs
 
 place-requires : tie.Need-place-requires Inv-loop μ-loop
 place-requires c κs =
-    let s = c .before .before .before .before in
-    let h = c .before .before .before in
-    (inside-rows (h .loop .u) (s .args .n) (s .args .lanes) (s .args .lane) _ (c .before .before .loop-test .taken) (s .pre .1 .0) (omega (arith, h .loop .inv .1 .0, s .pre .0)), s .pre .1 .0)
+    let at-loop-test = c .before .before in
+    let h = at-loop-test .before in
+    let s = h .before in
+    (inside-rows (h .loop .u) (s .args .n) (s .args .lanes) (s .args .lane) _ (at-loop-test .loop-test .taken) (s .pre .1 .0) (omega (arith, h .loop .inv .1 .0, s .pre .0)), s .pre .1 .0)
 
 add-u : tie.Need-add-u Inv-loop μ-loop
 add-u c = search needs
@@ -39,7 +40,7 @@ loop-less c = search needs
 loop-again : tie.Need-loop-again Inv-loop μ-loop
 loop-again c =
     let h = c .before .before .before .before .before in
-    let s = c .before .before .before .before .before .before in
+    let s = h .before in
     let k = c .before .place in (
       search needs,
       (

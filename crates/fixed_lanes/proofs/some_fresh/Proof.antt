@@ -21,7 +21,10 @@ element-copy-out-if1 : tie.Need-element-copy-out-if1 Inv-loop μ-loop
 element-copy-out-if1 c = search needs
 
 returns : tie.Need-returns Inv-loop μ-loop
-returns c = sym (some-at _ (c .before .before .before .loop .i) _ (c .before .before .loop-test .taken) (c .if1 .taken))
+returns c =
+    let e = c .before in
+    let t = e .before in
+    sym (some-at _ (t .before .loop .i) _ (t .loop-test .taken) (c .if1 .taken))
 
 add-i : tie.Need-add-i Inv-loop μ-loop
 add-i c = search needs
@@ -31,8 +34,9 @@ loop-less c = search needs
 
 loop-again : tie.Need-loop-again Inv-loop μ-loop
 loop-again c =
-    let loop = c .before .before .before .loop in
-    (search needs, none-again _ (loop .i) (c .if1 .left) (loop .inv .1))
+    let e = c .before in
+    let h = e .before .before in
+    (search needs, none-again _ (h .loop .i) (c .if1 .left) (h .loop .inv .1))
 
 returns-2 : tie.Need-returns-2 Inv-loop μ-loop
 returns-2 c =

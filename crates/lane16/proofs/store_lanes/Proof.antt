@@ -1,10 +1,16 @@
 -- `lane16::store_lanes` meets its contract. Assumes nothing.
 use native.Mathlib.Omega.{arith}
 use borrow.Author.Needs.{needs}
-use mathlib.Core.Path.{sym}
+use mathlib.Core.Path.{_≡_, sym}
 use Rattle.lane16.specs.ColumnLaws.{stored-width}
 use Rattle.lane16.proofs.store_lanes.Statement.{statement}
 use Rattle.lane16.proofs.store_lanes.Tie as tie
+
+-- a width that is none of the others is 1
+one : (c : tie.Else3) → c .before .before .before .args .w ≡ 1
+one c =
+    let e = c .before in
+    e .before .before .pre .1 .1 .one-of (e .before .if1 .left) (e .if2 .left) (c .if3 .left)
 
 store-requires : tie.Need-store-requires
 store-requires c κs = search needs
@@ -34,20 +40,13 @@ returns-3 : tie.Need-returns-3
 returns-3 c = stored-width (sym (c .before .before .before .if3 .taken)) (c .before .store3 .ensures)
 
 store-requires-4 : tie.Need-store-requires-4
-store-requires-4 c κs =
-    let s = c .before .before .before .before in
-    let w = s .pre .1 .1 .one-of (c .before .before .before .if1 .left) (c .before .before .if2 .left) (c .before .if3 .left) in
-    (search needs, (omega (arith, w), omega arith))
+store-requires-4 c κs = (search needs, (omega (arith, one (c .before)), omega arith))
 
 same-length-4 : tie.Need-same-length-4
 same-length-4 c = search needs
 
 returns-4 : tie.Need-returns-4
-returns-4 c =
-    let at-if2 = c .before .before .before .before in
-    let at-if1 = at-if2 .before in
-    let s = c .before .before .before .before .before .before in
-    stored-width (sym (s .pre .1 .1 .one-of (at-if1 .if1 .left) (at-if2 .if2 .left) (c .before .before .before .if3 .left))) (c .before .store4 .ensures)
+returns-4 c = stored-width (sym (one (c .before .before .before))) (c .before .store4 .ensures)
 
 pub store-lanes-spec : {M : Type 1} → statement M
 store-lanes-spec =

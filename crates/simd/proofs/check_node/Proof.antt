@@ -24,6 +24,16 @@ Inv-loop rows s d a₀ t₀ u₀ n lanes offset at₀ a t u at =
 abbrev μ-loop : tie.MeasureT-loop
 μ-loop rows s d a₀ t₀ u₀ n lanes offset at₀ a t u at = lanes - at
 
+-- the points that several needs reach
+abbrev start : tie.At-loop Inv-loop μ-loop → tie.Start Inv-loop μ-loop
+start c = c .before .before
+
+abbrev tested : tie.After-chunk Inv-loop μ-loop → tie.In-loop Inv-loop μ-loop
+tested c = c .before .before .before .before
+
+abbrev done : tie.After-u Inv-loop μ-loop → tie.After-chunk Inv-loop μ-loop
+done c = c .before .before .before
+
 loop-holds : tie.Need-loop-holds Inv-loop μ-loop
 loop-holds c =
     let a = c .before .args in (
@@ -36,26 +46,28 @@ loop-holds c =
 
 chunk-requires : tie.Need-chunk-requires Inv-loop μ-loop
 chunk-requires c κs =
-    let s = c .before .before .before .before .before .before in
-    let h = c .before .before .before .before in (
+    let at-loop-test = c .before .before .before in
+    let h = at-loop-test .before in
+    let s = start h in (
       check-memory-to (h .loop .inv .1 .0) (s .pre .0),
-      (c .before .before .before .loop-test .taken, (omega (arith, h .loop .inv .1 .1 .0 .0, s .pre .1 .0), omega (arith, h .loop .inv .1 .1 .0 .1, s .pre .1 .1))),
+      (at-loop-test .loop-test .taken, (omega (arith, h .loop .inv .1 .1 .0 .0, s .pre .1 .0), omega (arith, h .loop .inv .1 .1 .0 .1, s .pre .1 .1))),
     )
 
 add-at : tie.Need-add-at Inv-loop μ-loop
 add-at c =
-    let s = c .before .before .before .before .before .before .before .before .before .before in
-    let w = c .before .before .before .chunk .ensures .0 in record { fits = omega (arith, w .1, s .fits .lanes .fits) }
+    let k = done c in
+    record { fits = omega (arith, k .chunk .ensures .0 .1, start (tested k .before) .fits .lanes .fits) }
 
 loop-less : tie.Need-loop-less Inv-loop μ-loop
 loop-less c =
-    let loop-test = c .before .before .before .before .before .before .before .loop-test in
-    let w = c .before .before .before .chunk .ensures .0 in omega (arith, w .0, w .1, loop-test .taken)
+    let k = done c in
+    omega (arith, k .chunk .ensures .0, tested k .loop-test .taken)
 
 loop-again : tie.Need-loop-again Inv-loop μ-loop
 loop-again c =
-    let h = c .before .before .before .before .before .before .before .before in
-    let k = c .before .before .before .chunk in (
+    let at-chunk = done c in
+    let h = tested at-chunk .before in
+    let k = at-chunk .chunk in (
       omega (arith, k .ensures .0 .1),
       (
         omega (arith, k .kept, h .loop .inv .1 .0),
@@ -74,8 +86,8 @@ same-length-3 c = search needs
 
 returns : tie.Need-returns Inv-loop μ-loop
 returns c =
-    let s = c .before .before .before in
     let h = c .before in
+    let s = start h in
     subst (λ (o : ℤ). CheckNode (s .args .rows .now) (s .args .s) (s .args .d) (s .args .n) (s .args .lanes) o (s .args .a .now) (h .loop .a)) (plain (s .args .offset) (s .fits .offset))
     (check-node (s .pre .0) (upto-end (omega (arith, c .loop-test .left)) (h .loop .inv .1 .1 .1)))
 

@@ -17,6 +17,17 @@ Inv-loop rows s d a t₀ n lanes at st₀ k₀ t st k = (k ≤ d) × ((length t 
 abbrev μ-loop : tie.MeasureT-loop
 μ-loop rows s d a t₀ n lanes at st₀ k₀ t st k = d - k
 
+-- the points that several needs reach
+abbrev start : tie.At-loop Inv-loop μ-loop → tie.Start Inv-loop μ-loop
+start c = c .before .before
+
+abbrev tested : tie.After-load Inv-loop μ-loop → tie.In-loop Inv-loop μ-loop
+tested c = c .before .before
+
+-- the edge is one of the E
+edge-in : (c : tie.In-loop Inv-loop μ-loop) → (let a = start (c .before) .args in a .s + c .before .loop .k < length (a .rows .now))
+edge-in c = omega (arith, start (c .before) .pre .0 .edges, c .loop-test .taken)
+
 loop-holds : tie.Need-loop-holds Inv-loop μ-loop
 loop-holds c =
     let a = c .before .args in (
@@ -36,28 +47,31 @@ variable-requires c κs = search needs
 
 load-requires : tie.Need-load-requires Inv-loop μ-loop
 load-requires c κs =
-    let s = c .before .before .before .before in
-    let v : c .variable .result < s .args .n = omega (arith, c .variable .ensures, value-row (s .pre .0) (c .before .before .loop .k) (c .before .loop-test .taken)) in
+    let t = c .before in
+    let s = start (t .before) in
+    let v : c .variable .result < s .args .n = omega (arith, c .variable .ensures, value-row (s .pre .0) (t .before .loop .k) (t .loop-test .taken)) in
     load-room (s .pre .0) (c .variable .result) (s .args .at) (omega arith) (s .pre .1 .0)
 
 add-u : tie.Need-add-u Inv-loop μ-loop
 add-u c =
-    let s = c .before .before .before .before .before in
-    record { fits = omega (arith, row-fits (s .pre .0) (s .args .n + (s .args .s + c .before .before .before .loop .k)) (omega (arith, s .pre .0 .edges, c .before .before .loop-test .taken)), s .good) }
+    let t = tested c in
+    let s = start (t .before) in
+    record { fits = omega (arith, row-fits (s .pre .0) (s .args .n + (s .args .s + t .before .loop .k)) (omega (arith, edge-in t)), s .good) }
 
 load-requires-2 : tie.Need-load-requires-2 Inv-loop μ-loop
 load-requires-2 c κs =
-    let s = c .before .before .before .before .before in
-    load-room (s .pre .0) (s .args .n + (s .args .s + c .before .before .before .loop .k)) (s .args .at) (omega (arith, s .pre .0 .edges, c .before .before .loop-test .taken)) (s .pre .1 .0)
+    let t = tested c in
+    let s = start (t .before) in
+    load-room (s .pre .0) (s .args .n + (s .args .s + t .before .loop .k)) (s .args .at) (omega (arith, edge-in t)) (s .pre .1 .0)
 
 scan-requires : tie.Need-scan-requires Inv-loop μ-loop
 scan-requires c κs = search needs
 
 store-requires : tie.Need-store-requires Inv-loop μ-loop
 store-requires c κs =
-    let t = c .before .before .before .before .before .before in
+    let t = tested (c .before .before .before .before) in
     let h = t .before in
-    let s = h .before .before in
+    let s = start h in
     (omega (arith, h .loop .inv .1 .0, s .pre .1 .1, s .pre .0 .degree, t .loop-test .taken), (omega arith, omega arith))
 
 add-k : tie.Need-add-k Inv-loop μ-loop

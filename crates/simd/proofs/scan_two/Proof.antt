@@ -20,6 +20,27 @@ Inv-loop rows s d a t₀ u₀ n lanes at one₀ two₀ k₀ t u one two k =
 abbrev μ-loop : tie.MeasureT-loop
 μ-loop rows s d a t₀ u₀ n lanes at one₀ two₀ k₀ t u one two k = d - k
 
+-- the points that several needs reach
+abbrev start : tie.At-loop Inv-loop μ-loop → tie.Start Inv-loop μ-loop
+start c = c .before .before
+
+abbrev looped : tie.After-variable Inv-loop μ-loop → tie.At-loop Inv-loop μ-loop
+looped c = c .before .before
+
+abbrev looked-up : tie.After-store-arg Inv-loop μ-loop → tie.After-variable Inv-loop μ-loop
+looked-up c = c .before .before .before .before .before .before .before .before .before
+
+abbrev of-edge : tie.After-store-arg2 Inv-loop μ-loop → tie.After-variable Inv-loop μ-loop
+of-edge c = looked-up (c .before .before .before)
+
+-- the edge is one of the E
+edge-in : (c : tie.In-loop Inv-loop μ-loop) → (let a = start (c .before) .args in a .s + c .before .loop .k < length (a .rows .now))
+edge-in c = omega (arith, start (c .before) .pre .0 .edges, c .loop-test .taken)
+
+-- its variable is one of the n
+value-in : (c : tie.After-variable Inv-loop μ-loop) → c .variable .result < start (looped c) .args .n
+value-in c = omega (arith, c .variable .ensures, value-row (start (looped c) .pre .0) (looped c .loop .k) (c .before .loop-test .taken))
+
 loop-holds : tie.Need-loop-holds Inv-loop μ-loop
 loop-holds c =
     let a = c .before .args in (
@@ -43,41 +64,40 @@ variable-requires c κs = search needs
 
 add-r : tie.Need-add-r Inv-loop μ-loop
 add-r c =
-    let s = c .before .before .before .before in
-    record { fits = omega (arith, row-fits (s .pre .0) (s .args .n + (s .args .s + c .before .before .loop .k)) (omega (arith, s .pre .0 .edges, c .before .loop-test .taken)), s .good) }
+    let h = looped c in
+    let s = start h in
+    record { fits = omega (arith, row-fits (s .pre .0) (s .args .n + (s .args .s + h .loop .k)) (omega (arith, edge-in (c .before))), s .good) }
 
 load-requires : tie.Need-load-requires Inv-loop μ-loop
 load-requires c κs =
-    let s = c .before .before .before .before in
-    let v : c .variable .result < s .args .n = omega (arith, c .variable .ensures, value-row (s .pre .0) (c .before .before .loop .k) (c .before .loop-test .taken)) in
-    load-room (s .pre .0) (c .variable .result) (s .args .at) (omega arith) (omega (arith, s .pre .1 .0))
+    let s = start (looped c) in
+    load-room (s .pre .0) (c .variable .result) (s .args .at) (omega (arith, value-in c)) (omega (arith, s .pre .1 .0))
 
 load-requires-2 : tie.Need-load-requires-2 Inv-loop μ-loop
 load-requires-2 c κs =
-    let s = c .before .before .before .before .before in
-    load-room (s .pre .0) (s .args .n + (s .args .s + c .before .before .before .loop .k)) (s .args .at)
-    (omega (arith, s .pre .0 .edges, c .before .before .loop-test .taken)) (omega (arith, s .pre .1 .0))
+    let v = c .before in
+    let h = looped v in
+    let s = start h in
+    load-room (s .pre .0) (s .args .n + (s .args .s + h .loop .k)) (s .args .at) (omega (arith, edge-in (v .before))) (omega (arith, s .pre .1 .0))
 
 add-load : tie.Need-add-load Inv-loop μ-loop
 add-load c = search needs
 
 load-requires-3 : tie.Need-load-requires-3 Inv-loop μ-loop
 load-requires-3 c κs =
-    let at-variable = c .before .before in
-    let at-loop = at-variable .before .before in
-    let s = c .before .before .before .before .before .before in
-    let v : at-variable .variable .result < s .args .n = omega (arith, at-variable .variable .ensures, value-row (s .pre .0) (at-loop .loop .k) (c .before .before .before .loop-test .taken)) in
-    load-room (s .pre .0) (at-variable .variable .result) (s .args .at + 16) (omega arith) (omega (arith, s .pre .1 .0))
+    let v = c .before .before in
+    let s = start (looped v) in
+    load-room (s .pre .0) (v .variable .result) (s .args .at + 16) (omega (arith, value-in v)) (omega (arith, s .pre .1 .0))
 
 add-load-2 : tie.Need-add-load-2 Inv-loop μ-loop
 add-load-2 c = search needs
 
 load-requires-4 : tie.Need-load-requires-4 Inv-loop μ-loop
 load-requires-4 c κs =
-    let at-loop-test = c .before .before .before .before in
-    let at-loop = at-loop-test .before in
-    let s = c .before .before .before .before .before .before .before in
-    load-room (s .pre .0) (s .args .n + (s .args .s + at-loop .loop .k)) (s .args .at + 16) (omega (arith, s .pre .0 .edges, at-loop-test .loop-test .taken)) (omega (arith, s .pre .1 .0))
+    let v = c .before .before .before in
+    let h = looped v in
+    let s = start h in
+    load-room (s .pre .0) (s .args .n + (s .args .s + h .loop .k)) (s .args .at + 16) (omega (arith, edge-in (v .before))) (omega (arith, s .pre .1 .0))
 
 scan-requires : tie.Need-scan-requires Inv-loop μ-loop
 scan-requires c κs = search needs
@@ -87,28 +107,28 @@ scan-requires-2 c κs = search needs
 
 store-requires : tie.Need-store-requires Inv-loop μ-loop
 store-requires c κs =
-    let t = c .before .before .before .before .before .before .before .before .before .before in
+    let t = looked-up c .before in
     let h = t .before in
-    let s = h .before .before in
+    let s = start h in
     (omega (arith, h .loop .inv .1 .0 .0, s .pre .1 .1 .0, s .pre .0 .degree, t .loop-test .taken), (omega arith, omega arith))
 
 store-requires-2 : tie.Need-store-requires-2 Inv-loop μ-loop
 store-requires-2 c κs =
-    let t = c .before .before .before .before .before .before .before .before .before .before .before .before .before in
+    let t = of-edge c .before in
     let h = t .before in
-    let s = h .before .before in
+    let s = start h in
     (omega (arith, h .loop .inv .1 .0 .1, s .pre .1 .1 .1, s .pre .0 .degree, t .loop-test .taken), (omega arith, omega arith))
 
 add-k : tie.Need-add-k Inv-loop μ-loop
 add-k c =
-    let t = c .before .before .before .before .before .before .before .before .before .before .before .before .before .before .before in
-    let s = t .before .before .before in
-    record { fits = omega (arith, t .loop-test .taken, s .fits .d .fits) }
+    let two = c .before in
+    let t = of-edge (two .before) .before in
+    record { fits = omega (arith, t .loop-test .taken, start (t .before) .fits .d .fits) }
 
 loop-less : tie.Need-loop-less Inv-loop μ-loop
 loop-less c =
-    let loop-test = c .before .before .before .before .before .before .before .before .before .before .before .before .before .before .before .loop-test in
-    omega (arith, loop-test .taken)
+    let two = c .before in
+    omega (arith, of-edge (two .before) .before .loop-test .taken)
 
 loop-again : tie.Need-loop-again Inv-loop μ-loop
 loop-again c =

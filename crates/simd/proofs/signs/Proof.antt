@@ -16,6 +16,10 @@ Inv-loop rows s d a n lanes at g₀ k₀ g k = (k ≤ d) × Signs (var rows) s l
 abbrev μ-loop : tie.MeasureT-loop
 μ-loop rows s d a n lanes at g₀ k₀ g k = d - k
 
+-- the loop's head, which several needs reach
+abbrev looped : tie.After-variable Inv-loop μ-loop → tie.At-loop Inv-loop μ-loop
+looped c = c .before .before
+
 loop-holds : tie.Need-loop-holds Inv-loop μ-loop
 loop-holds c =
     let a = c .before .args in
@@ -29,8 +33,9 @@ variable-requires c κs = search needs
 
 load-requires : tie.Need-load-requires Inv-loop μ-loop
 load-requires c κs =
-    let s = c .before .before .before .before in
-    let v : c .variable .result < s .args .n = omega (arith, c .variable .ensures, value-row (s .pre .0) (c .before .before .loop .k) (c .before .loop-test .taken)) in
+    let h = looped c in
+    let s = h .before .before in
+    let v : c .variable .result < s .args .n = omega (arith, c .variable .ensures, value-row (s .pre .0) (h .loop .k) (c .before .loop-test .taken)) in
     load-room (s .pre .0) (c .variable .result) (s .args .at) (omega arith) (s .pre .1)
 
 flip-requires : tie.Need-flip-requires Inv-loop μ-loop
@@ -44,8 +49,9 @@ loop-less c = search needs
 
 loop-again : tie.Need-loop-again Inv-loop μ-loop
 loop-again c =
-    let h = c .before .before .before .before in
-    (omega (arith, c .before .before .before .loop-test .taken), signs-again (h .loop .inv .1) (c .before .before .variable .ensures) (c .before .load .ensures) (c .flip .ensures))
+    let at-variable = c .before .before in
+    let h = looped at-variable in
+    (omega (arith, at-variable .before .loop-test .taken), signs-again (h .loop .inv .1) (at-variable .variable .ensures) (c .before .load .ensures) (c .flip .ensures))
 
 returns : tie.Need-returns Inv-loop μ-loop
 returns c = signs-end (omega arith) (c .before .loop .inv .1)

@@ -21,9 +21,9 @@ same-length c = search needs
 
 returns-2 : tie.Need-returns-2
 returns-2 c =
-    let s = c .before .before .before .before .before in
-    let a = c .before .before .before .before .before .args in
-    stored-unless (sharedIn (a .flags .now) (a .v)) (c .before .before .before .if1 .left) (c .before .store-lanes .ensures)
+    let at-if1 = c .before .before .before in
+    let a = at-if1 .before .before .args in
+    stored-unless (sharedIn (a .flags .now) (a .v)) (at-if1 .if1 .left) (c .before .store-lanes .ensures)
 
 pub store-value-spec : {M : Type 1} → statement M
 store-value-spec =
