@@ -19,6 +19,10 @@ Inv-loop c n at₀ x₀ p₀ at x p = (p ≤ n) × (x < 65536) × (toEl x ≡ po
 abbrev μ-loop : tie.MeasureT-loop
 μ-loop c n at₀ x₀ p₀ at x p = n - p
 
+-- ---- the points
+abbrev looped : tie.After-entry Inv-loop μ-loop → tie.At-loop Inv-loop μ-loop
+looped c = c .before .before
+
 loop-holds : tie.Need-loop-holds Inv-loop μ-loop
 loop-holds c = (omega arith, omega arith, power-start, places-start _ _ _ refl (zeros-at 12))
 
@@ -30,8 +34,9 @@ array-write-at c = search needs
 
 returns : tie.Need-returns Inv-loop μ-loop
 returns c =
-    let l = c .before .before .before .loop in
-    let a = c .before .before .before .before in
+    let at-loop = looped (c .before) in
+    let l = at-loop .loop in
+    let a = at-loop .before in
     let z = one-hit (a .args .c) (l .p) _ _ (a .pre .1) (l .inv .2) (c .before .entry .ensures) (c .if1 .taken) in
     places-full _ _ (a .args .c) 1 (l .p + 1) (a .args .n) (omega arith) (a .pre .0) (a .pre .1) refl
     (places-hit (l .at) 0 (a .args .c) 1 (l .p) (omega arith) (omega arith) (a .pre .1) (l .inv .3) z)
@@ -53,8 +58,9 @@ loop-less c = search needs
 
 loop-again : tie.Need-loop-again Inv-loop μ-loop
 loop-again c =
-    let l = c .before .before .before .before .loop in
-    let a = c .before .before .before .before .before in (
+    let at-loop = looped (c .before .before) in
+    let l = at-loop .loop in
+    let a = at-loop .before in (
       omega arith,
       search needs,
       power-again (l .x) _ (l .p) (l .inv .1) (l .inv .2) (c .fold .ensures),

@@ -3,6 +3,8 @@
 use mathlib.Core.Path.{_≡_, refl}
 use mathlib.Core.Logic.{⊎-elim}
 use Prim.Native.Nat.{suc, _+_, _-_, _≤_}
+use Rattle.gf16.specs.Field16.{R16, valueAt}
+use Rattle.bch_locator.specs.Element.{poly}
 use Rattle.bch_locator.specs.Lanes.{PowersOf}
 use Rattle.bch_locator.specs.Places.{Places-of}
 use Rattle.bch_locator.proofs.Raised.{powers-small}
@@ -18,6 +20,21 @@ Inv-loop c len n powers t₀ at₀ count₀ p₀ t at count p = (p ≤ n) × Pow
 
 abbrev μ-loop : tie.MeasureT-loop
 μ-loop c len n powers t₀ at₀ count₀ p₀ t at count p = n - p
+
+-- ---- the points
+abbrev start : tie.At-loop Inv-loop μ-loop → tie.Start Inv-loop μ-loop
+start c = c .before .before .before
+
+abbrev looped : tie.After-entry Inv-loop μ-loop → tie.At-loop Inv-loop μ-loop
+looped c = c .before .before .before
+
+-- where the sum is the entry, the place is a root
+hit : (c : tie.After-entry Inv-loop μ-loop) → (let a = start (looped c) .args in
+    c .before .lane-sum .result ≡ c .entry .result → valueAt (poly (a .c)) (a .len) (looped c .loop .p) ≡ R16 .𝟘)
+hit c e =
+    let l = looped c .loop in
+    let s = start (looped c) in
+    sum-hit (l .t) (s .args .c) (s .args .len) (l .p) _ _ (s .pre .0) (l .inv .2) (c .before .lane-sum .ensures) (c .entry .ensures) e
 
 place-powers-requires : tie.Need-place-powers-requires Inv-loop μ-loop
 place-powers-requires c κs = search needs
@@ -39,10 +56,9 @@ mul-at c = search needs
 
 array-write-at : tie.Need-array-write-at Inv-loop μ-loop
 array-write-at c =
-    let l = c .before .before .before .before .loop in
-    let a = c .before .before .before .before .before .before .before in
-    let z = sum-hit (l .t) (a .args .c) (a .args .len) (l .p) _ _ (a .pre .0) (l .inv .2) (c .before .before .lane-sum .ensures) (c .before .entry .ensures) (c .if1 .taken) in
-    let k = count-fits (l .at) (l .count) (a .args .c) (a .args .len) (l .p) (omega arith) (a .pre .2) (l .inv .3) z in
+    let l = looped (c .before) .loop in
+    let a = start (looped (c .before)) in
+    let k = count-fits (l .at) (l .count) (a .args .c) (a .args .len) (l .p) (omega arith) (a .pre .2) (l .inv .3) (hit (c .before) (c .if1 .taken)) in
     omega (arith, k, a .pre .0)
 
 add-count : tie.Need-add-count Inv-loop μ-loop
@@ -50,15 +66,16 @@ add-count c = search needs
 
 returns : tie.Need-returns Inv-loop μ-loop
 returns c =
-    let l = c .before .before .before .before .before .loop in
-    let a = c .before .before .before .before .before .before .before .before in
-    let z = sum-hit (l .t) (a .args .c) (a .args .len) (l .p) _ _ (a .pre .0) (l .inv .2) (c .before .before .before .lane-sum .ensures) (c .before .before .entry .ensures) (c .before .if1 .taken) in
+    let at-if1 = c .before in
+    let at-entry = at-if1 .before in
+    let l = looped at-entry .loop in
+    let a = start (looped at-entry) in
     places-full _ _ (a .args .c) (a .args .len) (l .p + 1) (a .args .n) (omega arith) (a .pre .1) (a .pre .2) (c .if2 .taken)
-    (places-hit (l .at) (l .count) (a .args .c) (a .args .len) (l .p) (a .pre .0) (omega arith) (a .pre .2) (l .inv .3) z)
+    (places-hit (l .at) (l .count) (a .args .c) (a .args .len) (l .p) (a .pre .0) (omega arith) (a .pre .2) (l .inv .3) (hit at-entry (at-if1 .if1 .taken)))
 
 times-requires : tie.Need-times-requires Inv-loop μ-loop
 times-requires c κs =
-    let l = c .before .before .before .before .loop in
+    let l = looped (c .before) .loop in
     (l .inv .2 .lanes, powers-small _ suc (l .inv .1))
 
 add-p : tie.Need-add-p Inv-loop μ-loop
@@ -69,24 +86,24 @@ loop-less c = search needs
 
 loop-again : tie.Need-loop-again Inv-loop μ-loop
 loop-again c =
-    let l = c .before .before .before .before .before .loop in
-    let a = c .before .before .before .before .before .before .before .before in
-    let e = c .before .before in (
+    let at-if1 = c .before in
+    let e = at-if1 .before in
+    let l = looped e .loop in
+    let a = start (looped e) in (
       omega arith,
       l .inv .1,
       terms-again _ (l .t) _ _ _ (l .p) (a .pre .0) (l .inv .2) (l .inv .1) (c .times .ensures),
       ⊎-elim
-          (λ w. places-as _ _ (places-hit (l .at) (l .count) (a .args .c) (a .args .len) (l .p) (a .pre .0) (omega arith) (a .pre .2) (l .inv .3)
-          (sum-hit (l .t) (a .args .c) (a .args .len) (l .p) _ _ (a .pre .0) (l .inv .2) (e .before .lane-sum .ensures) (e .entry .ensures) (w .0 .taken))) (w .2) (w .3))
+          (λ w. places-as _ _ (places-hit (l .at) (l .count) (a .args .c) (a .args .len) (l .p) (a .pre .0) (omega arith) (a .pre .2) (l .inv .3) (hit e (w .0 .taken))) (w .2) (w .3))
           (λ w. places-as _ _ (places-miss (l .at) (l .count) (a .args .c) (a .args .len) (l .p) (l .inv .3)
           (sum-miss (l .t) (a .args .c) (a .args .len) (l .p) _ _ (a .pre .0) (l .inv .2) (e .before .lane-sum .ensures) (e .entry .ensures) (search needs) (search needs) (w .0 .left))) (w .1) (w .2))
-          (c .before .if1 .came),
+          (at-if1 .if1 .came),
     )
 
 returns-2 : tie.Need-returns-2 Inv-loop μ-loop
 returns-2 c =
     let l = c .before .loop in
-    let a = c .before .before .before .before in
+    let a = start (c .before) in
     let e : l .p ≡ a .args .n = omega arith in
     places-end _ _ _ _ (l .p) _ e (l .inv .3)
 

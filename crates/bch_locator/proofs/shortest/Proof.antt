@@ -15,6 +15,10 @@ Inv-loop s c₀ b₀ l₀ m₀ e₀ k₀ c b l m e k = State s c b l m e k
 abbrev μ-loop : tie.MeasureT-loop
 μ-loop s c₀ b₀ l₀ m₀ e₀ k₀ c b l m e k = 24 - k
 
+-- ---- the points
+abbrev turn : tie.After-discrepancy Inv-loop μ-loop → tie.In-loop Inv-loop μ-loop
+turn c = c .before .before .before
+
 array-write-c : tie.Need-array-write-c Inv-loop μ-loop
 array-write-c c = search needs
 
@@ -48,7 +52,7 @@ sub-if3 c = search needs
 returns : tie.Need-returns Inv-loop μ-loop
 returns c =
     let d = c .before .before .before .before .before in
-    let l = d .before .before .before .before .loop in
+    let l = turn d .before .loop in
     state-fail _ (l .c) (l .b) (l .l) (l .m) (l .e) (l .k) (l .inv) (d .discrepancy .result) (search needs) (d .discrepancy .ensures) (search needs) (search needs) (search needs) _ (zeros-at 13)
 
 mend-requires : tie.Need-mend-requires Inv-loop μ-loop
@@ -75,21 +79,21 @@ loop-less c = search needs
 loop-again : tie.Need-loop-again Inv-loop μ-loop
 loop-again c =
     let d = c .before in
-    let l = d .before .before .before .before .loop in
+    let l = turn d .before .loop in
     ⊎-elim
     (λ w.
     state-move _ _
-    (state-zero _ (l .c) (l .b) (l .l) (l .m) (l .e) (l .k) (l .inv) (d .discrepancy .result) (d .before .before .before .loop-test .taken) (d .discrepancy .ensures) (w .0 .taken))
+    (state-zero _ (l .c) (l .b) (l .l) (l .m) (l .e) (l .k) (l .inv) (d .discrepancy .result) (turn d .loop-test .taken) (d .discrepancy .ensures) (w .0 .taken))
     (w .1) (w .2) (w .3) (w .4) (w .5))
     (⊎-elim
     (λ w.
     state-move _ _
-    (state-grow _ (l .c) (l .b) (l .l) (l .m) (l .e) (l .k) (l .inv) (d .discrepancy .result) (d .before .before .before .loop-test .taken) (d .discrepancy .ensures) (search needs) (search needs)
+    (state-grow _ (l .c) (l .b) (l .l) (l .m) (l .e) (l .k) (l .inv) (d .discrepancy .result) (turn d .loop-test .taken) (d .discrepancy .ensures) (search needs) (search needs)
     (w .1 .result) (w .2 .result) (w .1 .ensures) (w .2 .ensures) _ (w .7 .ensures) (w .3 .taken) (w .4 .left))
     (w .8) (w .9) (w .10) (w .11) (w .12))
     (λ w.
     state-move _ _
-    (state-keep _ (l .c) (l .b) (l .l) (l .m) (l .e) (l .k) (l .inv) (d .discrepancy .result) (d .before .before .before .loop-test .taken) (d .discrepancy .ensures) (search needs) (search needs)
+    (state-keep _ (l .c) (l .b) (l .l) (l .m) (l .e) (l .k) (l .inv) (d .discrepancy .result) (turn d .loop-test .taken) (d .discrepancy .ensures) (search needs) (search needs)
     (w .1 .result) (w .2 .result) (w .1 .ensures) (w .2 .ensures) _ (w .6 .ensures) (w .3 .left))
     (w .7) (w .8) (w .9) (w .10) (w .11)))
     (c .if1 .came)

@@ -1,6 +1,7 @@
 -- `bch_locator::times` meets its contract.
 -- Assumes nothing.
-use Prim.Native.Nat.{_-_}
+use Prim.Native.Nat.{_-_, _*_, _<_}
+use lib.ListN.{getD}
 use Rattle.bch_locator.proofs.Filling.{Filling, At, filling-start, filling-again, zero-lanes, product-fits, products-end}
 use borrow.Author.Needs.{needs}
 use native.Mathlib.Omega.{arith}
@@ -12,6 +13,13 @@ Inv-loop t p r₀ i₀ r i = Filling (At t p) r i
 
 abbrev μ-loop : tie.MeasureT-loop
 μ-loop t p r₀ i₀ r i = 16 - i
+
+-- the product of two lanes fits
+fits : (c : tie.In-loop Inv-loop μ-loop) → (let l = c .before .loop in let a = c .before .before .args in getD (a .t1) (l .i) 0 * getD (a .t2) (l .i) 0 < 2147483648)
+fits c =
+    let at-loop = c .before in
+    let s = at-loop .before in
+    product-fits _ _ (s .pre .0 .fit (at-loop .loop .i)) (s .pre .1 (at-loop .loop .i))
 
 loop-holds : tie.Need-loop-holds Inv-loop μ-loop
 loop-holds c = filling-start _ _ zero-lanes
@@ -35,17 +43,10 @@ cast-fold-2 : tie.Need-cast-fold-2 Inv-loop μ-loop
 cast-fold-2 c = search needs
 
 mul-fold-3 : tie.Need-mul-fold-3 Inv-loop μ-loop
-mul-fold-3 c =
-    let l = c .before .loop in
-    let a = c .before .before in
-    let h = product-fits _ _ (a .pre .0 .fit (l .i)) (a .pre .1 (l .i)) in
-    record { fits = omega (arith, h) }
+mul-fold-3 c = record { fits = omega (arith, fits c) }
 
 fold-requires : tie.Need-fold-requires Inv-loop μ-loop
-fold-requires c κs =
-    let l = c .before .loop in
-    let a = c .before .before in
-    product-fits _ _ (a .pre .0 .fit (l .i)) (a .pre .1 (l .i))
+fold-requires c κs = fits c
 
 mul-r : tie.Need-mul-r Inv-loop μ-loop
 mul-r c = search needs

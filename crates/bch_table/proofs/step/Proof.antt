@@ -10,6 +10,10 @@ use Rattle.bch_table.proofs.Reg.Laws as T′
 use Rattle.bch_table.proofs.step.Statement.{statement}
 use Rattle.bch_table.proofs.step.Tie as tie
 
+-- ---- the points
+abbrev start : tie.After-word-at → tie.Start
+start c = c .before .before
+
 -- the words of the register that is passed fit
 fit : (c : tie.Start) → (c .args .r .hi < 2 ^ 64) × (c .args .r .mid < 2 ^ 64) × (c .args .r .lo < 2 ^ 64)
 fit c = let o = LL.owed T.the-type T′.the-laws (c .args .r) _ (c .good .1 .0) in (o .0 .1, o .1 .0 .1, o .1 .1 .0 .1)
@@ -21,19 +25,19 @@ word-at-requires : tie.Need-word-at-requires
 word-at-requires c κs = (c .before .pre .0, index (c .before), lit< tt)
 
 word-at-requires-2 : tie.Need-word-at-requires-2
-word-at-requires-2 c κs = (c .before .before .pre .0, index (c .before .before), lit< tt)
+word-at-requires-2 c κs = (start c .pre .0, index (start c), lit< tt)
 
 word-at-requires-3 : tie.Need-word-at-requires-3
 word-at-requires-3 c κs =
-    let s = c .before .before .before in
-    (s .pre .0, index (c .before .before .before), lit< tt)
+    let s = start (c .before) in
+    (s .pre .0, index s, lit< tt)
 
 returns : tie.Need-returns
 returns c =
     let at-word-at = c .before .before in
-    let s = at-word-at .before .before in
-    let a = c .before .before .before .before .args in
-    let f = fit (c .before .before .before .before) in
+    let s = start at-word-at in
+    let a = s .args in
+    let f = fit s in
     stepped (a .r .hi) (a .r .mid) (a .r .lo) (a .b) (at-word-at .word-at .result) (c .before .word-at2 .result) (c .word-at3 .result) (f .0) (f .1) (f .2)
     (at-word-at .word-at .ensures) (c .before .word-at2 .ensures) (c .word-at3 .ensures)
 

@@ -2,12 +2,30 @@
 use Rattle.ldpc_shape.specs.declared.Sizes.{Sizes}
 use Rattle.ldpc.proofs.Exits.{with-number, encode-refused, encode-other, encode-short, encode-ready, encode-done}
 use lib.Seq.{length-take-le}
-use mathlib.Core.Path.{sym, ap, _∙_}
+use mathlib.Core.Path.{_≡_, sym, ap, _∙_}
 use borrow.Author.Needs.{needs}
+use Rattle.ldpc_shape.specs.Shape.{kOf, codeRefusal}
 use Rattle.ldpc.specs.Answers.{writtenNumber}
 use Rattle.ldpc.specs.AnswersLaws.{encode-number}
 use Rattle.ldpc.proofs.encode.Statement.{statement}
 use Rattle.ldpc.proofs.encode.Tie as tie
+
+-- ---- the points
+abbrev start : tie.After-sizes-of → tie.Start
+start c = c .before .before .before .before .before .before .before
+
+abbrev sized : tie.Else2 → tie.After-sizes-of
+sized c = c .before .before
+
+-- the code is accepted, and k and n are its own
+accepted : (c : tie.After-sizes-of) → (let a = start c .args in codeRefusal (a .n) (a .lens .now) (a .addrs .now) ≡ 0)
+accepted c = sym (c .before .before .refusal .ensures) ∙ (c .before .if1 .left)
+
+k-same : (c : tie.After-sizes-of) → c .sizes-of .result .k ≡ kOf (start c .args .lens .now)
+k-same c = ap (λ (z : Sizes). z .k) (c .sizes-of .ensures)
+
+n-same : (c : tie.After-sizes-of) → c .sizes-of .result .n ≡ start c .args .n
+n-same c = ap (λ (z : Sizes). z .n) (c .sizes-of .ensures)
 
 refusal-requires : tie.Need-refusal-requires
 refusal-requires c κs = search needs
@@ -15,57 +33,48 @@ refusal-requires c κs = search needs
 returns : tie.Need-returns
 returns c =
     let at-refusal = c .before in
-    let s = at-refusal .before .before .before .before .before in
+    let a = at-refusal .before .before .before .before .before .args in
     with-number writtenNumber (encode-number _ _ _ _ _)
-    (encode-refused (s .args .n) (s .args .lens .now) (s .args .addrs .now) (s .args .info .now) (s .args .out .now) (at-refusal .refusal .result)
-    (at-refusal .refusal .ensures) (c .if1 .taken))
+    (encode-refused (a .n) (a .lens .now) (a .addrs .now) (a .info .now) (a .out .now) (at-refusal .refusal .result) (at-refusal .refusal .ensures) (c .if1 .taken))
 
 sizes-of-requires : tie.Need-sizes-of-requires
 sizes-of-requires c κs = sym (c .before .refusal .ensures) ∙ (c .if1 .left)
 
 returns-2 : tie.Need-returns-2
 returns-2 c =
-    let at-sizes-of = c .before .before in
-    let at-if1 = at-sizes-of .before in
-    let at-refusal = at-if1 .before in
-    let s = at-refusal .before .before .before .before .before in
+    let at-known = c .before in
+    let at-sizes-of = at-known .before in
+    let a = start at-sizes-of .args in
     with-number writtenNumber (encode-number _ _ _ _ _)
-    (encode-other (s .args .n) (s .args .lens .now) (s .args .addrs .now) (s .args .info .now) (s .args .out .now)
-    (sym (at-refusal .refusal .ensures) ∙ (at-if1 .if1 .left)) _ (ap (λ (z : Sizes). z .k) (at-sizes-of .sizes-of .ensures)) (c .if2 .taken))
+    (encode-other (a .n) (a .lens .now) (a .addrs .now) (a .info .now) (a .out .now) (accepted at-sizes-of) _ (k-same at-sizes-of) (c .if2 .taken))
 
 returns-3 : tie.Need-returns-3
 returns-3 c =
     let at-if2 = c .before in
-    let at-sizes-of = at-if2 .before .before in
-    let at-if1 = at-sizes-of .before in
-    let at-refusal = at-if1 .before in
-    let s = at-refusal .before .before .before .before .before in
+    let at-sizes-of = sized at-if2 in
+    let a = start at-sizes-of .args in
     with-number writtenNumber (encode-number _ _ _ _ _)
-    (encode-short (s .args .n) (s .args .lens .now) (s .args .addrs .now) (s .args .info .now) (s .args .out .now)
-    (sym (at-refusal .refusal .ensures) ∙ (at-if1 .if1 .left)) _ (ap (λ (z : Sizes). z .k) (at-sizes-of .sizes-of .ensures)) (at-if2 .if2 .left)
-    _ (ap (λ (z : Sizes). z .n) (at-sizes-of .sizes-of .ensures)) (c .if3 .taken))
+    (encode-short (a .n) (a .lens .now) (a .addrs .now) (a .info .now) (a .out .now) (accepted at-sizes-of) _ (k-same at-sizes-of) (at-if2 .if2 .left)
+    _ (n-same at-sizes-of) (c .if3 .taken))
 
 slice-relend-prefix-encode-of : tie.Need-slice-relend-prefix-encode-of
 slice-relend-prefix-encode-of c = search needs
 
 slice-aggregate-encode-of : tie.Need-slice-aggregate-encode-of
 slice-aggregate-encode-of c =
-    let s = c .before .before .before .before .before .before .before .before .before .before .before in
-    sym (length-take-le _ (s .args .out .now) (c .before .if3 .left))
+    let at-if3 = c .before in
+    sym (length-take-le _ (start (sized (at-if3 .before)) .args .out .now) (at-if3 .if3 .left))
 
 encode-of-requires : tie.Need-encode-of-requires
 encode-of-requires c κs =
     let at-if3 = c .before in
     let at-if2 = at-if3 .before in
-    let at-sizes-of = at-if2 .before .before in
-    let at-if1 = at-sizes-of .before in
-    let at-refusal = at-if1 .before in
-    let s = at-refusal .before .before .before .before .before in
-    let ok = sym (at-refusal .refusal .ensures) ∙ (at-if1 .if1 .left) in
+    let at-sizes-of = sized at-if2 in
+    let a = start at-sizes-of .args in
     let r =
-    encode-ready (s .args .n) (s .args .lens .now) (s .args .addrs .now) (s .args .info .now) (s .args .out .now) ok
-    _ (ap (λ (z : Sizes). z .k) (at-sizes-of .sizes-of .ensures)) (at-if2 .if2 .left) _ (ap (λ (z : Sizes). z .n) (at-sizes-of .sizes-of .ensures)) (at-if3 .if3 .left) in
-    (ok, r .0, r .1)
+    encode-ready (a .n) (a .lens .now) (a .addrs .now) (a .info .now) (a .out .now) (accepted at-sizes-of) _ (k-same at-sizes-of) (at-if2 .if2 .left)
+    _ (n-same at-sizes-of) (at-if3 .if3 .left) in
+    (accepted at-sizes-of, r .0, r .1)
 
 same-length : tie.Need-same-length
 same-length c = search needs
@@ -75,14 +84,11 @@ returns-4 c =
     let at-encode-of = c .before .before in
     let at-if3 = at-encode-of .before .before in
     let at-if2 = at-if3 .before in
-    let at-sizes-of = at-if2 .before .before in
-    let at-if1 = at-sizes-of .before in
-    let at-refusal = at-if1 .before in
-    let s = at-refusal .before .before .before .before .before in
+    let at-sizes-of = sized at-if2 in
+    let a = start at-sizes-of .args in
     with-number writtenNumber (encode-number _ _ _ _ _)
-    (encode-done (s .args .n) (s .args .lens .now) (s .args .addrs .now) (s .args .info .now) (s .args .out .now)
-    (sym (at-refusal .refusal .ensures) ∙ (at-if1 .if1 .left)) _ (ap (λ (z : Sizes). z .k) (at-sizes-of .sizes-of .ensures)) (at-if2 .if2 .left)
-    _ (ap (λ (z : Sizes). z .n) (at-sizes-of .sizes-of .ensures)) (at-if3 .if3 .left) _ (at-encode-of .encode-of .ensures))
+    (encode-done (a .n) (a .lens .now) (a .addrs .now) (a .info .now) (a .out .now) (accepted at-sizes-of) _ (k-same at-sizes-of) (at-if2 .if2 .left)
+    _ (n-same at-sizes-of) (at-if3 .if3 .left) _ (at-encode-of .encode-of .ensures))
 
 pub encode-spec : {M : Type 1} → statement M
 encode-spec =

@@ -70,7 +70,8 @@ same-length c = search needs
 returns : tie.Need-returns
 unfolding allOf
 returns c =
-    let at-put-stairs = c .before .before in
+    let at-out = c .before in
+    let at-put-stairs = at-out .before in
     let at-check-rows = checked (at-put-stairs .before) in
     let at-sizes-of = sized at-check-rows in
     let s = start at-sizes-of in

@@ -4,7 +4,7 @@ use Rattle.ldpc_check.proofs.Loops.{allOf, restOf, rest-start, rest-end
 use Rattle.ldpc_edges.specs.Code.{only, ofBits}
 use Rattle.ldpc_shape.specs.Shape.{total}
 use lib.ListN.{length, take, drop}
-use Prim.Native.Nat.{ℕ, _+_, _*_, _≤_, _-_}
+use Prim.Native.Nat.{ℕ, _+_, _*_, _≤_, _<_, _-_}
 use mathlib.Core.List.{List, _++_}
 use mathlib.Core.Path.{_≡_, refl, ap, _∙_}
 use borrow.Author.Needs.{needs}
@@ -33,13 +33,16 @@ lent c = c .before .before .before
 abbrev checked : tie.After-slice-known2 Inv-loop μ-loop → tie.After-check-row Inv-loop μ-loop
 checked c = c .before .before
 
--- the row's addresses end within the list
+-- the row is one of the list's, and its addresses end within the list
+inside : (c : tie.After-wide Inv-loop μ-loop) → looped c .loop .g < length (start (looped c) .args .lens .now)
+inside c = c .before .before .loop-test .taken
+
 ends : (c : tie.After-wide Inv-loop μ-loop) → (let a = start (looped c) .args in let l = looped c .loop in
     (l .from + c .wide .result ≤ length (a .addrs .now)) × (l .from + c .wide .result + total (drop (l .g + 1) (a .lens .now)) ≡ length (a .addrs .now)))
 ends c =
     let a = start (looped c) .args in
     let l = looped c .loop in
-    rows-end-fits (a .lens .now) (a .addrs .now) (l .g) (l .from) (c .before .before .loop-test .taken) (c .wide .result) (c .wide .ensures) (l .inv .2)
+    rows-end-fits (a .lens .now) (a .addrs .now) (l .g) (l .from) (inside c) (c .wide .result) (c .wide .ensures) (l .inv .2)
 
 -- what is left: the row's bits, and those of the rows behind it
 abbrev bits : tie.After-wide Inv-loop μ-loop → List ℕ
@@ -63,7 +66,7 @@ row-next c =
     let l = looped c .loop in
     l .inv .5
     ∙ ap (λ (z : List ℕ). take (l .n) (l .out) ++ z)
-    (rest-next (a .q) (a .c) (a .lens .now) (a .addrs .now) (l .g) (l .from) (c .before .before .loop-test .taken) (c .wide .result) (l .first) (c .wide .ensures) (l .inv .1))
+    (rest-next (a .q) (a .c) (a .lens .now) (a .addrs .now) (l .g) (l .from) (inside c) (c .wide .result) (l .first) (c .wide .ensures) (l .inv .1))
 
 -- the row's bits laid behind those of the rows before
 row-on : (c : tie.After-check-row Inv-loop μ-loop) → (let s = start (looped (lent c)) in let l = looped (lent c) .loop in let n = l .n + c .check-row .result in

@@ -18,6 +18,10 @@ Inv-loop x₀ w row q l i₀ x i = (i ≤ length row) × (length x ≡ 374) × L
 abbrev μ-loop : tie.MeasureT-loop
 μ-loop x₀ w row q l i₀ x i = length row - i
 
+-- ---- the points
+abbrev start : tie.At-loop Inv-loop μ-loop → tie.Start Inv-loop μ-loop
+start c = c .before .before .before .before
+
 loop-holds : tie.Need-loop-holds Inv-loop μ-loop
 loop-holds c =
     let s = c .before .before .before in
@@ -38,7 +42,7 @@ turn-requires c κs = search needs
 add-turned-requires : tie.Need-add-turned-requires Inv-loop μ-loop
 add-turned-requires c κs =
     let at-loop = c .before .before .before .before .before .before in
-    let s = at-loop .before .before .before .before in
+    let s = start at-loop in
     ((at-loop .loop .inv .1), (s .pre .1), (c .turn .ensures .1))
 
 add-i : tie.Need-add-i Inv-loop μ-loop
@@ -49,8 +53,9 @@ loop-less c = search needs
 
 loop-again : tie.Need-loop-again Inv-loop μ-loop
 loop-again c =
-    let s = c .before .before .before .before .before .before .before .before in
-    let l = c .before .before .before .before .loop in
+    let at-loop = c .before .before .before .before in
+    let s = start at-loop in
+    let l = at-loop .loop in
     ⊎-elim
     (λ w. (
       omega arith,
@@ -67,12 +72,12 @@ loop-again c =
 
 same-length : tie.Need-same-length Inv-loop μ-loop
 same-length c =
-    let s = c .before .before .before .before .before in
+    let s = start (c .before) in
     (c .before .loop .inv .1) ∙ sym (s .pre .0)
 
 returns : tie.Need-returns Inv-loop μ-loop
 returns c =
-    let s = c .before .before .before .before .before in
+    let s = start (c .before) in
     let l = c .before .loop in
     row-end (s .args .q) (s .args .l) (s .args .w .now) (s .args .row .now) (l .i) (l .x) (s .args .x .now) (l .inv .1) (search needs) (l .inv .2)
 

@@ -21,6 +21,24 @@ Inv-loop x₀ w lens addrs q l g₀ from₀ first₀ x g from first =
 abbrev μ-loop : tie.MeasureT-loop
 μ-loop x₀ w lens addrs q l g₀ from₀ first₀ x g from first = length lens - g
 
+-- ---- the points
+abbrev start : tie.At-loop Inv-loop μ-loop → tie.Start Inv-loop μ-loop
+start c = c .before .before .before .before .before
+
+abbrev turn : tie.After-wide Inv-loop μ-loop → tie.In-loop Inv-loop μ-loop
+turn c = c .before .before
+
+-- the row's bits and its addresses end within the lists
+last : (c : tie.In-loop Inv-loop μ-loop) → c .before .loop .first + 374 ≤ length (start (c .before) .args .w .now)
+last c = omega (arith, start (c .before) .pre .1, c .before .loop .inv .1, c .loop-test .taken)
+
+ends : (c : tie.After-wide Inv-loop μ-loop) → (let a = start (turn c .before) .args in let l = turn c .before .loop in
+    (l .from + c .wide .result ≤ length (a .addrs .now)) × (l .from + c .wide .result + total (drop (l .g + 1) (a .lens .now)) ≡ length (a .addrs .now)))
+ends c =
+    let a = start (turn c .before) .args in
+    let l = turn c .before .loop in
+    rows-end-fits (a .lens .now) (a .addrs .now) (l .g) (l .from) (turn c .loop-test .taken) (c .wide .result) (c .wide .ensures) (l .inv .2)
+
 loop-holds : tie.Need-loop-holds Inv-loop μ-loop
 loop-holds c =
     let s = c .before .before .before .before in
@@ -36,15 +54,10 @@ wide-requires : tie.Need-wide-requires Inv-loop μ-loop
 wide-requires c κs = search needs
 
 add-end : tie.Need-add-end Inv-loop μ-loop
-add-end c =
-    let s = c .before .before .before .before .before .before .before .before in
-    let l = c .before .before .before .loop in
-    omega (arith, rows-end-fits (s .args .lens .now) (s .args .addrs .now) (l .g) (l .from) (search needs) (c .wide .result) (c .wide .ensures) (l .inv .2))
+add-end c = omega (arith, ends c .0)
 
 add-last : tie.Need-add-last Inv-loop μ-loop
-add-last c =
-    let s = c .before .before .before .before .before .before .before .before in
-    omega (arith, (s .pre .1), (c .before .before .before .loop .inv .1))
+add-last c = omega (arith, last (turn c))
 
 sub-add-row : tie.Need-sub-add-row Inv-loop μ-loop
 sub-add-row c = search needs
@@ -53,10 +66,7 @@ part-add-row-start : tie.Need-part-add-row-start Inv-loop μ-loop
 part-add-row-start c = search needs
 
 part-add-row-end : tie.Need-part-add-row-end Inv-loop μ-loop
-part-add-row-end c =
-    let at-loop = c .before .before .before .before in
-    let s = at-loop .before .before .before .before .before in
-    omega (arith, (s .pre .1), (at-loop .loop .inv .1))
+part-add-row-end c = last (turn (c .before))
 
 mul-add-row : tie.Need-mul-add-row Inv-loop μ-loop
 mul-add-row c = search needs
@@ -68,18 +78,15 @@ part-add-row-start-2 : tie.Need-part-add-row-start-2 Inv-loop μ-loop
 part-add-row-start-2 c = search needs
 
 part-add-row-end-2 : tie.Need-part-add-row-end-2 Inv-loop μ-loop
-part-add-row-end-2 c =
-    let wide = c .before .before .wide in
-    let s = c .before .before .before .before .before .before .before .before .before .before in
-    let l = c .before .before .before .before .before .loop in
-    omega (arith, rows-end-fits (s .args .lens .now) (s .args .addrs .now) (l .g) (l .from) (search needs) (wide .result) (wide .ensures) (l .inv .2))
+part-add-row-end-2 c = ends (c .before .before) .0
 
 add-row-requires : tie.Need-add-row-requires Inv-loop μ-loop
 add-row-requires c κs =
-    let s = c .before .before .before .before .before .before .before .before .before .before .before in
-    let l = c .before .before .before .before .before .before .loop in (
+    let at-loop-test = turn (c .before .before .before) in
+    let s = start (at-loop-test .before) in
+    let l = at-loop-test .before .loop in (
       (l .inv .3),
-      omega (arith, length-take ((l .first) + 374 - (l .first)) (drop (l .first) (s .args .w .now)), length-drop (l .first) (s .args .w .now), (s .pre .1), (l .inv .1)),
+      omega (arith, length-take ((l .first) + 374 - (l .first)) (drop (l .first) (s .args .w .now)), length-drop (l .first) (s .args .w .now), last at-loop-test),
       omega (arith, (s .pre .3)),
     )
 
@@ -91,14 +98,14 @@ loop-less c = search needs
 
 loop-again : tie.Need-loop-again Inv-loop μ-loop
 loop-again c =
-    let at-add-row = c .before .before in
+    let at-x = c .before in
+    let at-add-row = at-x .before in
     let at-wide = at-add-row .before .before .before .before in
-    let s = c .before .before .before .before .before .before .before .before .before .before .before .before .before .before in
-    let l = c .before .before .before .before .before .before .before .before .before .loop in
-    let f = rows-end-fits (s .args .lens .now) (s .args .addrs .now) (l .g) (l .from) (search needs) (at-wide .wide .result) (at-wide .wide .ensures) (l .inv .2) in (
+    let s = start (turn at-wide .before) in
+    let l = turn at-wide .before .loop in (
       omega arith,
       omega arith,
-      f .1,
+      ends at-wide .1,
       (at-add-row .add-row .ensures .long),
       info-add (s .args .q) (s .args .l) (s .args .w .now) (s .args .lens .now) (s .args .addrs .now) (l .g) (l .from) (search needs) (s .pre .3) (l .x) _
           (s .args .x .now) (at-wide .wide .result) (l .first) (infoBit (s .args .q) (s .args .l) (s .args .w .now) (s .args .lens .now) (s .args .addrs .now))
@@ -107,12 +114,12 @@ loop-again c =
 
 same-length : tie.Need-same-length Inv-loop μ-loop
 same-length c =
-    let s = c .before .before .before .before .before .before in
+    let s = start (c .before) in
     (c .before .loop .inv .3) ∙ sym (s .pre .0)
 
 returns : tie.Need-returns Inv-loop μ-loop
 returns c =
-    let s = c .before .before .before .before .before .before in
+    let s = start (c .before) in
     let l = c .before .loop in
     info-end (s .args .q) (s .args .l) (s .args .w .now) (s .args .lens .now) (s .args .addrs .now) (l .x) (s .args .x .now) (l .g) (l .from) (l .inv .3) (search needs) (l .inv .4)
 

@@ -36,8 +36,9 @@ loop-less c = search needs
 
 loop-again : tie.Need-loop-again Inv-loop μ-loop
 loop-again c =
-    let s = c .before .before .before .before in
-    let l = c .before .before .before .loop in
+    let at-loop = c .before .before .before in
+    let s = at-loop .before in
+    let l = at-loop .loop in
     (omega (arith, (l .inv .1)), length-set (l .x) _ _ ∙ (l .inv .1), xors-again (l .x) (s .args .w .now) _ (l .i) (search needs) (omega (arith, (l .inv .1), (s .pre))) (l .inv .2))
 
 same-length : tie.Need-same-length Inv-loop μ-loop

@@ -17,6 +17,10 @@ Inv-loop lists₀ base row checks q first j₀ m₀ lists j m =
 abbrev μ-loop : tie.MeasureT-loop
 μ-loop lists₀ base row checks q first j₀ m₀ lists j m = j
 
+-- ---- the points
+abbrev start : tie.At-loop Inv-loop μ-loop → tie.Start Inv-loop μ-loop
+start c = c .before .before .before
+
 add-m : tie.Need-add-m Inv-loop μ-loop
 add-m c = search needs
 
@@ -31,7 +35,7 @@ sub-m c = search needs
 
 put-met-requires : tie.Need-put-met-requires Inv-loop μ-loop
 put-met-requires c κs =
-    let s = c .before .before .before .before .before in
+    let s = start (c .before .before) in
     let l = c .before .before .loop in (
       (l .inv .2),
       (s .pre .1),
@@ -46,8 +50,9 @@ loop-less c = search needs
 
 loop-again : tie.Need-loop-again Inv-loop μ-loop
 loop-again c =
-    let s = c .before .before .before .before .before .before .before .before in
-    let l = c .before .before .before .before .before .loop in (
+    let at-loop = c .before .before .before .before .before in
+    let s = start at-loop in
+    let l = at-loop .loop in (
       omega arith,
       omega arith,
       omega arith,
@@ -57,7 +62,7 @@ loop-again c =
 
 same-length : tie.Need-same-length Inv-loop μ-loop
 same-length c =
-    let s = c .before .before .before .before in
+    let s = start (c .before) in
     let l = c .before .loop in
     same-parts (s .args .base) _ (l .lists) _ (l .inv .3)
 

@@ -19,6 +19,13 @@ Inv-loop lists₀ base lens addrs checks q k g₀ end₀ m₀ lists g end m =
 abbrev μ-loop : tie.MeasureT-loop
 μ-loop lists₀ base lens addrs checks q k g₀ end₀ m₀ lists g end m = g
 
+-- ---- the points
+abbrev start : tie.At-loop Inv-loop μ-loop → tie.Start Inv-loop μ-loop
+start c = c .before .before .before .before
+
+abbrev looped : tie.After-wide Inv-loop μ-loop → tie.At-loop Inv-loop μ-loop
+looped c = c .before .before .before
+
 loop-holds : tie.Need-loop-holds Inv-loop μ-loop
 loop-holds c =
     let s = c .before .before .before in
@@ -41,8 +48,9 @@ wide-requires c κs = search needs
 
 sub-from : tie.Need-sub-from Inv-loop μ-loop
 sub-from c =
-    let s = c .before .before .before .before .before .before .before in
-    let l = c .before .before .before .loop in
+    let at-loop = looped c in
+    let s = start at-loop in
+    let l = at-loop .loop in
     row-fits (s .args .checks) (s .args .q) (s .args .lens .now) (s .args .addrs .now) (l .g) (l .m) (l .end) (c .wide .result) (parts (s .args .base) (l .lists))
     (parts (s .args .base) (s .args .lists .now)) (search needs) (l .inv .0) (l .inv .1) (l .inv .2) (c .wide .ensures) (l .inv .5)
 
@@ -60,9 +68,10 @@ part-put-row-end c = search needs
 
 put-row-requires : tie.Need-put-row-requires Inv-loop μ-loop
 put-row-requires c κs =
+    let at-loop = looped (c .before .before) in
     let wide = c .before .before .wide in
-    let s = c .before .before .before .before .before .before .before .before .before in
-    let l = c .before .before .before .before .before .loop in (
+    let s = start at-loop in
+    let l = at-loop .loop in (
       (l .inv .4),
       (s .pre .1),
       (s .pre .2),
@@ -76,9 +85,10 @@ loop-less c = search needs
 
 loop-again : tie.Need-loop-again Inv-loop μ-loop
 loop-again c =
-    let wide = c .before .before .before .before .before .wide in
-    let s = c .before .before .before .before .before .before .before .before .before .before .before .before in
-    let l = c .before .before .before .before .before .before .before .before .loop in (
+    let at-wide = c .before .before .before .before .before in
+    let wide = at-wide .wide in
+    let s = start (looped at-wide) in
+    let l = looped at-wide .loop in (
       omega arith,
       omega arith,
       from-before (s .args .checks) (s .args .q) (s .args .lens .now) (s .args .addrs .now) (l .g) (l .m) (l .end) (wide .result) (parts (s .args .base) (l .lists))
@@ -91,7 +101,7 @@ loop-again c =
 
 same-length : tie.Need-same-length Inv-loop μ-loop
 same-length c =
-    let s = c .before .before .before .before .before in
+    let s = start (c .before) in
     let l = c .before .loop in
     same-parts (s .args .base) _ (l .lists) _ (l .inv .5)
 

@@ -17,6 +17,10 @@ Inv-loop lists₀ base k checks n c₀ v₀ lists c v = (c ≤ checks) × (v ≡
 abbrev μ-loop : tie.MeasureT-loop
 μ-loop lists₀ base k checks n c₀ v₀ lists c v = c
 
+-- ---- the points
+abbrev start : tie.At-loop Inv-loop μ-loop → tie.Start Inv-loop μ-loop
+start c = c .before .before
+
 loop-holds : tie.Need-loop-holds Inv-loop μ-loop
 loop-holds c =
     let s = c .before in
@@ -30,7 +34,7 @@ sub-v c = search needs
 
 put-stair-requires : tie.Need-put-stair-requires Inv-loop μ-loop
 put-stair-requires c κs =
-    let s = c .before .before .before .before in
+    let s = start (c .before .before) in
     let l = c .before .before .loop in (
       (l .inv .2),
       omega arith,
@@ -43,8 +47,9 @@ loop-less c = search needs
 
 loop-again : tie.Need-loop-again Inv-loop μ-loop
 loop-again c =
-    let s = c .before .before .before .before .before .before .before in
-    let l = c .before .before .before .before .before .loop in (
+    let at-loop = c .before .before .before .before .before in
+    let s = start at-loop in
+    let l = at-loop .loop in (
       omega arith,
       omega arith,
       omega arith,
@@ -54,7 +59,7 @@ loop-again c =
 
 same-length : tie.Need-same-length Inv-loop μ-loop
 same-length c =
-    let s = c .before .before .before in
+    let s = start (c .before) in
     let l = c .before .loop in
     same-parts (s .args .base) _ (l .lists) _ (l .inv .3)
 

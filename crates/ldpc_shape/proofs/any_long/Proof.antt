@@ -15,6 +15,10 @@ Inv-loop lens i₀ i = (i ≤ length lens) × (anyOver 128 lens ≡ anyOver 128 
 abbrev μ-loop : tie.MeasureT-loop
 μ-loop lens i₀ i = length lens - i
 
+-- ---- the points
+abbrev looped : tie.After-shared-slice-known Inv-loop μ-loop → tie.At-loop Inv-loop μ-loop
+looped c = c .before .before
+
 loop-holds : tie.Need-loop-holds Inv-loop μ-loop
 loop-holds c = (omega arith, refl)
 
@@ -26,8 +30,9 @@ shared-slice-read-if1 c = search needs
 
 returns : tie.Need-returns Inv-loop μ-loop
 returns c =
-    let s = c .before .before .before .before in
-    let l = c .before .before .before .loop in over-hit 128 (s .args .lens .now) (l .i) (search needs) (c .if1 .taken) (l .inv .1)
+    let at-loop = looped (c .before) in
+    let s = at-loop .before in
+    let l = at-loop .loop in over-hit 128 (s .args .lens .now) (l .i) (search needs) (c .if1 .taken) (l .inv .1)
 
 add-i : tie.Need-add-i Inv-loop μ-loop
 add-i c = search needs
@@ -37,8 +42,9 @@ loop-less c = search needs
 
 loop-again : tie.Need-loop-again Inv-loop μ-loop
 loop-again c =
-    let s = c .before .before .before .before in
-    let l = c .before .before .before .loop in (omega arith, over-miss 128 (s .args .lens .now) (l .i) (search needs) (c .if1 .left) (l .inv .1))
+    let at-loop = looped (c .before) in
+    let s = at-loop .before in
+    let l = at-loop .loop in (omega arith, over-miss 128 (s .args .lens .now) (l .i) (search needs) (c .if1 .left) (l .inv .1))
 
 returns-2 : tie.Need-returns-2 Inv-loop μ-loop
 returns-2 c = let l = c .before .loop in over-end 128 (c .before .before .args .lens .now) (l .i) (search needs) (l .inv .0) (l .inv .1)

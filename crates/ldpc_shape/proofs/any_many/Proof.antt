@@ -15,6 +15,13 @@ Inv-loop counts q l₀ l = (l ≤ q) × (anyOver 126 (tops counts q) ≡ anyOver
 abbrev μ-loop : tie.MeasureT-loop
 μ-loop counts q l₀ l = l
 
+-- ---- the points
+abbrev start : tie.At-loop Inv-loop μ-loop → tie.Start Inv-loop μ-loop
+start c = c .before .before
+
+abbrev looped : tie.After-if12 Inv-loop μ-loop → tie.At-loop Inv-loop μ-loop
+looped c = c .before .before
+
 wide-requires : tie.Need-wide-requires Inv-loop μ-loop
 wide-requires c κs = search needs
 
@@ -32,8 +39,9 @@ element-copy-out-if1 c = search needs
 
 returns : tie.Need-returns Inv-loop μ-loop
 returns c =
-    let s = c .before .before .before .before .before in
-    let l = c .before .before .before .loop in
+    let at-loop = looped (c .before) in
+    let s = start at-loop in
+    let l = at-loop .loop in
     tops-hit 126 (s .args .counts .now) (s .args .q) (l .l) (search needs) (c .if1 .taken) (l .inv .1)
 
 loop-less : tie.Need-loop-less Inv-loop μ-loop
@@ -41,13 +49,14 @@ loop-less c = search needs
 
 loop-again : tie.Need-loop-again Inv-loop μ-loop
 loop-again c =
-    let s = c .before .before .before .before .before in
-    let l = c .before .before .before .loop in
+    let at-loop = looped (c .before) in
+    let s = start at-loop in
+    let l = at-loop .loop in
     (omega arith, tops-miss 126 (s .args .counts .now) (s .args .q) (l .l) (search needs) (c .if1 .left) (l .inv .1))
 
 returns-2 : tie.Need-returns-2 Inv-loop μ-loop
 returns-2 c =
-    let s = c .before .before .before in
+    let s = start (c .before) in
     let l = c .before .loop in
     tops-end 126 (s .args .counts .now) (s .args .q) (l .l) (search needs) (l .inv .1)
 

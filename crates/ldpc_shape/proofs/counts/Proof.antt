@@ -15,6 +15,13 @@ Inv-loop addrs q r₀ i₀ r i = (i ≤ length addrs) × (length r ≡ 120) × C
 abbrev μ-loop : tie.MeasureT-loop
 μ-loop addrs q r₀ i₀ r i = length addrs - i
 
+-- ---- the points
+abbrev start : tie.At-loop Inv-loop μ-loop → tie.Start Inv-loop μ-loop
+start c = c .before .before
+
+abbrev looped : tie.After-residue Inv-loop μ-loop → tie.At-loop Inv-loop μ-loop
+looped c = c .before .before .before
+
 loop-holds : tie.Need-loop-holds Inv-loop μ-loop
 loop-holds c =
     let s = c .before in
@@ -37,8 +44,9 @@ array-read-r c = search needs
 
 add-r : tie.Need-add-r Inv-loop μ-loop
 add-r c =
-    let s = c .before .before .before .before .before in
-    let l = c .before .before .before .loop in
+    let at-loop = looped c in
+    let s = start at-loop in
+    let l = at-loop .loop in
     omega (arith, counted-room (s .args .q) (s .args .addrs .now) (l .r) (l .i) (c .residue .result) (c .residue .ensures .1) (l .inv .0) (s .pre .2) (l .inv .2 .below))
 
 mul-r-2 : tie.Need-mul-r-2 Inv-loop μ-loop
@@ -55,8 +63,9 @@ loop-less c = search needs
 
 loop-again : tie.Need-loop-again Inv-loop μ-loop
 loop-again c =
-    let s = c .before .before .before .before .before in
-    let l = c .before .before .before .loop in (
+    let at-loop = looped c in
+    let s = start at-loop in
+    let l = at-loop .loop in (
       omega arith,
       length-set (l .r) _ _ ∙ l .inv .1,
       counted-again (s .args .q) (s .args .addrs .now) (l .r) (l .i) (c .residue .result) (search needs) (c .residue .ensures .0)
@@ -65,7 +74,7 @@ loop-again c =
 
 returns : tie.Need-returns Inv-loop μ-loop
 returns c =
-    let s = c .before .before .before in
+    let s = start (c .before) in
     let l = c .before .loop in counted-end _ (s .args .addrs .now) (l .r) (l .i) (search needs) (l .inv .0) (l .inv .2)
 
 pub counts-spec : {M : Type 1} → statement M

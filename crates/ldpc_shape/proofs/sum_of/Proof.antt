@@ -15,6 +15,13 @@ Inv-loop lens s₀ i₀ s i = (i ≤ length lens) × (s + total (drop i lens) �
 abbrev μ-loop : tie.MeasureT-loop
 μ-loop lens s₀ i₀ s i = length lens - i
 
+-- ---- the points
+abbrev start : tie.At-loop Inv-loop μ-loop → tie.Start Inv-loop μ-loop
+start c = c .before .before
+
+abbrev looped : tie.After-wide Inv-loop μ-loop → tie.At-loop Inv-loop μ-loop
+looped c = c .before .before .before
+
 loop-holds : tie.Need-loop-holds Inv-loop μ-loop
 loop-holds c = (omega arith, omega arith)
 
@@ -29,8 +36,9 @@ wide-requires c κs = search needs
 
 add-s : tie.Need-add-s Inv-loop μ-loop
 add-s c =
-    let s = c .before .before .before .before .before in
-    let l = c .before .before .before .loop in
+    let at-loop = looped c in
+    let s = start at-loop in
+    let l = at-loop .loop in
     omega (arith, c .wide .ensures, sum-room (s .args .lens .now) (l .i) (l .s) (search needs) (s .pre .0) (s .pre .1) (l .inv .1))
 
 add-i : tie.Need-add-i Inv-loop μ-loop
@@ -41,15 +49,16 @@ loop-less c = search needs
 
 loop-again : tie.Need-loop-again Inv-loop μ-loop
 loop-again c =
-    let s = c .before .before .before .before .before in
-    let l = c .before .before .before .loop in (
+    let at-loop = looped c in
+    let s = start at-loop in
+    let l = at-loop .loop in (
       omega arith,
       ap (λ (z : ℕ). l .s + z + total (drop (l .i + 1) (s .args .lens .now))) (c .wide .ensures) ∙ sum-again (s .args .lens .now) (l .i) (l .s) (search needs) (l .inv .1),
     )
 
 returns : tie.Need-returns Inv-loop μ-loop
 returns c =
-    let s = c .before .before .before in
+    let s = start (c .before) in
     let l = c .before .loop in sum-end (s .args .lens .now) (l .i) (l .s) (search needs) (l .inv .0) (l .inv .1)
 
 pub sum-of-spec : {M : Type 1} → statement M

@@ -24,15 +24,15 @@ shl-result c = search needs
 
 add-result : tie.Need-add-result
 add-result c =
-    let s = c .before .before in
-    omega (arith, moved-le (s .args .bits) (c .before .if1 .left) (c .if2 .left), moved-fits (s .args .bits) (c .before .if1 .left) (c .if2 .left))
+    let at-if1 = c .before in
+    let bits = at-if1 .before .args .bits in
+    omega (arith, moved-le bits (at-if1 .if1 .left) (c .if2 .left), moved-fits bits (at-if1 .if1 .left) (c .if2 .left))
 
 returns-3 : tie.Need-returns-3
 returns-3 c =
-    let s = c .before .before in (
-      size-middle (s .args .bits) (c .before .if1 .left) (c .if2 .left),
-      size-below (s .args .bits) (c .before .if1 .left) (c .if2 .left),
-    )
+    let at-if1 = c .before in
+    let bits = at-if1 .before .args .bits in
+    (size-middle bits (at-if1 .if1 .left) (c .if2 .left), size-below bits (at-if1 .if1 .left) (c .if2 .left))
 
 pub magnitude-spec : {M : Type 1} → statement M
 magnitude-spec =

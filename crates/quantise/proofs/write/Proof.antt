@@ -19,6 +19,10 @@ Inv-loop llr scale out₀ i₀ out i = (i ≤ length llr) × (out ≡ upto (soft
 abbrev μ-loop : tie.MeasureT-loop
 μ-loop llr scale out₀ i₀ out i = length llr - i
 
+-- ---- the points
+abbrev start : tie.At-loop Inv-loop μ-loop → tie.Start Inv-loop μ-loop
+start c = c .before .before
+
 loop-holds : tie.Need-loop-holds Inv-loop μ-loop
 loop-holds c = (search needs, refl, refl)
 
@@ -42,9 +46,9 @@ loop-less c = search needs
 
 loop-again : tie.Need-loop-again Inv-loop μ-loop
 loop-again c =
-    let s = c .before .before .before .before .before in
-    let l = c .before .before .before .loop in
-    let a = c .before .before .before .before .before .args in (
+    let at-loop = c .before .before .before in
+    let l = at-loop .loop in
+    let a = start at-loop .args in (
       search needs,
       upto-again (softOf (a .scale)) nan (a .llr .now) (a .out .now) (l .out) (l .i) _ (search needs) (search needs) (l .inv .1) (toZ-ofZ w8 (c .soft .result) (record { sfits = c .soft .ok }) ∙ c .soft .ensures),
       search needs,
@@ -55,9 +59,8 @@ same-length c = search needs
 
 returns : tie.Need-returns Inv-loop μ-loop
 returns c =
-    let s = c .before .before .before in
     let l = c .before .loop in
-    let a = c .before .before .before .args in
+    let a = start (c .before) .args in
     upto-end (softOf (a .scale)) nan (a .llr .now) (a .out .now) (l .out) (l .i) (omega arith) (l .inv .1)
 
 pub write-spec : {M : Type 1} → statement M

@@ -8,13 +8,17 @@ use borrow.Author.Needs.{needs}
 use Rattle.report_lines.proofs.write_first.Statement.{statement}
 use Rattle.report_lines.proofs.write_first.Tie as tie
 
+-- ---- the points
+abbrev start : tie.After-put-ending → tie.Start
+start c = c .before .before .before
+
 put-ending-requires : tie.Need-put-ending-requires
 put-ending-requires c κs = search needs
 
 put-field-requires : tie.Need-put-field-requires
 put-field-requires c κs =
     let at-put-ending = c .before .before .before in
-    let s = at-put-ending .before .before .before in
+    let s = start at-put-ending in
     omega (arith, s .pre, at-put-ending .put-ending .ensures .next, at-put-ending .put-ending .kept .0, ending-length (s .args .stopped))
 
 same-length : tie.Need-same-length
@@ -23,7 +27,7 @@ same-length c = search needs
 returns : tie.Need-returns
 returns c =
     let at-put-ending = c .before .before .before .before .before .before in
-    let s = at-put-ending .before .before .before in
+    let s = start at-put-ending in
     wrote-line (endingText (s .args .stopped)) (at-put-ending .put-ending .ensures) (c .before .before .put-field .ensures)
 
 pub write-first-spec : {M : Type 1} → statement M
