@@ -15,10 +15,10 @@ use Rattle.lane16.proofs.load.Statement.{statement}
 use Rattle.lane16.proofs.load.Tie as tie
 
 abbrev Inv-loop : tie.InvT-loop
-Inv-loop a u lanes at base x₀ i₀ x i = (i ≤ 16) × ((length x ≡ 16) × ((k : ℕ) → k < i → intAt x k ≡ column lanes a (at + k) u))
+Inv-loop work u lanes at base x₀ i₀ x i = (i ≤ 16) × ((length x ≡ 16) × ((k : ℕ) → k < i → intAt x k ≡ column lanes work (at + k) u))
 
 abbrev μ-loop : tie.MeasureT-loop
-μ-loop a u lanes at base x₀ i₀ x i = 16 - i
+μ-loop work u lanes at base x₀ i₀ x i = 16 - i
 
 mul-base : tie.Need-mul-base Inv-loop μ-loop
 mul-base c = search needs
@@ -52,8 +52,8 @@ loop-again c =
       search needs,
       (
         simp length-set (omega arith),
-        grown (pos 0) (λ (k : ℕ) (y : ℤ). y ≡ column (a .lanes) (a .a .now) (a .at + k) (a .u)) (h .loop .x) i _ (omega arith) (h .loop .inv .1 .1)
-            (plain (getD (a .a .now) (a .u * a .lanes + a .at + i) (pos 0)) (sfits-of (c .x .given)) ∙ column-at (a .lanes) (a .a .now) (a .u) (a .at) i),
+        grown (pos 0) (λ (k : ℕ) (y : ℤ). y ≡ column (a .lanes) (a .work .now) (a .at + k) (a .u)) (h .loop .x) i _ (omega arith) (h .loop .inv .1 .1)
+            (plain (getD (a .work .now) (a .u * a .lanes + a .at + i) (pos 0)) (sfits-of (c .x .given)) ∙ column-at (a .lanes) (a .work .now) (a .u) (a .at) i),
       ),
     )
 

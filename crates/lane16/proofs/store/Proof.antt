@@ -12,10 +12,10 @@ use Rattle.lane16.proofs.store.Statement.{statement}
 use Rattle.lane16.proofs.store.Tie as tie
 
 abbrev Inv-loop : tie.InvT-loop
-Inv-loop a₀ u lanes at w x base i₀ a i = (i ≤ w) × Storing base x a₀ a i
+Inv-loop work₀ u lanes at w x base i₀ work i = (i ≤ w) × Storing base x work₀ work i
 
 abbrev μ-loop : tie.MeasureT-loop
-μ-loop a₀ u lanes at w x base i₀ a i = w - i
+μ-loop work₀ u lanes at w x base i₀ work i = w - i
 
 mul-base : tie.Need-mul-base Inv-loop μ-loop
 mul-base c = search needs
@@ -24,16 +24,16 @@ add-base : tie.Need-add-base Inv-loop μ-loop
 add-base c = search needs
 
 loop-holds : tie.Need-loop-holds Inv-loop μ-loop
-loop-holds c = let s = c in (search needs, storing-start (s .args .u * s .args .lanes + s .args .at) (s .args .t5) (s .args .a .now))
+loop-holds c = let s = c in (search needs, storing-start (s .args .u * s .args .lanes + s .args .at) (s .args .t5) (s .args .work .now))
 
-array-copy-out-a : tie.Need-array-copy-out-a Inv-loop μ-loop
-array-copy-out-a c = search needs
+array-copy-out-work : tie.Need-array-copy-out-work Inv-loop μ-loop
+array-copy-out-work c = search needs
 
 add-t15 : tie.Need-add-t15 Inv-loop μ-loop
 add-t15 c = search needs
 
-slice-set-from-a : tie.Need-slice-set-from-a Inv-loop μ-loop
-slice-set-from-a c = search needs
+slice-set-from-work : tie.Need-slice-set-from-work Inv-loop μ-loop
+slice-set-from-work c = search needs
 
 add-i : tie.Need-add-i Inv-loop μ-loop
 add-i c = search needs
@@ -47,7 +47,7 @@ loop-again c =
     let a = h .before .args in
     let i = h .loop .i in (
       search needs,
-      storing-again _ (h .loop .inv .1) (omega arith) (simp length-set) refl (plain (intAt (a .t5) i) (sfits-of (c .a .given))),
+      storing-again _ (h .loop .inv .1) (omega arith) (simp length-set) refl (plain (intAt (a .t5) i) (sfits-of (c .work .given))),
     )
 
 same-length : tie.Need-same-length Inv-loop μ-loop
@@ -67,9 +67,9 @@ store-spec =
     mul-base
     add-base
     loop-holds
-    array-copy-out-a
+    array-copy-out-work
     add-t15
-    slice-set-from-a
+    slice-set-from-work
     add-i
     loop-less
     loop-again

@@ -18,11 +18,11 @@ use Rattle.simd.proofs.check_node.Statement.{statement}
 use Rattle.simd.proofs.check_node.Tie as tie
 
 abbrev Inv-loop : tie.InvT-loop
-Inv-loop rows s d a₀ t₀ u₀ n lanes offset at₀ a t u at =
-    (at ≤ lanes) × ((length a ≡ length a₀) × (((length t ≡ length t₀) × (length u ≡ length u₀)) × Upto (checkColumn (toZ w8 offset) (var rows) s d n) lanes at a₀ a))
+Inv-loop rows s d work₀ t₀ u₀ n lanes offset at₀ work t u at =
+    (at ≤ lanes) × ((length work ≡ length work₀) × (((length t ≡ length t₀) × (length u ≡ length u₀)) × Upto (checkColumn (toZ w8 offset) (var rows) s d n) lanes at work₀ work))
 
 abbrev μ-loop : tie.MeasureT-loop
-μ-loop rows s d a₀ t₀ u₀ n lanes offset at₀ a t u at = lanes - at
+μ-loop rows s d work₀ t₀ u₀ n lanes offset at₀ work t u at = lanes - at
 
 -- the points that several needs reach
 abbrev start : tie.At-loop Inv-loop μ-loop → tie.Start Inv-loop μ-loop
@@ -40,7 +40,7 @@ loop-holds c =
       search needs,
       (
         refl,
-        ((refl, refl), upto-start (checkColumn (toZ w8 (ofZ w8 (a .offset))) (var (a .rows .now)) (a .s) (a .d) (a .n)) (a .lanes) (a .a .now)),
+        ((refl, refl), upto-start (checkColumn (toZ w8 (ofZ w8 (a .offset))) (var (a .rows .now)) (a .s) (a .d) (a .n)) (a .lanes) (a .work .now)),
       ),
     )
 
@@ -88,7 +88,7 @@ returns : tie.Need-returns Inv-loop μ-loop
 returns c =
     let h = c .before in
     let s = start h in
-    subst (λ (o : ℤ). CheckNode (s .args .rows .now) (s .args .s) (s .args .d) (s .args .n) (s .args .lanes) o (s .args .a .now) (h .loop .a)) (plain (s .args .offset) (s .fits .offset))
+    subst (λ (o : ℤ). CheckNode (s .args .rows .now) (s .args .s) (s .args .d) (s .args .n) (s .args .lanes) o (s .args .work .now) (h .loop .work)) (plain (s .args .offset) (s .fits .offset))
     (check-node (s .pre .0) (upto-end (omega (arith, c .loop-test .left)) (h .loop .inv .1 .1 .1)))
 
 pub check-node-spec : {M : Type 1} → statement M

@@ -12,10 +12,10 @@ use Rattle.simd.proofs.scan.Statement.{statement}
 use Rattle.simd.proofs.scan.Tie as tie
 
 abbrev Inv-loop : tie.InvT-loop
-Inv-loop rows s d a t₀ n lanes at st₀ k₀ t st k = (k ≤ d) × ((length t ≡ length t₀) × Scan (var rows) s n lanes at a k t (st .min1) (st .min2) (st .sign))
+Inv-loop rows s d work t₀ n lanes at st₀ k₀ t st k = (k ≤ d) × ((length t ≡ length t₀) × Scan (var rows) s n lanes at work k t (st .min1) (st .min2) (st .sign))
 
 abbrev μ-loop : tie.MeasureT-loop
-μ-loop rows s d a t₀ n lanes at st₀ k₀ t st k = d - k
+μ-loop rows s d work t₀ n lanes at st₀ k₀ t st k = d - k
 
 -- the points that several needs reach
 abbrev start : tie.At-loop Inv-loop μ-loop → tie.Start Inv-loop μ-loop
@@ -34,7 +34,7 @@ loop-holds c =
       search needs,
       (
         refl,
-        scan-start (var (a .rows .now)) (a .s) (a .n) (a .lanes) (a .at) (a .a .now) (a .t .now) _ _ _
+        scan-start (var (a .rows .now)) (a .s) (a .n) (a .lanes) (a .at) (a .work .now) (a .t .now) _ _ _
             (λ k q. getD-replicate 16 k 127 0 q) (λ k q. getD-replicate 16 k 127 0 q) (λ k q. getD-replicate 16 k (pos 0) (pos 0) q),
       ),
     )

@@ -12,13 +12,13 @@ use Rattle.simd.proofs.scan_two.Statement.{statement}
 use Rattle.simd.proofs.scan_two.Tie as tie
 
 abbrev Inv-loop : tie.InvT-loop
-Inv-loop rows s d a t₀ u₀ n lanes at one₀ two₀ k₀ t u one two k =
+Inv-loop rows s d work t₀ u₀ n lanes at one₀ two₀ k₀ t u one two k =
     (k ≤ d) ×
     (((length t ≡ length t₀) × (length u ≡ length u₀)) ×
-    (Scan (var rows) s n lanes at a k t (one .min1) (one .min2) (one .sign) × Scan (var rows) s n lanes (at + 16) a k u (two .min1) (two .min2) (two .sign)))
+    (Scan (var rows) s n lanes at work k t (one .min1) (one .min2) (one .sign) × Scan (var rows) s n lanes (at + 16) work k u (two .min1) (two .min2) (two .sign)))
 
 abbrev μ-loop : tie.MeasureT-loop
-μ-loop rows s d a t₀ u₀ n lanes at one₀ two₀ k₀ t u one two k = d - k
+μ-loop rows s d work t₀ u₀ n lanes at one₀ two₀ k₀ t u one two k = d - k
 
 -- the points that several needs reach
 abbrev start : tie.At-loop Inv-loop μ-loop → tie.Start Inv-loop μ-loop
@@ -48,9 +48,9 @@ loop-holds c =
       (
         (refl, refl),
         (
-          scan-start (var (a .rows .now)) (a .s) (a .n) (a .lanes) (a .at) (a .a .now) (a .t .now) _ _ _
+          scan-start (var (a .rows .now)) (a .s) (a .n) (a .lanes) (a .at) (a .work .now) (a .t .now) _ _ _
               (λ k q. getD-replicate 16 k 127 0 q) (λ k q. getD-replicate 16 k 127 0 q) (λ k q. getD-replicate 16 k (pos 0) (pos 0) q),
-          scan-start (var (a .rows .now)) (a .s) (a .n) (a .lanes) (a .at + 16) (a .a .now) (a .u .now) _ _ _
+          scan-start (var (a .rows .now)) (a .s) (a .n) (a .lanes) (a .at + 16) (a .work .now) (a .u .now) _ _ _
               (λ k q. getD-replicate 16 k 127 0 q) (λ k q. getD-replicate 16 k 127 0 q) (λ k q. getD-replicate 16 k (pos 0) (pos 0) q),
         ),
       ),

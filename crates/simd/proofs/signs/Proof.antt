@@ -11,10 +11,10 @@ use Rattle.simd.proofs.signs.Statement.{statement}
 use Rattle.simd.proofs.signs.Tie as tie
 
 abbrev Inv-loop : tie.InvT-loop
-Inv-loop rows s d a n lanes at g₀ k₀ g k = (k ≤ d) × Signs (var rows) s lanes at a k g
+Inv-loop rows s d work n lanes at g₀ k₀ g k = (k ≤ d) × Signs (var rows) s lanes at work k g
 
 abbrev μ-loop : tie.MeasureT-loop
-μ-loop rows s d a n lanes at g₀ k₀ g k = d - k
+μ-loop rows s d work n lanes at g₀ k₀ g k = d - k
 
 -- the loop's head, which several needs reach
 abbrev looped : tie.After-variable Inv-loop μ-loop → tie.At-loop Inv-loop μ-loop
@@ -23,7 +23,7 @@ looped c = c .before .before
 loop-holds : tie.Need-loop-holds Inv-loop μ-loop
 loop-holds c =
     let a = c .before .args in
-    (search needs, signs-start (var (a .rows .now)) (a .s) (a .lanes) (a .at) (a .a .now) _ (λ k q. getD-replicate 16 k (pos 0) (pos 0) q))
+    (search needs, signs-start (var (a .rows .now)) (a .s) (a .lanes) (a .at) (a .work .now) _ (λ k q. getD-replicate 16 k (pos 0) (pos 0) q))
 
 add-variable : tie.Need-add-variable Inv-loop μ-loop
 add-variable c = search needs

@@ -17,11 +17,11 @@ use Rattle.simd_layered.proofs.check_shared.Statement.{statement}
 use Rattle.simd_layered.proofs.check_shared.Tie as tie
 
 abbrev Inv-loop : tie.InvT-loop
-Inv-loop rows s d a₀ t₀ u₀ n lanes place flags offset at₀ a t u at =
-    (at ≤ lanes) × ((length a ≡ length a₀) × (((length t ≡ length t₀) × (length u ≡ length u₀)) × Upto (runColumn (sharedIn flags) (toZ w8 offset) (var rows) s d n (length rows) place) lanes at a₀ a))
+Inv-loop rows s d work₀ t₀ u₀ n lanes place flags offset at₀ work t u at =
+    (at ≤ lanes) × ((length work ≡ length work₀) × (((length t ≡ length t₀) × (length u ≡ length u₀)) × Upto (runColumn (sharedIn flags) (toZ w8 offset) (var rows) s d n (length rows) place) lanes at work₀ work))
 
 abbrev μ-loop : tie.MeasureT-loop
-μ-loop rows s d a₀ t₀ u₀ n lanes place flags offset at₀ a t u at = lanes - at
+μ-loop rows s d work₀ t₀ u₀ n lanes place flags offset at₀ work t u at = lanes - at
 
 -- the points that several needs reach
 abbrev start : tie.At-loop Inv-loop μ-loop → tie.Start Inv-loop μ-loop
@@ -42,7 +42,7 @@ loop-holds c =
         (
           (refl, refl),
           upto-start (runColumn (sharedIn (a .flags .now)) (toZ w8 (ofZ w8 (a .offset))) (var (a .rows .now)) (a .s) (a .d) (a .n) (length (a .rows .now)) (a .place))
-              (a .lanes) (a .a .now),
+              (a .lanes) (a .work .now),
         ),
       ),
     )
@@ -93,8 +93,8 @@ returns c =
     let s = start h in
     subst
     (λ (o : ℤ).
-    Checked (sharedIn (s .args .flags .now)) (s .args .rows .now) (s .args .s) (s .args .d) (s .args .n) (s .args .lanes) (s .args .place) o (s .args .a .now)
-    (h .loop .a))
+    Checked (sharedIn (s .args .flags .now)) (s .args .rows .now) (s .args .s) (s .args .d) (s .args .n) (s .args .lanes) (s .args .place) o (s .args .work .now)
+    (h .loop .work))
     (plain (s .args .offset) (s .fits .offset)) (checked (s .pre .0 .0) (s .pre .1 .1 .1) (upto-end (omega (arith, c .loop-test .left)) (h .loop .inv .1 .1 .1)))
 
 pub check-shared-spec : {M : Type 1} → statement M

@@ -11,7 +11,7 @@ element-copy-out-if1 c = search needs
 returns : tie.Need-returns
 returns c =
     let a = c .before .before .args in
-    stored-none (sharedIn (a .flags .now) (a .v)) (a .w) (a .lanes) (a .v) (a .at) (a .y) (a .a .now) (c .if1 .taken)
+    stored-none (sharedIn (a .flags .now) (a .v)) (a .w) (a .lanes) (a .v) (a .at) (a .y) (a .work .now) (c .if1 .taken)
 
 store-lanes-requires : tie.Need-store-lanes-requires
 store-lanes-requires c κs = search needs
