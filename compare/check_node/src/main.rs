@@ -1,5 +1,5 @@
 //! Milliseconds of a round of all lanes: the original's and the proved one's, on the same words.
-//! Values, messages and verdicts are compared after every round.
+//! Verdicts are compared after every round, values and messages after every repetition.
 
 include!(concat!(env!("OUT_DIR"), "/original.rs"));
 
@@ -10,6 +10,8 @@ use std::time::Instant;
 const N: usize = 44_880;
 const ROWS: usize = 100;
 const OFFSET: i8 = 1;
+/// How long the table of the rows' edges is, `fixed_conflicts::SPANS`.
+const SPANS: usize = 14_520;
 
 unsafe extern "C" {
     fn bench_check_node(
@@ -37,16 +39,29 @@ unsafe extern "C" {
         lanes: usize,
         offset: i8,
     );
+    fn bench_spans(
+        n: u32,
+        lens: *const u32,
+        lens_len: usize,
+        addrs: *const u16,
+        addrs_len: usize,
+        spans: *mut u8,
+        spans_len: usize,
+    );
     fn bench_layered(
         n: u32,
         lens: *const u32,
         lens_len: usize,
         addrs: *const u16,
         addrs_len: usize,
+        spans: *const u8,
+        spans_len: usize,
         lists: *const u32,
         lists_len: usize,
         work: *mut i8,
         work_len: usize,
+        sums: *mut i32,
+        sums_len: usize,
         lanes: usize,
         offset: i8,
         step: usize,
@@ -90,6 +105,7 @@ struct Table {
     addrs: Vec<u16>,
     code: Code,
     lists: Vec<u32>,
+    spans: Vec<u8>,
 }
 
 impl Table {
@@ -119,11 +135,26 @@ impl Table {
         let code = Code::new(N, &lent);
         let mut lists = row_start(&code).to_vec();
         lists.extend_from_slice(rows(&code));
+        let lens: Vec<u32> = table.iter().map(|row| row.len() as u32).collect();
+        let addrs: Vec<u16> = table.concat();
+        let mut spans = vec![0; SPANS];
+        unsafe {
+            bench_spans(
+                N as u32,
+                lens.as_ptr(),
+                lens.len(),
+                addrs.as_ptr(),
+                addrs.len(),
+                spans.as_mut_ptr(),
+                spans.len(),
+            );
+        }
         Self {
-            lens: table.iter().map(|row| row.len() as u32).collect(),
-            addrs: table.concat(),
+            lens,
+            addrs,
             code,
             lists,
+            spans,
         }
     }
 
@@ -144,12 +175,17 @@ struct Ours<'a> {
     table: &'a Table,
     lanes: usize,
     work: Vec<i8>,
+    sums: Vec<i32>,
 }
 
 impl<'a> Ours<'a> {
     fn new(table: &'a Table, lanes: usize) -> Self {
-        let work = vec![0; (N + 3 * table.edges()) * lanes];
-        Self { table, lanes, work }
+        Self {
+            table,
+            lanes,
+            work: vec![0; (N + 3 * table.edges()) * lanes],
+            sums: vec![0; 374 * lanes],
+        }
     }
 
     fn iterate(&mut self, step: Option<usize>) {
@@ -172,10 +208,14 @@ impl<'a> Ours<'a> {
                     t.lens.len(),
                     t.addrs.as_ptr(),
                     t.addrs.len(),
+                    t.spans.as_ptr(),
+                    t.spans.len(),
                     i.as_ptr(),
                     i.len(),
                     w.as_mut_ptr(),
                     w.len(),
+                    self.sums.as_mut_ptr(),
+                    self.sums.len(),
                     self.lanes,
                     OFFSET,
                     step,
