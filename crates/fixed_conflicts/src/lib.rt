@@ -7,21 +7,22 @@ ghost use Rattle.ldpc_shape.specs.Shape.{codeRefusal, sizesOf};
 ghost use Rattle.fixed_conflicts.specs.Table.{spansLength, Flagged};
 ghost use Rattle.fixed_conflicts.specs.Conflicts.{Spanned};
 ghost use Rattle.fixed_conflicts.specs.Marks.{NextRow};
+use ldpc_shape::MAX_Q;
 use ldpc_shape::Sizes;
 
 // How many numbers the table has: 120 for each of 121 rows.
-pub const SPANS: usize = 14520;
+pub const SPANS: usize = MAX_Q * (MAX_Q + 1);
 
 // Where row g's edges begin in the list of each check of layer l. The parity bits are the row behind the last.
 pub fn span(table: &[u8], g: usize, l: usize) -> usize
     requires { ⌜ (length (now table) ≡ spansLength) × ((g ≤ 120) × (l < 120)) ⌝ }
     ensures { λ r. ⌜ (r ≡ getD (now (table .entry)) (g * 120 + l) 0) × (r ≤ 255) ⌝ }
 {
-    table[g * 120 + l] as usize
+    table[g * MAX_Q + l] as usize
 }
 
 // The next row's edges begin where those of row g end: one for each of its addresses that is l modulo q.
-fn advance(table: &mut [u8], counts: &[u32; 120], g: usize, q: usize)
+fn advance(table: &mut [u8], counts: &[u32; MAX_Q], g: usize, q: usize)
     requires { ⌜ (length (now table) ≡ spansLength) × ((g ≤ 119) × (q ≤ 120)) ⌝ }
     requires { ⌜ ((l : ℕ) → l < q → getD (now table) (g * 120 + l) 0 + getD (now counts) l 0 ≤ 255) ⌝ }
     ensures { λ _. ⌜ NextRow (now (table .entry)) (now (counts .entry)) g q (now (table .exit)) ⌝ }
@@ -30,7 +31,7 @@ fn advance(table: &mut [u8], counts: &[u32; 120], g: usize, q: usize)
     while l < q {
         let from = span(table, g, l) as u32;
         let count = counts[l];
-        table[(g + 1) * 120 + l] = (from + count) as u8;
+        table[(g + 1) * MAX_Q + l] = (from + count) as u8;
         l += 1;
     }
 }
@@ -52,7 +53,7 @@ pub fn spans(of: Sizes, lens: &[u32], addrs: &[u16], table: &mut [u8])
         at = to;
         g += 1;
     }
-    let two: [u32; 120] = [2; 120];
+    let two: [u32; MAX_Q] = [2; MAX_Q];
     advance(table, &two, g, few);
 }
 
@@ -64,7 +65,7 @@ fn either(a: bool, b: bool) -> bool
 
 // The rows of a layer whose variables can have several edges in a run, and whether there are any.
 pub struct Layer {
-    pub rows: [bool; 120],
+    pub rows: [bool; MAX_Q],
     pub any: bool,
 }
 
@@ -73,7 +74,7 @@ pub fn shared(table: &[u8], rows: usize, q: usize, l: usize) -> Layer
     requires { ⌜ (length (now table) ≡ spansLength) × ((rows ≤ 119) × (l < 120)) ⌝ }
     ensures { λ r. ⌜ Flagged (now (table .entry)) rows q l rows (r .rows) (r .any) ⌝ }
 {
-    let mut flags: [bool; 120] = [false; 120];
+    let mut flags: [bool; MAX_Q] = [false; MAX_Q];
     let mut any = q == 1;
     flags[rows] = any;
     let mut g: usize = 0;

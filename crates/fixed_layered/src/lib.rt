@@ -25,13 +25,15 @@ ghost use Rattle.fixed_layered.specs.Rows.{InRow, Grouped, Smalls, EdgeD
 ghost use Rattle.fixed_layered.specs.Layers.{RunMade, RunsMade, LayersMade, InLayer, Sharing};
 ghost use Rattle.fixed_layered.specs.Checks.{PartMade};
 ghost use Rattle.fixed_layered.specs.Layered.{Layered};
+use ldpc_shape::GROUP;
+use ldpc_shape::MAX_Q;
 use ldpc_shape::Sizes;
 
 // How many sums 64 lanes have: 374 each.
-pub const SUMS: usize = 23936;
+pub const SUMS: usize = 64 * GROUP;
 
 // What an iteration goes by: n variables, p checks in q layers, the rows of addresses, the lanes, and how many checks a run has.
-struct Pass {
+struct Layering {
     n: usize,
     p: usize,
     q: usize,
@@ -202,7 +204,7 @@ fn gather_row(
     rows: &[u32],
     work: &[i8],
     row: RowSpan,
-    of: Pass,
+    of: Layering,
     run: CheckRun,
 )
     requires { ⌜ InRun (of .n) (of .p) (of .lanes) (run .first) (of .q) (run .m) (now lists) (now work) × (now rows ≡ rowsIn (of .p) (now lists)) ⌝ }
@@ -277,7 +279,7 @@ fn settle_row(
     lists: &[u32],
     rows: &[u32],
     row: RowSpan,
-    of: Pass,
+    of: Layering,
     run: CheckRun,
 )
     requires { ⌜ InRun (of .n) (of .p) (of .lanes) (run .first) (of .q) (run .m) (now lists) (now work) × (now rows ≡ rowsIn (of .p) (now lists)) ⌝ }
@@ -314,9 +316,9 @@ fn write_row(
     lists: &[u32],
     rows: &[u32],
     table: &[u8],
-    flags: &[bool; 120],
+    flags: &[bool; MAX_Q],
     g: usize,
-    of: Pass,
+    of: Layering,
     run: CheckRun,
 )
     requires { ⌜ InRun (of .n) (of .p) (of .lanes) (run .first) (of .q) (run .m) (now lists) (now work) × (now rows ≡ rowsIn (of .p) (now lists)) ⌝ }
@@ -333,13 +335,13 @@ fn write_row(
     let l = run.l;
     let from = fixed_conflicts::span(table, g, l);
     let upto = fixed_conflicts::span(table, g + 1, l);
-    let base = 374 * g;
+    let base = GROUP * g;
     let row = RowSpan {
         base: base,
         from: from,
         upto: upto,
     };
-    let mut seen: [bool; 374] = [false; 374];
+    let mut seen: [bool; GROUP] = [false; GROUP];
     gather_row(sums, &mut seen, lists, rows, work, row, of, run);
     settle_row(work, sums, lists, rows, row, of, run);
 }
@@ -351,8 +353,8 @@ fn write_rows(
     lists: &[u32],
     rows: &[u32],
     table: &[u8],
-    flags: &[bool; 120],
-    of: Pass,
+    flags: &[bool; MAX_Q],
+    of: Layering,
     run: CheckRun,
 )
     requires { ⌜ InRun (of .n) (of .p) (of .lanes) (run .first) (of .q) (run .m) (now lists) (now work) × (now rows ≡ rowsIn (of .p) (now lists)) ⌝ }
@@ -361,7 +363,7 @@ fn write_rows(
     ensures { λ _. ⌜ Written (of .n) (edgesIn (of .p) (now (lists .entry))) (codeIn (of .p) (now (lists .entry))) (stepped (run .first) (of .q)) (run .m) (of .lanes) (now (flags .entry)) (now (work .entry)) 120 (now (work .exit)) ⌝ }
 {
     let mut g: usize = 0;
-    while g < 120 {
+    while g < MAX_Q {
         write_row(work, sums, lists, rows, table, flags, g, of, run);
         g += 1;
     }
@@ -374,8 +376,8 @@ fn shared_run(
     work: &mut [i8],
     t: &mut [i8],
     u: &mut [i8],
-    flags: &[bool; 120],
-    of: Pass,
+    flags: &[bool; MAX_Q],
+    of: Layering,
     offset: i8,
     run: CheckRun,
 )
@@ -412,8 +414,8 @@ fn run(
     u: &mut [i8],
     sums: &mut [i32],
     table: &[u8],
-    flags: &[bool; 120],
-    of: Pass,
+    flags: &[bool; MAX_Q],
+    of: Layering,
     offset: i8,
     run: CheckRun,
 )
@@ -454,7 +456,7 @@ fn runs(
     u: &mut [i8],
     sums: &mut [i32],
     table: &[u8],
-    of: Pass,
+    of: Layering,
     offset: i8,
     l: usize,
 )
@@ -470,8 +472,8 @@ fn runs(
     let any = sharing.any;
     let mut at: usize = 0;
     let mut j: usize = 0;
-    while at < 374 {
-        let m = least(step, 374 - at);
+    while at < GROUP {
+        let m = least(step, GROUP - at);
         let first = l + at * q;
         let part = CheckRun {
             l: l,
@@ -493,7 +495,7 @@ fn layers(
     u: &mut [i8],
     sums: &mut [i32],
     table: &[u8],
-    of: Pass,
+    of: Layering,
     offset: i8,
 )
     requires { ⌜ ((l : ℕ) → l < of .q → InLayer (of .n) (of .p) (of .lanes) (of .q) (of .step) l (now lists) (now work)) × Sharing (of .n) (of .p) (of .q) (of .rows) (now lists) (now table) ⌝ }
@@ -524,11 +526,11 @@ pub fn layered_iteration(
     requires { ⌜ (374 * lanes ≤ length (now sums)) × ((0 < step) × (step ≤ 4294967295)) ⌝ }
     ensures { λ _. ⌜ Layered (of .n) (of .p) (of .q) lanes offset step (now (lists .entry)) (now (work .entry)) (now (work .exit)) ⌝ }
 {
-    let pass = Pass {
+    let pass = Layering {
         n: of.n,
         p: of.p,
         q: of.q,
-        rows: of.k / 374,
+        rows: of.k / GROUP,
         lanes: lanes,
         step: step,
     };
