@@ -25,7 +25,7 @@ searched c = c .before .before .before
 abbrev flipped : tie.After-slice-known2 → tie.After-flip
 flipped c = c .before .before
 
--- the syndromes are the right, and the places are at most twelve
+-- the syndromes are the word's, and the places are at most twelve
 right : (c : tie.After-syndromes) → (j : ℕ) → j < 24 → poly (c .syndromes .result) j ≡ syndrome (start c .args .word .now) j
 right c j h = let s = start c in c .syndromes .ensures .at j h ∙ of-remainder (s .args .word .now) (valueOf (s .args .r)) j (s .pre .2) h
 
