@@ -87,10 +87,11 @@ same-length-2 c = search needs
 
 returns : tie.Need-returns
 returns c =
-    let at-variable = looked-up (c .before .before) in
+    let at-gather = c .before in
+    let at-variable = looked-up (at-gather .before) in
     let a = start at-variable .args in
     let v = at-variable .variable in
-    let g = c .before .gather in
+    let g = at-gather .gather in
     subst (λ (z : ℕ). EdgeDone (a .n) (length (a .rows .now)) (a .lanes) (a .at) (a .e) (z - a .base) (a .work .now) (a .seen .now) (a .sums .now) (set (a .seen .now) (v .result - a .base) true) (g .last .0)) (v .ensures)
     (record { sums-is = g .ensures .0; small = g .ensures .1; seen-is = refl })
 
