@@ -59,7 +59,7 @@ mul-s : tie.Need-mul-s Inv-loop μ-loop
 mul-s c = search needs
 
 slice-copy-out-s : tie.Need-slice-copy-out-s Inv-loop μ-loop
-slice-copy-out-s c = room (tested c)
+slice-copy-out-s c = omega (arith, room (tested c))
 
 gathered-requires : tie.Need-gathered-requires Inv-loop μ-loop
 gathered-requires c κs =
@@ -75,7 +75,7 @@ mul-t17 : tie.Need-mul-t17 Inv-loop μ-loop
 mul-t17 c = search needs
 
 slice-set-from-sums : tie.Need-slice-set-from-sums Inv-loop μ-loop
-slice-set-from-sums c = room (tested (c .before .before))
+slice-set-from-sums c = omega (arith, room (tested (c .before .before)))
 
 add-i : tie.Need-add-i Inv-loop μ-loop
 add-i c = search needs

@@ -18,9 +18,11 @@ start c = c .before .before .before
 abbrev looked-up : tie.After-gather-arg → tie.After-variable
 looked-up c = c .before .before
 
--- the number of the memory's rows fits
-rows-fit : (c : tie.After-variable) → (let a = start c .args in a .n + 3 * length (a .rows .now) ≤ length (a .work .now))
-rows-fit c = let s = start c in row-fits (s .pre .0 .0) (s .args .n + 3 * length (s .args .rows .now)) (omega arith)
+-- the edge and its place are among the E, and the memory has n + 3E rows
+rooms : (c : tie.After-variable) → (let a = start c .args in let E = length (a .rows .now) in (a .e < E) × ((a .at < E) × (a .n + 3 * E ≤ length (a .work .now))))
+rooms c =
+    let s = start c in
+    (omega (arith, s .pre .0 .0 .edges), (s .pre .0 .1 .0, row-fits (s .pre .0 .0) (s .args .n + 3 * length (s .args .rows .now)) (omega arith)))
 
 -- the variable is one of the row's
 in-row : (c : tie.After-variable) → (let a = start c .args in (a .base ≤ c .variable .result) × (c .variable .result - a .base < 374))
@@ -33,22 +35,22 @@ sub-j : tie.Need-sub-j
 sub-j c = in-row c .0
 
 add-tu : tie.Need-add-tu
-add-tu c = record { fits = omega (arith, rows-fit c, start c .pre .0 .1 .0, start c .good) }
+add-tu c = record { fits = omega (arith, rooms c, start c .good) }
 
 add-tu-2 : tie.Need-add-tu-2
-add-tu-2 c = record { fits = omega (arith, rows-fit c, start c .pre .0 .1 .0, start c .good) }
+add-tu-2 c = record { fits = omega (arith, rooms c, start c .good) }
 
 add-ru : tie.Need-add-ru
-add-ru c = record { fits = omega (arith, rows-fit c, start c .pre .0 .0 .edges, start c .good) }
+add-ru c = record { fits = omega (arith, rooms c, start c .good) }
 
 mul-ou : tie.Need-mul-ou
-mul-ou c = record { fits = omega (arith, rows-fit c, start c .good) }
+mul-ou c = record { fits = omega (arith, rooms c, start c .good) }
 
 add-ou : tie.Need-add-ou
-add-ou c = record { fits = omega (arith, rows-fit c, start c .good) }
+add-ou c = record { fits = omega (arith, rooms c, start c .good) }
 
 add-ou-2 : tie.Need-add-ou-2
-add-ou-2 c = record { fits = omega (arith, rows-fit c, start c .pre .0 .1 .0, start c .good) }
+add-ou-2 c = record { fits = omega (arith, rooms c, start c .good) }
 
 slice-read-was : tie.Need-slice-read-was
 slice-read-was c = omega (arith, in-row (c .before) .1, start (c .before) .pre .1 .0 .1 .0)
