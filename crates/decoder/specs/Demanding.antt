@@ -5,7 +5,7 @@ use Prim.Native.Nat.{ℕ, _≤_, _<_, max}
 use lib.IntN.{ℤ}
 use Rattle.iteration.specs.Check.{Word}
 use Rattle.iteration.specs.Iteration.{Code}
-use Rattle.schedule.specs.Run.{Words, Result}
+use Rattle.schedule.specs.Run.{Result}
 use Rattle.schedule.specs.Alone.{after, ends}
 use Rattle.schedule.specs.Status.{Status, waiting, holding, done, status, spent, sum, largest}
 use Rattle.schedule.specs.WholeRun.{given, longest, Whole-run, As-alone}

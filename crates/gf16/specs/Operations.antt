@@ -1,6 +1,5 @@
 -- The operations of the BCH code's field. It is known by them: that they make a field is a part of `gf16`, and the inverse is told by the law of `Field`.
 use mathlib.Core.Path.{_≡_, refl}
-use Prim.Native.Nat.{ℕ}
 use Rattle.laws.specs.Definitions.{_⊕_}
 use Rattle.algebra.specs.Gf.{El, mul}
 use Rattle.algebra.specs.GfField.{gf-ring, gf-field}

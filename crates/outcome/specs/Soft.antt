@@ -9,7 +9,7 @@ use borrow.Author.Tests.{ltb-false}
 use lib.Dec.{ltb, eqb}
 use lib.IntN.{ℤ, pos}
 use lib.ListN.{length, getD, take, drop, List·getD-eq-default}
-use Rattle.iteration.specs.Iteration.{Code, hard, negatives, unsatisfied}
+use Rattle.iteration.specs.Iteration.{hard, negatives, unsatisfied}
 use Rattle.iteration.specs.Lists.{var, Lists, codeIn}
 use Rattle.laws.specs.Definitions.{negative}
 use Rattle.laws.specs.Choice.{by-cond}

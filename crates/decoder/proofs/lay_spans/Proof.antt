@@ -1,7 +1,6 @@
 -- `decoder::lay_spans` meets its contract: by the schedule.
 -- Assumes nothing.
-use mathlib.Core.Path.{_≡_, sym, _∙_, subst}
-use mathlib.Core.Bool.{true, false}
+use mathlib.Core.Path.{sym, _∙_, subst}
 use borrow.Author.Needs.{needs}
 use lib.Dec.{T}
 use Rattle.decoder.proofs.lay_spans.Statement.{statement}

@@ -1,13 +1,11 @@
 -- `decoder_refuse::too_short` meets its contract: by its tests, in their order.
 -- Assumes nothing.
-use mathlib.Core.Path.{ap, _∙_}
 use Prim.Native.Nat.{_+_, _/_, _≤_}
 use native.Mathlib.Nat.{mul-le-mul-right}
 use native.Mathlib.Omega.{arith}
 use borrow.Author.Tests.{lt-ltb, le-ltb}
-use borrow.Author.Needs.{needs}
 use Rattle.decoder_refuse.specs.Accepted.{short-work, short-lists}
-use Rattle.decoder_refuse.specs.Refusal.{tooShort, outNeed, workNeed}
+use Rattle.decoder_refuse.specs.Refusal.{tooShort, outNeed}
 use Rattle.decoder_refuse.proofs.too_short.Statement.{statement}
 use Rattle.decoder_refuse.proofs.too_short.Tie as tie
 
