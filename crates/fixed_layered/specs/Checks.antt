@@ -86,7 +86,7 @@ module _ {sh : ℕ → Bool} {n p lanes : ℕ} {o : ℤ} {lists : List ℕ} {fir
       (record {
         fulls =
             λ i h. v .fulls i h ∙ ap (λ (j : ℕ). checksFull sh o (codeIn p lists) (stepped first q) j (full n (edgesIn p lists) lanes a i)) f
-            ∙ checks-run o (codeIn p lists) (stepped first q) m (edgesIn p lists) n (order (r .memory .lists) first q m (r .step) (r .inside)) sh once (full n (edgesIn p lists) lanes a i);
+            ∙ checks-run o (codeIn p lists) (stepped first q) m (edgesIn p lists) n (order (r .memory .lists-right) first q m (r .step) (r .inside)) sh once (full n (edgesIn p lists) lanes a i);
         rest = v .rest;
       })
 
@@ -96,7 +96,7 @@ turn-made {n} {p} {lanes} {o} {lists} {first} {q} {m} {a} {a′} r once v =
     record {
       words =
           λ i h. v .words i h
-          ∙ in-turn-run o (codeIn p lists) (stepped first q) m (edgesIn p lists) n (order (r .memory .lists) first q m (r .step) (r .inside)) once (word n (edgesIn p lists) lanes a i);
+          ∙ in-turn-run o (codeIn p lists) (stepped first q) m (edgesIn p lists) n (order (r .memory .lists-right) first q m (r .step) (r .inside)) once (word n (edgesIn p lists) lanes a i);
       rest = λ i h u k. v .rest i h u (omega (arith, k));
     }
 
@@ -147,7 +147,7 @@ pub run-law : {n p lanes : ℕ} {o : ℤ} {lists : List ℕ} {first q m : ℕ} {
 run-law {n} {p} {lanes} {o} {lists} {first} {q} {m} {flags} {a} {b} {a′} r low s k =
     record {
       words =
-          λ i h. made flags o (column lanes b i) (column lanes a′ i) (full n (edgesIn p lists) lanes a i) (order (r .memory .lists) first q m (r .step) (r .inside)) (r .few-bits) low (s .fulls i h)
+          λ i h. made flags o (column lanes b i) (column lanes a′ i) (full n (edgesIn p lists) lanes a i) (order (r .memory .lists-right) first q m (r .step) (r .inside)) (r .few-bits) low (s .fulls i h)
           (behind-zero n (edgesIn p lists) (column lanes a i)) (λ u l e. k .done i u h l e) (λ u l. k .still i u h l);
       rest = λ i h u l. k .still i u h (λ y. go u l (sharedIn flags u) refl) ∙ s .rest i h u l;
     }

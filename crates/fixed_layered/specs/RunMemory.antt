@@ -57,4 +57,4 @@ place-first p lists first q = refl
 pub place-room : {n p lanes first q m : ℕ} {lists : List ℕ} {a : List ℤ} (x pl s d : ℕ) → InRun n p lanes first q m lists a → x < m → s ≡ getD lists (stepped first q x) 0
     → s + d ≡ getD lists (stepped first q x + 1) 0 → pl ≡ placeOf (codeIn p lists) (stepped first q) x → pl + d ≤ edgesIn p lists
 place-room {n} {p} {lanes} {first} {q} {m} {lists} x pl s d r h e f g =
-    omega (arith, place-ends (order (r .memory .lists) first q m (r .step) (r .inside)) x h, degree-in p lists (stepped first q x) s d (r .inside x h) e f)
+    omega (arith, place-ends (order (r .memory .lists-right) first q m (r .step) (r .inside)) x h, degree-in p lists (stepped first q x) s d (r .inside x h) e f)

@@ -52,24 +52,24 @@ module _ {rows : List ℕ} {s d n lanes : ℕ} {a : List ℤ} (r : CheckMemory r
       omega (arith, r .long)
 
 -- ---- The memory: n + 3E rows with stride lanes.
-pub record Memory (n p lanes : ℕ) (index : List ℕ) (a : List ℤ) : Type 0 where
-  pub lists : Lists n p index
-  pub long : (n + 3 * edgesIn p index) * lanes ≤ length a
+pub record Memory (n p lanes : ℕ) (lists : List ℕ) (a : List ℤ) : Type 0 where
+  pub lists-right : Lists n p lists
+  pub long : (n + 3 * edgesIn p lists) * lanes ≤ length a
   pub some-lanes : 0 < lanes
 
-module _ {n p lanes : ℕ} {index : List ℕ} {a : List ℤ} where
-  pub memory-to : {b : List ℤ} → length b ≡ length a → Memory n p lanes index a → Memory n p lanes index b
-  memory-to e m = record { lists = m .lists; long = omega (arith, m .long, e); some-lanes = m .some-lanes }
+module _ {n p lanes : ℕ} {lists : List ℕ} {a : List ℤ} where
+  pub memory-to : {b : List ℤ} → length b ≡ length a → Memory n p lanes lists a → Memory n p lanes lists b
+  memory-to e m = record { lists-right = m .lists-right; long = omega (arith, m .long, e); some-lanes = m .some-lanes }
 
   -- d edges from s, of one check
-  pub check-memory : (c s d : ℕ) → Memory n p lanes index a → c < p → s ≡ getD index c 0 → s + d ≡ getD index (c + 1) 0 → CheckMemory (rowsIn p index) s d n lanes a
+  pub check-memory : (c s d : ℕ) → Memory n p lanes lists a → c < p → s ≡ getD lists c 0 → s + d ≡ getD lists (c + 1) 0 → CheckMemory (rowsIn p lists) s d n lanes a
   check-memory c s d m h e f =
       record {
-        edges = omega (arith, m .lists .within (c + 1) (omega arith));
-        degree = omega (arith, m .lists .short c h);
-        variables = m .lists .variables;
+        edges = omega (arith, m .lists-right .within (c + 1) (omega arith));
+        degree = omega (arith, m .lists-right .short c h);
+        variables = m .lists-right .variables;
         long = m .long;
-        many = m .lists .many;
+        many = m .lists-right .many;
         some-lanes = m .some-lanes;
       }
 

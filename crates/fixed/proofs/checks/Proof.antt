@@ -53,10 +53,10 @@ add-c : tie.Need-add-c Inv-loop μ-loop
 add-c c = record { fits = omega (arith, inside c, entry (c .before) .fits .p .fits) }
 
 start-requires : tie.Need-start-requires Inv-loop μ-loop
-start-requires c κs = omega (arith, inside c, entry (c .before) .pre .0 .0 .lists .long)
+start-requires c κs = omega (arith, inside c, entry (c .before) .pre .0 .0 .lists-right .long)
 
 degree-requires : tie.Need-degree-requires Inv-loop μ-loop
-degree-requires c κs = (entry (c .before .before) .pre .0 .0 .lists, inside (c .before))
+degree-requires c κs = (entry (c .before .before) .pre .0 .0 .lists-right, inside (c .before))
 
 check-node-requires : tie.Need-check-node-requires Inv-loop μ-loop
 check-node-requires c κs =

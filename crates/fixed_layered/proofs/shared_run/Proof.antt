@@ -80,10 +80,10 @@ add-c : tie.Need-add-c Inv-loop μ-loop
 add-c c = record { fits = omega (arith, inside c, entry (c .before) .pre .0 .0 .few-checks) }
 
 start-requires : tie.Need-start-requires Inv-loop μ-loop
-start-requires c κs = omega (arith, inside c, entry (c .before) .pre .0 .0 .memory .lists .long)
+start-requires c κs = omega (arith, inside c, entry (c .before) .pre .0 .0 .memory .lists-right .long)
 
 degree-requires : tie.Need-degree-requires Inv-loop μ-loop
-degree-requires c κs = (entry (c .before .before) .pre .0 .0 .memory .lists, inside (c .before))
+degree-requires c κs = (entry (c .before .before) .pre .0 .0 .memory .lists-right, inside (c .before))
 
 check-shared-requires : tie.Need-check-shared-requires Inv-loop μ-loop
 check-shared-requires c κs =
