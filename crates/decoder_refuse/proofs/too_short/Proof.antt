@@ -1,6 +1,5 @@
 -- `decoder_refuse::too_short` meets its contract: by its tests, in their order.
 -- Assumes nothing.
-use mathlib.Core.Path.{ap, _∙_}
 use Prim.Native.Nat.{_/_}
 use native.Mathlib.Nat.{mul-le-mul-right}
 use native.Mathlib.Omega.{arith}
