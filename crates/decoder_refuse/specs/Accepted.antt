@@ -149,12 +149,12 @@ module _ (of : Sizes) (lanes : ℕ) (lent : Lent) (out : lent .soft / of .n * of
       sym (λ i. le-ltb (lent .out) (lent .soft / of .n * of .n) out i
       || (le-ltb (lent .room) (lent .soft / of .n) room i || (lt-ltb (lent .work) (workNeed of lanes) g i || ltb (lent .lists) (listsNeed of))))
 
-  pub short-lists : need ≤ lent .work → ltb (lent .lists) (of .e + of .p + 1) ≡ tooShort of lanes lent
-  unfolding tooShort outNeed listsNeed
-  short-lists h =
+  pub short-lists : (listed : ℕ) → listed ≡ listsNeed of → need ≤ lent .work → ltb (lent .lists) listed ≡ tooShort of lanes lent
+  unfolding tooShort outNeed
+  short-lists listed e h =
       let g : workNeed of lanes ≤ lent .work = omega arith in
       sym (λ i. le-ltb (lent .out) (lent .soft / of .n * of .n) out i
-      || (le-ltb (lent .room) (lent .soft / of .n) room i || (le-ltb (lent .work) (workNeed of lanes) g i || ltb (lent .lists) (of .e + of .p + 1))))
+      || (le-ltb (lent .room) (lent .soft / of .n) room i || (le-ltb (lent .work) (workNeed of lanes) g i || ltb (lent .lists) (sym e i))))
 
 -- ---- room for 4,096 words is as good as more: a run with more words is refused by 8
 abbrev pub withRoom : ℕ → Lent → Lent

@@ -2,7 +2,7 @@
 ghost use mathlib.Core.Path.{_≡_};
 ghost use Prim.Native.Nat.{_/_, _<_, _≤_};
 ghost use Rattle.ldpc_shape.specs.Accepted.{Bounded};
-ghost use Rattle.decoder_refuse.specs.Refusal.{badLanes, badWords, badStep, badPart, tooShort, workNeed, firstRefusal};
+ghost use Rattle.decoder_refuse.specs.Refusal.{badLanes, badWords, badStep, badPart, tooShort, workNeed, listsNeed, firstRefusal};
 use decoder_plan::Part;
 use decoder_plan::Schedule;
 use decoder_plan::Settings;
@@ -66,6 +66,14 @@ pub fn work_need(of: Sizes, lanes: usize) -> usize
     (of.n + 3 * of.e) * lanes
 }
 
+// E + P + 1.
+pub fn lists_need(of: Sizes) -> usize
+    requires { ⌜ Bounded of ⌝ }
+    ensures { λ r. ⌜ r ≡ listsNeed of ⌝ }
+{
+    of.e + of.p + 1
+}
+
 fn too_short(of: Sizes, lanes: usize, lent: Lent) -> bool
     requires { ⌜ Bounded of × (lanes ≤ 64) × (lent .soft / of .n ≤ 4096) ⌝ }
     ensures { λ r. ⌜ r ≡ tooShort of lanes lent ⌝ }
@@ -80,7 +88,7 @@ fn too_short(of: Sizes, lanes: usize, lent: Lent) -> bool
     if lent.work < work_need(of, lanes) {
         return true;
     }
-    lent.lists < of.e + of.p + 1
+    lent.lists < lists_need(of)
 }
 
 // The first of the refusals 2 to 11 and 13 that applies, 0 for none.

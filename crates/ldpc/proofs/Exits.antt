@@ -93,17 +93,25 @@ module _ (n : ℕ) (lens addrs : List ℕ) where
           let f = or-next (codeRefusal n lens addrs) _ 13 e (short (suc (pOf n lens) + eOf n lens addrs) (length lists) (omega (arith, size-is))) in
           (says-no _ _ made.Refused 13 f thirteen, keeps _ _ lists 13 f thirteen)
 
-      pub new-ready : S .p + 1 + S .e ≤ length lists → length (take (S .p + 1 + S .e) lists) ≡ suc (pOf n lens) + eOf n lens addrs
-      new-ready h = length-take-le (S .p + 1 + S .e) lists h ∙ size-is
+      n-is : S .n ≡ n
+      n-is = ap (λ (z : Sizes). z .n) d
 
-      pub new-done : S .p + 1 + S .e ≤ length lists → (y : List ℕ) → y ≡ edgeLists n lens addrs
+      pub new-ready : S .p + 1 + S .e ≤ length lists
+          → ((codeRefusal (S .n) lens addrs ≡ 0) × (S ≡ sizesOf (S .n) lens addrs)) × (length (take (S .p + 1 + S .e) lists) ≡ suc (S .p) + S .e)
+      new-ready h =
+          let long : S .p + 1 + S .e ≡ suc (S .p) + S .e = omega arith in (
+            (subst (λ (m : ℕ). codeRefusal m lens addrs ≡ 0) (sym n-is) e, subst (λ (m : ℕ). S ≡ sizesOf m lens addrs) (sym n-is) d),
+            length-take-le (S .p + 1 + S .e) lists h ∙ long,
+          )
+
+      pub new-done : S .p + 1 + S .e ≤ length lists → (y : List ℕ) → y ≡ edgeLists (S .n) lens addrs
           → (made.Code (S .k) (S .p) (S .q) (S .e) ≡ newAnswer n lens addrs (length lists))
           × (y ++ drop (S .p + 1 + S .e) lists ≡ newInto n lens addrs lists)
       unfolding newAnswer newRefusal newInto
       new-done h y g =
           let f = or-next (codeRefusal n lens addrs) _ 0 e (room (suc (pOf n lens) + eOf n lens addrs) (length lists) (omega (arith, size-is))) in (
             ap (λ (z : Sizes). made.Code (z .k) (z .p) (z .q) (z .e)) d ∙ says-yes _ _ made.Refused f,
-            puts _ _ lists f y (S .p + 1 + S .e) g (size-is ∙ sym (lists-length n lens addrs (accepted n lens addrs e))),
+            puts _ _ lists f y (S .p + 1 + S .e) (g ∙ ap (λ (m : ℕ). edgeLists m lens addrs) n-is) (size-is ∙ sym (lists-length n lens addrs (accepted n lens addrs e))),
           )
 
   -- ---- check

@@ -39,7 +39,7 @@ pub fn new(n: u32, lens: &[u32], addrs: &[u16], lists: &mut [u32]) -> Made
     if lists.len() < size {
         return Made::Refused(13);
     }
-    ldpc_lists::build(n, lens, addrs, &mut lists[..size]);
+    ldpc_lists::build(sizes, lens, addrs, &mut lists[..size]);
     Made::Code {
         k: sizes.k as u32,
         p: sizes.p as u32,

@@ -129,9 +129,9 @@ module _ (n : ℕ) (lens addrs : List ℕ) (e : codeRefusal n lens addrs ≡ 0) 
   pub bounds : Bounded S
   bounds = sizes-bounded S n lens addrs D e
 
-  pub lent : (length addrs ≤ 15360) × (total lens ≡ length addrs) × (S .n ≡ n) × (S .k ≡ 374 * length lens)
+  pub lent : (length addrs ≤ 15360) × (total lens ≡ length addrs) × (S .k ≡ 374 * length lens)
   unfolding kOf
-  lent = (addrs-le n lens addrs A, A .adds, ap (λ (z : Sizes). z .n) D, ap (λ (z : Sizes). z .k) D)
+  lent = (addrs-le n lens addrs A, A .adds, ap (λ (z : Sizes). z .k) D)
 
   k-same : S .k ≡ kOf lens
   k-same = ap (λ (z : Sizes). z .k) D

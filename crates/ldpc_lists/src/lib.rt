@@ -2,12 +2,13 @@
 // The slice is filled from the lists' ends: each start is first its list's end and goes down by one for each bit.
 use ldpc_shape::GROUP_U32;
 use ldpc_shape::MAX_Q;
+use ldpc_shape::Sizes;
 ghost use mathlib.Core.Path.{_≡_};
 ghost use mathlib.Core.Bool.{cond};
 ghost use Prim.Native.Nat.{suc, _+_, _*_, _%_, _<_, _≤_};
 ghost use lib.Dec.{eqb};
 ghost use lib.ListN.{length, getD};
-ghost use Rattle.ldpc_shape.specs.Shape.{pOf, eOf, rowsOf, total, codeRefusal};
+ghost use Rattle.ldpc_shape.specs.Shape.{sizesOf, rowsOf, total, codeRefusal};
 ghost use Rattle.ldpc_edges.specs.Code.{met, ofBits, ofRows, stairs, edgeLists};
 ghost use Rattle.ldpc_edges.specs.Count.{toBits, toStairs};
 ghost use Rattle.ldpc_lists.specs.Build.{parts, Ready, put, putAll, RoomForEdges};
@@ -153,18 +154,18 @@ fn ends(lists: &mut [u32], counts: &[u32; MAX_Q], q: usize, checks: usize)
 }
 
 // The lists of all checks of an accepted code, in a slice of E + P + 1 numbers.
-pub fn build(n: u32, lens: &[u32], addrs: &[u16], lists: &mut [u32])
-    requires { ⌜ (codeRefusal n (now lens) (now addrs) ≡ 0) × (length (now lists) ≡ suc (pOf n (now lens)) + eOf n (now lens) (now addrs)) ⌝ }
-    ensures { λ _. ⌜ now (lists .exit) ≡ edgeLists n (now (lens .entry)) (now (addrs .entry)) ⌝ }
+pub fn build(of: Sizes, lens: &[u32], addrs: &[u16], lists: &mut [u32])
+    requires { ⌜ (codeRefusal (of .n) (now lens) (now addrs) ≡ 0) × (of ≡ sizesOf (of .n) (now lens) (now addrs)) ⌝ }
+    requires { ⌜ length (now lists) ≡ suc (of .p) + of .e ⌝ }
+    ensures { λ _. ⌜ now (lists .exit) ≡ edgeLists (of .n) (now (lens .entry)) (now (addrs .entry)) ⌝ }
 {
-    let sizes = ldpc_shape::sizes_of(n, lens, addrs);
-    let k = sizes.k as u32;
-    let p = sizes.p as u32;
-    let q = sizes.q as u32;
-    let checks = sizes.p;
-    let base = checks + 1;
+    let n = of.n as u32;
+    let k = of.k as u32;
+    let p = of.p as u32;
+    let q = of.q as u32;
+    let base = of.p + 1;
     let r = ldpc_shape::counts(addrs, q);
-    ends(lists, &r, sizes.q, checks);
-    put_stairs(lists, base, k, checks, n);
+    ends(lists, &r, of.q, of.p);
+    put_stairs(lists, base, k, of.p, n);
     put_rows(lists, base, lens, addrs, p, q, k);
 }

@@ -1,7 +1,7 @@
 -- `decoder_refuse::too_short` meets its contract: by its tests, in their order.
 -- Assumes nothing.
 use mathlib.Core.Path.{ap, _∙_}
-use Prim.Native.Nat.{_+_, _/_, _≤_}
+use Prim.Native.Nat.{_/_}
 use native.Mathlib.Nat.{mul-le-mul-right}
 use native.Mathlib.Omega.{arith}
 use borrow.Author.Tests.{lt-ltb, le-ltb}
@@ -21,8 +21,8 @@ sized c = c .before .before .before
 abbrev tested : tie.Else2 → tie.Else1
 tested c = c .before .before
 
-abbrev asked : tie.After-struct-known7 → tie.Else2
-asked c = c .before .before .before .before
+abbrev asked : tie.Else3 → tie.Else2
+asked c = c .before .before .before
 
 div-words : tie.Need-div-words
 div-words c = let s = start c in omega (arith, s .pre .0 .p-pos, s .pre .0 .p-le)
@@ -50,22 +50,16 @@ returns-3 c =
     let at-if1 = tested at-if2 in
     short-work _ _ _ (at-if1 .if1 .left) (at-if2 .if2 .left) _ (c .before .before .work-need .ensures) (c .if3 .taken)
 
--- the lists' length is small
-lists-small : (c : tie.After-struct-known7) → (let of = start (sized (tested (asked c))) .args .of in of .e + of .p ≤ 6044880)
-lists-small c = let B = start (sized (tested (asked c))) .pre .0 in omega (arith, B .e-le, B .n-le, B .p-le)
-
-add-result : tie.Need-add-result
-add-result c = omega (arith, lists-small c)
-
-add-result-2 : tie.Need-add-result-2
-add-result-2 c = omega (arith, lists-small c)
+lists-need-requires : tie.Need-lists-need-requires
+lists-need-requires c κs = start (sized (tested (asked c))) .pre .0
 
 returns-4 : tie.Need-returns-4
 returns-4 c =
-    let at-if3 = c .before .before in
-    let at-if2 = at-if3 .before .before .before in
+    let at-lists-need = c .before in
+    let at-if3 = at-lists-need .before in
+    let at-if2 = asked at-if3 in
     let at-if1 = tested at-if2 in
-    short-lists _ _ _ (at-if1 .if1 .left) (at-if2 .if2 .left) _ (at-if3 .before .before .work-need .ensures) (at-if3 .if3 .left)
+    short-lists _ _ _ (at-if1 .if1 .left) (at-if2 .if2 .left) _ (at-if3 .before .before .work-need .ensures) _ (at-lists-need .lists-need .ensures) (at-if3 .if3 .left)
 
 pub too-short-spec : {M : Type 1} → statement M
 too-short-spec =
@@ -77,6 +71,5 @@ too-short-spec =
     returns-2
     work-need-requires
     returns-3
-    add-result
-    add-result-2
+    lists-need-requires
     returns-4)

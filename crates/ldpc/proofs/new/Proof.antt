@@ -70,8 +70,7 @@ build-requires : tie.Need-build-requires
 build-requires c κs =
     let at-sizes-of = sized (c .before) in
     let a = start at-sizes-of .args in
-    let ok = accepted at-sizes-of in
-    (ok, new-ready (a .n) (a .lens .now) (a .addrs .now) (a .lists .now) ok (at-sizes-of .sizes-of .result) (at-sizes-of .sizes-of .ensures) (c .before .if2 .left))
+    new-ready (a .n) (a .lens .now) (a .addrs .now) (a .lists .now) (accepted at-sizes-of) (at-sizes-of .sizes-of .result) (at-sizes-of .sizes-of .ensures) (c .before .if2 .left)
 
 cast-t13 : tie.Need-cast-t13
 cast-t13 c = omega (arith, fair-built c)
