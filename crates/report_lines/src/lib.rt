@@ -9,7 +9,7 @@ ghost use Rattle.report_lines.specs.Wrote.{Wrote};
 // What a line says of a word: its state, its iterations, its unsatisfied checks, whether it is lost, the bits that BCH corrected, and the
 // bits that LDPC changed.
 pub struct Result {
-    pub state: u8,
+    pub state: u32,
     pub iterations: u32,
     pub unsatisfied: u32,
     pub lost: bool,
@@ -73,7 +73,7 @@ fn put_ending(out: &mut [u8], at: usize, stopped: bool) -> usize
 }
 
 // A word's state, and a tab.
-fn put_state(out: &mut [u8], at: usize, state: u8) -> usize
+fn put_state(out: &mut [u8], at: usize, state: u32) -> usize
     requires { ⌜ (at + 8 ≤ length (now out)) × (state < 4) ⌝ }
     ensures { λ r. ⌜ Wrote (stateText state ++ 9 ∷ []) at (now (out .entry)) r (now (out .exit)) ⌝ }
 {
