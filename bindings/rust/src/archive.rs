@@ -9,7 +9,7 @@ use crate::declared::*;
 use crate::refusal::Refusal;
 
 /// Numbers that a word's record and the tally have.
-pub(crate) const RECORD: usize = 5;
+pub(crate) const RECORD: usize = 6;
 const TALLY: usize = 5;
 
 /// Ok for 0, else the refusal of the number.
