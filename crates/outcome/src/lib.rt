@@ -10,6 +10,7 @@ ghost use Rattle.iteration.specs.Lists.{var, Lists, codeIn};
 ghost use Rattle.iteration.specs.Count.{unmetAt};
 ghost use Rattle.iteration.specs.CountLaws.{UnmetCounted};
 ghost use Rattle.outcome.specs.Outcome.{begin, bitsOf, metOf, corrected, bchResult, bchOf, stateOf, isFinished, keptOf, lostOf};
+ghost use Rattle.outcome.specs.Changed.{changedBits};
 ghost use Rattle.outcome.specs.Soft.{Edges, values, Lent};
 
 // How many checks a word leaves unsatisfied, and one of them (0 if there is none).
@@ -90,6 +91,21 @@ pub fn soft_bits(n: usize, soft: &[i8], out: &mut [u8])
         out[i] = lane_math::bit(soft[i]);
         i += 1;
     }
+}
+
+// In how many positions a word's bits differ from its hard decisions before any iteration.
+pub fn changed(n: usize, soft: &[i8], bits: &[u8]) -> u32
+    requires { ⌜ (length (now soft) ≡ n) × (length (now bits) ≡ n) × (n ≤ 65535) ⌝ }
+    ensures { λ r. ⌜ r ≡ changedBits n (begin n (now (soft .entry))) (now (bits .entry)) ⌝ }
+{
+    let mut count: u16 = 0;
+    let mut i: usize = 0;
+    while i < n {
+        let differ = (lane_math::bit(soft[i]) ^ bits[i]) % 2;
+        count += differ as u16;
+        i += 1;
+    }
+    count as u32
 }
 
 // The BCH result of a lost word.

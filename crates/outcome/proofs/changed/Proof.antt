@@ -1,0 +1,93 @@
+-- `outcome::changed` meets its contract. The loop's invariant: the positions before i are compared.
+-- Assumes nothing.
+use mathlib.Core.Path.{_≡_, sym, ap, _∙_}
+use Prim.Native.Nat.{ℕ, _+_, _-_, _%_, _≤_, _<_}
+use native.Mathlib.Omega.{arith}
+use borrow.Author.Needs.{sfits-of, needs}
+use lib.IntN.{ℤ}
+use lib.ListN.{getD}
+use Rattle.laws.specs.Signed.{plain}
+use Rattle.laws.specs.Modulo.{xor-parity}
+use Rattle.iteration.specs.Iteration.{hard}
+use Rattle.outcome.specs.Outcome.{begin, bitsOf}
+use Rattle.outcome.specs.Soft.{begin-values}
+use Rattle.outcome.specs.Laws.{bits-length, bits-at}
+use Rattle.outcome.specs.Changed.{changedBits, Comparing, comparing-start, comparing-again, comparing-end}
+use Rattle.outcome.proofs.changed.Statement.{statement}
+use Rattle.outcome.proofs.changed.Tie as tie
+
+abbrev Inv-loop : tie.InvT-loop
+Inv-loop n soft bits count₀ i₀ count i = (i ≤ n) × Comparing (bitsOf n (begin n soft)) bits i count
+
+abbrev μ-loop : tie.MeasureT-loop
+μ-loop n soft bits count₀ i₀ count i = n - i
+
+abbrev start : tie.At-loop Inv-loop μ-loop → tie.Start Inv-loop μ-loop
+start c = c .before .before
+
+loop-holds : tie.Need-loop-holds Inv-loop μ-loop
+loop-holds c = (omega arith, comparing-start _ _)
+
+shared-slice-copy-out-bit : tie.Need-shared-slice-copy-out-bit Inv-loop μ-loop
+shared-slice-copy-out-bit c = search needs
+
+bit-requires : tie.Need-bit-requires Inv-loop μ-loop
+bit-requires c κs = search needs
+
+shared-slice-read-differ : tie.Need-shared-slice-read-differ Inv-loop μ-loop
+shared-slice-read-differ c = search needs
+
+cast-count : tie.Need-cast-count Inv-loop μ-loop
+cast-count c = search needs
+
+add-count : tie.Need-add-count Inv-loop μ-loop
+add-count c = search needs
+
+add-i : tie.Need-add-i Inv-loop μ-loop
+add-i c = search needs
+
+loop-less : tie.Need-loop-less Inv-loop μ-loop
+loop-less c = search needs
+
+loop-again : tie.Need-loop-again Inv-loop μ-loop
+loop-again c =
+    let at-bit = c .before in
+    let h = at-bit .before .before .before in
+    let s = start h in
+    let a = s .args in
+    let i : ℕ = h .loop .i in
+    let q : i < a .n = at-bit .before .before .loop-test .taken in
+    let x = begin (a .n) (a .soft .now) in
+    let value-is : at-bit .bit .result ≡ hard (x .L i) = at-bit .bit .ensures ∙ ap hard (plain _ (sfits-of (at-bit .before .bit-arg .given)) ∙ ap (λ (L : ℕ → ℤ). L i) (sym (begin-values (a .n) (a .soft .now) (s .pre .0)))) in (
+      omega (arith, q),
+      comparing-again _ _ i (h .loop .count) _ (omega (arith, q, bits-length (a .n) x)) (omega (arith, q, s .pre .1))
+          (xor-parity (at-bit .bit .result) _ ∙ ap (λ (b : ℕ). (b + getD (a .bits .now) i 0) % 2) (value-is ∙ sym (bits-at (a .n) x i q))) (h .loop .inv .1),
+    )
+
+cast-result : tie.Need-cast-result Inv-loop μ-loop
+cast-result c = search needs
+
+returns : tie.Need-returns Inv-loop μ-loop
+unfolding changedBits
+returns c =
+    let h = c .before in
+    let a = start h .args in
+    comparing-end _ _ (h .loop .i) (h .loop .count) (omega (arith, c .loop-test .left, bits-length (a .n) (begin (a .n) (a .soft .now)))) (h .loop .inv .1)
+
+pub changed-spec : {M : Type 1} → statement M
+changed-spec =
+    tie.close
+    (tie.spec
+    Inv-loop
+    μ-loop
+    loop-holds
+    shared-slice-copy-out-bit
+    bit-requires
+    shared-slice-read-differ
+    cast-count
+    add-count
+    add-i
+    loop-less
+    loop-again
+    cast-result
+    returns)
