@@ -120,7 +120,7 @@ fn line(
     );
 }
 
-/// All rows of `bench runs`, and words of 5 iterations in one lane.
+/// All rows of `bench runs`, words of 5 iterations in one lane, and words that leave with 0 or 1, where what is done once for a word counts most.
 pub fn bench(name: &str, count: Option<u32>) {
     let mut r = Random(9);
     let (apart, pairs) = (plan(&mut r, false), plan(&mut r, true));
@@ -148,5 +148,10 @@ pub fn bench(name: &str, count: Option<u32>) {
     }
     for (what, step) in schedules.into_iter().filter(|(what, _)| wanted(what, 1)) {
         line(&mut r, &apart, 1, step, 5, false, what);
+    }
+    for limit in [0, 1] {
+        for lanes in [1, 16, 64].into_iter().filter(|l| wanted("few", *l)) {
+            line(&mut r, &apart, lanes, 0, limit, false, "few, sequential");
+        }
     }
 }

@@ -99,11 +99,11 @@ pub fn changed(n: usize, soft: &[i8], bits: &[u8]) -> u32
     ensures { λ r. ⌜ r ≡ changedBits n (begin n (now (soft .entry))) (now (bits .entry)) ⌝ }
 {
     let mut count: u16 = 0;
-    let mut i: usize = 0;
-    while i < n {
-        let differ = (lane_math::bit(soft[i]) ^ bits[i]) % 2;
+    let mut k: usize = 0;
+    while k < n {
+        let differ = (lane_math::bit(soft[k]) ^ bits[k]) % 2;
         count += differ as u16;
-        i += 1;
+        k += 1;
     }
     count as u32
 }

@@ -2,14 +2,14 @@
 -- Assumes nothing.
 use mathlib.Core.Path.{_∙_}
 use borrow.Author.Needs.{needs}
-use Rattle.decoder_correct.specs.Settle.{result-kept, result-over, left-kept, left-over}
+use Rattle.decoder_correct.specs.Settle.{bch-kept, bch-over, bits-kept, bits-over}
 use Rattle.decoder_correct.proofs.finish.Statement.{statement}
 use Rattle.decoder_correct.proofs.finish.Tie as tie
 
 returns : tie.Need-returns
 returns c =
     let a = c .before .before .before .args in
-    (result-kept (a .part) (a .was .state) (a .was .bch) (a .word .now) (c .if1 .taken), left-kept (a .part) (a .was .state) (a .was .bch) (a .word .now) (c .if1 .taken))
+    (bch-kept (a .part) (a .was .state) (a .word .now) (a .was .bch) (c .if1 .taken), bits-kept (a .part) (a .was .state) (a .word .now) (c .if1 .taken))
 
 correct-requires : tie.Need-correct-requires
 correct-requires c κs = search needs
@@ -23,7 +23,7 @@ returns-2 c =
     let at-else = at-correct .before .before in
     let a = at-correct .before .before .before .before .before .args in
     let e = at-correct .correct .ensures in
-    (e .0 ∙ result-over (a .part) (a .was .state) (a .was .bch) (a .word .now) (at-else .if1 .left), e .1 ∙ left-over (a .part) (a .was .state) (a .was .bch) (a .word .now) (at-else .if1 .left))
+    (e .0 ∙ bch-over (a .part) (a .was .state) (a .word .now) (a .was .bch) (at-else .if1 .left), e .1 ∙ bits-over (a .part) (a .was .state) (a .word .now) (at-else .if1 .left))
 
 pub finish-spec : {M : Type 1} → statement M
 finish-spec = tie.close (tie.spec returns correct-requires same-length returns-2)

@@ -1,4 +1,4 @@
--- `outcome::changed` meets its contract. The loop's invariant: the positions before i are compared.
+-- `outcome::changed` meets its contract. The loop's invariant: the positions before k are compared.
 -- Assumes nothing.
 use mathlib.Core.Path.{_≡_, sym, ap, _∙_}
 use Prim.Native.Nat.{ℕ, _+_, _-_, _%_, _≤_, _<_}
@@ -17,10 +17,10 @@ use Rattle.outcome.proofs.changed.Statement.{statement}
 use Rattle.outcome.proofs.changed.Tie as tie
 
 abbrev Inv-loop : tie.InvT-loop
-Inv-loop n soft bits count₀ i₀ count i = (i ≤ n) × Comparing (bitsOf n (begin n soft)) bits i count
+Inv-loop n soft bits count₀ k₀ count k = (k ≤ n) × Comparing (bitsOf n (begin n soft)) bits k count
 
 abbrev μ-loop : tie.MeasureT-loop
-μ-loop n soft bits count₀ i₀ count i = n - i
+μ-loop n soft bits count₀ k₀ count k = n - k
 
 abbrev start : tie.At-loop Inv-loop μ-loop → tie.Start Inv-loop μ-loop
 start c = c .before .before
@@ -43,8 +43,8 @@ cast-count c = search needs
 add-count : tie.Need-add-count Inv-loop μ-loop
 add-count c = search needs
 
-add-i : tie.Need-add-i Inv-loop μ-loop
-add-i c = search needs
+add-k : tie.Need-add-k Inv-loop μ-loop
+add-k c = search needs
 
 loop-less : tie.Need-loop-less Inv-loop μ-loop
 loop-less c = search needs
@@ -55,13 +55,13 @@ loop-again c =
     let h = at-bit .before .before .before in
     let s = start h in
     let a = s .args in
-    let i : ℕ = h .loop .i in
-    let q : i < a .n = at-bit .before .before .loop-test .taken in
+    let k : ℕ = h .loop .k in
+    let q : k < a .n = at-bit .before .before .loop-test .taken in
     let x = begin (a .n) (a .soft .now) in
-    let value-is : at-bit .bit .result ≡ hard (x .L i) = at-bit .bit .ensures ∙ ap hard (plain _ (sfits-of (at-bit .before .bit-arg .given)) ∙ ap (λ (L : ℕ → ℤ). L i) (sym (begin-values (a .n) (a .soft .now) (s .pre .0)))) in (
+    let value-is : at-bit .bit .result ≡ hard (x .L k) = at-bit .bit .ensures ∙ ap hard (plain _ (sfits-of (at-bit .before .bit-arg .given)) ∙ ap (λ (L : ℕ → ℤ). L k) (sym (begin-values (a .n) (a .soft .now) (s .pre .0)))) in (
       omega (arith, q),
-      comparing-again _ _ i (h .loop .count) _ (omega (arith, q, bits-length (a .n) x)) (omega (arith, q, s .pre .1))
-          (xor-parity (at-bit .bit .result) _ ∙ ap (λ (b : ℕ). (b + getD (a .bits .now) i 0) % 2) (value-is ∙ sym (bits-at (a .n) x i q))) (h .loop .inv .1),
+      comparing-again _ _ k (h .loop .count) _ (omega (arith, q, bits-length (a .n) x)) (omega (arith, q, s .pre .1))
+          (xor-parity (at-bit .bit .result) _ ∙ ap (λ (b : ℕ). (b + getD (a .bits .now) k 0) % 2) (value-is ∙ sym (bits-at (a .n) x k q))) (h .loop .inv .1),
     )
 
 cast-result : tie.Need-cast-result Inv-loop μ-loop
@@ -72,7 +72,7 @@ unfolding changedBits
 returns c =
     let h = c .before in
     let a = start h .args in
-    comparing-end _ _ (h .loop .i) (h .loop .count) (omega (arith, c .loop-test .left, bits-length (a .n) (begin (a .n) (a .soft .now)))) (h .loop .inv .1)
+    comparing-end _ _ (h .loop .k) (h .loop .count) (omega (arith, c .loop-test .left, bits-length (a .n) (begin (a .n) (a .soft .now)))) (h .loop .inv .1)
 
 pub changed-spec : {M : Type 1} → statement M
 changed-spec =
@@ -86,7 +86,7 @@ changed-spec =
     shared-slice-read-differ
     cast-count
     add-count
-    add-i
+    add-k
     loop-less
     loop-again
     cast-result
