@@ -21,27 +21,32 @@ pub changed-is : (n : ℕ) (x₀ x : Word) (bits : List ℕ) → bits ≡ bitsOf
 unfolding changedBits changedOf
 changed-is n x₀ x bits e = ap (distance (bitsOf n x₀)) e
 
--- ---- the first i positions are compared, and `count` of them differ
-pub record Comparing (xs ys : List ℕ) (i count : ℕ) : Type 0 where
-  pub rest : count + distance (drop i xs) (drop i ys) ≡ distance xs ys
-  pub few : count ≤ i
+-- ---- the positions from `from` up to i are compared, and `count` of them differ
+pub record Comparing (xs ys : List ℕ) (from i count : ℕ) : Type 0 where
+  pub rest : count + distance (drop i xs) (drop i ys) ≡ distance (drop from xs) (drop from ys)
+  pub few : from + count ≤ i
 
 module _ (xs ys : List ℕ) where
-  pub comparing-start : Comparing xs ys 0 0
-  comparing-start = record { rest = omega arith; few = omega arith }
+  pub comparing-start : (from : ℕ) → Comparing xs ys from from 0
+  comparing-start from = record { rest = omega arith; few = omega arith }
 
   one-on : (i : ℕ) → i < length xs → i < length ys → distance (drop i xs) (drop i ys) ≡ (getD xs i 0 + getD ys i 0) % 2 + distance (drop (suc i) xs) (drop (suc i) ys)
   unfolding distance
   one-on i h g = ap₂ distance (drop-cons xs i 0 h) (drop-cons ys i 0 g)
 
-  pub comparing-again : (i count b : ℕ) → i < length xs → i < length ys → b ≡ (getD xs i 0 + getD ys i 0) % 2 → Comparing xs ys i count → Comparing xs ys (i + 1) (count + b)
-  comparing-again i count b h g e c =
+  pub comparing-again : (from i count b : ℕ) → i < length xs → i < length ys → b ≡ (getD xs i 0 + getD ys i 0) % 2 → Comparing xs ys from i count
+      → Comparing xs ys from (i + 1) (count + b)
+  comparing-again from i count b h g e c =
       record {
         rest = omega (arith, c .rest, one-on i h g, e, ap (λ (k : ℕ). distance (drop k xs) (drop k ys)) (add-one i));
         few = omega (arith, c .few, e);
       }
 
-  pub comparing-end : (i count : ℕ) → length xs ≤ i → Comparing xs ys i count → count ≡ distance xs ys
+  -- and those behind them
+  pub comparing-on : (from i k count more : ℕ) → Comparing xs ys from i count → Comparing xs ys i k more → Comparing xs ys from k (count + more)
+  comparing-on from i k count more c d = record { rest = omega (arith, c .rest, d .rest); few = omega (arith, c .few, d .few) }
+
+  pub comparing-end : (i count : ℕ) → length xs ≤ i → Comparing xs ys 0 i count → count ≡ distance xs ys
   unfolding distance
   comparing-end i count h c = omega (arith, c .rest, ap (λ (l : List ℕ). distance l (drop i ys)) (drop-of-length-le xs {i = i} h))
 

@@ -1,23 +1,16 @@
--- `outcome::changed` meets its contract. The loop's invariant: the positions before k are compared.
+-- `outcome::changed` meets its contract, block by block. The loop's invariant: the positions before k are compared.
 -- Assumes nothing.
-use mathlib.Core.Path.{_≡_, sym, ap, _∙_}
-use Prim.Native.Nat.{ℕ, _+_, _-_, _%_, _≤_, _<_}
+use Prim.Native.Nat.{_-_, _≤_}
 use native.Mathlib.Omega.{arith}
-use borrow.Author.Needs.{sfits-of, needs}
-use lib.IntN.{ℤ}
-use lib.ListN.{getD}
-use Rattle.laws.specs.Signed.{plain}
-use Rattle.laws.specs.Modulo.{xor-parity}
-use Rattle.iteration.specs.Iteration.{hard}
+use borrow.Author.Needs.{needs}
 use Rattle.outcome.specs.Outcome.{begin, bitsOf}
-use Rattle.outcome.specs.Soft.{begin-values}
-use Rattle.outcome.specs.Laws.{bits-length, bits-at}
-use Rattle.outcome.specs.Changed.{changedBits, Comparing, comparing-start, comparing-again, comparing-end}
+use Rattle.outcome.specs.Laws.{bits-length}
+use Rattle.outcome.specs.Changed.{changedBits, Comparing, comparing-start, comparing-on, comparing-end}
 use Rattle.outcome.proofs.changed.Statement.{statement}
 use Rattle.outcome.proofs.changed.Tie as tie
 
 abbrev Inv-loop : tie.InvT-loop
-Inv-loop n soft bits count₀ k₀ count k = (k ≤ n) × Comparing (bitsOf n (begin n soft)) bits k count
+Inv-loop n soft bits count₀ k₀ count k = (k ≤ n) × Comparing (bitsOf n (begin n soft)) bits 0 k count
 
 abbrev μ-loop : tie.MeasureT-loop
 μ-loop n soft bits count₀ k₀ count k = n - k
@@ -25,47 +18,36 @@ abbrev μ-loop : tie.MeasureT-loop
 abbrev start : tie.At-loop Inv-loop μ-loop → tie.Start Inv-loop μ-loop
 start c = c .before .before
 
+abbrev looped : tie.After-block-end Inv-loop μ-loop → tie.At-loop Inv-loop μ-loop
+looped c = c .before .before
+
 loop-holds : tie.Need-loop-holds Inv-loop μ-loop
-loop-holds c = (omega arith, comparing-start _ _)
+loop-holds c = (omega arith, comparing-start _ _ 0)
 
-shared-slice-copy-out-bit : tie.Need-shared-slice-copy-out-bit Inv-loop μ-loop
-shared-slice-copy-out-bit c = search needs
+block-end-requires : tie.Need-block-end-requires Inv-loop μ-loop
+block-end-requires c κs = search needs
 
-bit-requires : tie.Need-bit-requires Inv-loop μ-loop
-bit-requires c κs = search needs
-
-shared-slice-read-differ : tie.Need-shared-slice-read-differ Inv-loop μ-loop
-shared-slice-read-differ c = search needs
+differing-requires : tie.Need-differing-requires Inv-loop μ-loop
+differing-requires c κs =
+    let s = start (looped c) in
+    let e = c .block-end .ensures in
+    (s .pre .0, s .pre .1, omega (arith, e .0), e .1, omega (arith, e .2))
 
 cast-count : tie.Need-cast-count Inv-loop μ-loop
 cast-count c = search needs
 
 add-count : tie.Need-add-count Inv-loop μ-loop
-add-count c = search needs
-
-add-k : tie.Need-add-k Inv-loop μ-loop
-add-k c = search needs
+add-count c =
+    let h = looped (c .before) in
+    omega (arith, h .loop .inv .1 .few, h .loop .inv .0, c .differing .ensures .few, c .before .block-end .ensures .1, start h .pre .2)
 
 loop-less : tie.Need-loop-less Inv-loop μ-loop
-loop-less c = search needs
+loop-less c = let e = c .before .block-end .ensures in omega (arith, e .0, e .1)
 
 loop-again : tie.Need-loop-again Inv-loop μ-loop
 loop-again c =
-    let at-bit = c .before in
-    let h = at-bit .before .before .before in
-    let s = start h in
-    let a = s .args in
-    let k : ℕ = h .loop .k in
-    let q : k < a .n = at-bit .before .before .loop-test .taken in
-    let x = begin (a .n) (a .soft .now) in
-    let value-is : at-bit .bit .result ≡ hard (x .L k) = at-bit .bit .ensures ∙ ap hard (plain _ (sfits-of (at-bit .before .bit-arg .given)) ∙ ap (λ (L : ℕ → ℤ). L k) (sym (begin-values (a .n) (a .soft .now) (s .pre .0)))) in (
-      omega (arith, q),
-      comparing-again _ _ k (h .loop .count) _ (omega (arith, q, bits-length (a .n) x)) (omega (arith, q, s .pre .1))
-          (xor-parity (at-bit .bit .result) _ ∙ ap (λ (b : ℕ). (b + getD (a .bits .now) k 0) % 2) (value-is ∙ sym (bits-at (a .n) x k q))) (h .loop .inv .1),
-    )
-
-cast-result : tie.Need-cast-result Inv-loop μ-loop
-cast-result c = search needs
+    let h = looped (c .before) in
+    (c .before .block-end .ensures .1, comparing-on _ _ 0 (h .loop .k) _ _ _ (h .loop .inv .1) (c .differing .ensures))
 
 returns : tie.Need-returns Inv-loop μ-loop
 unfolding changedBits
@@ -81,13 +63,10 @@ changed-spec =
     Inv-loop
     μ-loop
     loop-holds
-    shared-slice-copy-out-bit
-    bit-requires
-    shared-slice-read-differ
+    block-end-requires
+    differing-requires
     cast-count
     add-count
-    add-k
     loop-less
     loop-again
-    cast-result
     returns)
