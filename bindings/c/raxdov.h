@@ -90,8 +90,8 @@ enum raxdov_record {
     RAXDOV_RECORD_CHECK = 3,       /* one of those checks, whichever; 0 if there is none */
     RAXDOV_RECORD_BCH = 4,         /* bits corrected, or RAXDOV_LOST; 0 of a word that is not finished */
     RAXDOV_RECORD_CHANGED = 5,     /* bits changed by LDPC: the positions, of all n, where the word's hard decisions
-                                      before BCH differ from those of its soft values; a held word's so far, 0 of a
-                                      waiting word */
+                                      before BCH differ from those of its soft values (1 where negative); a held
+                                      word's so far, 0 of a waiting word */
     RAXDOV_RECORD_COUNT = 6
 };
 
@@ -164,7 +164,8 @@ uint32_t raxdov_bch_encode(const uint8_t *message, size_t message_len, uint8_t *
    many bits were changed, or RAXDOV_LOST; a lost word may have bits changed. Refused by 11. */
 uint32_t raxdov_bch_decode(uint8_t *word, size_t word_len, uint32_t *result);
 
-/* RAXDOV_RECORD_COUNT and RAXDOV_TALLY_COUNT of the archive that is linked. */
+/* RAXDOV_RECORD_COUNT and RAXDOV_TALLY_COUNT of the archive that is linked: compare them with this header's, as a later
+   archive may have more numbers. */
 uint32_t raxdov_record_words(void);
 uint32_t raxdov_tally_words(void);
 

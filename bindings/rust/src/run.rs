@@ -1,6 +1,6 @@
 //! A run: words of soft values decoded side by side in lanes, each finished word's BCH part corrected, with a round
-//! limit, a record of every word and a tally. What one word gets does not depend on the others, on the lanes or on the
-//! round limit.
+//! limit, a record of every word and a tally. What a finished word gets does not depend on the other words, on the lanes or
+//! on the round limit; a held word has the bits and the count of changed bits that it has alone after its iterations.
 //!
 //! ```
 //! use raxdov::ldpc::Code;
