@@ -138,7 +138,7 @@ cut_short() {
         [ $? = 0 ] || wrong=$((wrong + 1))
         case $i in
         29) printf 'finished\t0\n' ;;
-        33) printf 'finished\t0\n0\tmet\t0\t0\t0\n' ;;
+        33) printf 'finished\t0\n0\tmet\t0\t0\t0\t0\n' ;;
         "$size") printf "$answer" ;;
         *) printf "$one" ;;
         esac | cmp -s - cut || wrong=$((wrong + 1))

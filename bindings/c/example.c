@@ -58,6 +58,7 @@ static void print_record(const uint32_t *record)
     } else {
         printf("%u", (unsigned)record[RAXDOV_RECORD_BCH]);
     }
+    printf(", changed by LDPC %u", (unsigned)record[RAXDOV_RECORD_CHANGED]);
 }
 
 static void run(uint32_t limit, uint32_t rounds)
@@ -103,7 +104,7 @@ int main(void)
     }
     printf("%u bits sent, %u received wrong\n", (unsigned)N, (unsigned)wrong);
     run(50, UINT32_MAX); /* every check is met */
-    run(3, UINT32_MAX);  /* checks are left, and BCH corrects the rest */
+    run(4, UINT32_MAX);  /* checks are left, and BCH corrects the rest */
     run(0, UINT32_MAX);  /* too many are left */
     run(50, 2);          /* the round limit comes first: the word is held */
     return 0;

@@ -89,7 +89,10 @@ enum raxdov_record {
     RAXDOV_RECORD_UNSATISFIED = 2, /* unsatisfied checks: of a held word's bits, of a finished word's before BCH */
     RAXDOV_RECORD_CHECK = 3,       /* one of those checks, whichever; 0 if there is none */
     RAXDOV_RECORD_BCH = 4,         /* bits corrected, or RAXDOV_LOST; 0 of a word that is not finished */
-    RAXDOV_RECORD_COUNT = 5
+    RAXDOV_RECORD_CHANGED = 5,     /* bits changed by LDPC: the positions, of all n, where the word's hard decisions
+                                      before BCH differ from those of its soft values (1 where negative); a held
+                                      word's so far, 0 of a waiting word */
+    RAXDOV_RECORD_COUNT = 6
 };
 
 enum raxdov_state {
@@ -161,7 +164,8 @@ uint32_t raxdov_bch_encode(const uint8_t *message, size_t message_len, uint8_t *
    many bits were changed, or RAXDOV_LOST; a lost word may have bits changed. Refused by 11. */
 uint32_t raxdov_bch_decode(uint8_t *word, size_t word_len, uint32_t *result);
 
-/* RAXDOV_RECORD_COUNT and RAXDOV_TALLY_COUNT of the archive that is linked. */
+/* RAXDOV_RECORD_COUNT and RAXDOV_TALLY_COUNT of the archive that is linked: compare them with this header's, as a later
+   archive may have more numbers. */
 uint32_t raxdov_record_words(void);
 uint32_t raxdov_tally_words(void);
 
@@ -179,7 +183,7 @@ uint32_t raxdov_run_sizes(uint32_t n, const uint32_t *lens, size_t lens_len, con
    rounds   round limit: no more rounds than this, 0 too; UINT32_MAX never stops a run early
    first, length   the BCH part of every word: bits first to first + length - 1
    out      gets n bits a word: n * words elements
-   records  gets enum raxdov_record for each word, one word after the other: 5 * words elements
+   records  gets enum raxdov_record for each word, one word after the other: 6 * words elements
    tally    gets enum raxdov_tally, counted afresh
    ending   gets enum raxdov_ending
    work, lists   as raxdov_run_sizes says; what they hold does not matter, and they are left zero. work has the lanes'

@@ -11,7 +11,7 @@
 
 static const uint8_t *at, *end;
 static const char *function;
-static uint64_t counts[14][15], executions, states[5], endings[2], corrected;
+static uint64_t counts[14][15], executions, states[5], endings[2], changed_words[4], corrected;
 static const char *const names[14] = {"quantise", "ldpc_sizes", "ldpc_new", "ldpc_check", "ldpc_parity", "ldpc_encode", "ldpc_syndrome_weight", "bch_parity", "bch_encode", "bch_decode", "record_words", "tally_words", "run_sizes", "run"};
 __attribute__((section("__libfuzzer_extra_counters"), used)) static uint8_t features[4096];
 
@@ -428,7 +428,7 @@ static void test_bch_decode(void)
 
 static void test_numbers(void)
 {
-    if (raxdov_record_words() != 5) wrong("record_words");
+    if (raxdov_record_words() != RECORD || RAXDOV_RECORD_COUNT != RECORD) wrong("record_words");
     if (raxdov_tally_words() != 5) wrong("tally_words");
     counts[10][0]++;
     counts[11][0]++;
@@ -539,7 +539,7 @@ static int test_run(void)
     if (size > 1600000) size = 0;
     Settings set = take_settings(c.code, byte() < 248);
     size_t p = n - 374 * c.code.rows, e = 374 * c.code.total + 2 * p - 1;
-    Lent need = {c.refused ? 3 : size, c.refused ? 4 : 5 * (size / n), c.refused ? 5 : (n + 3 * e) * set.lanes, c.refused ? 6 : e + p + 1};
+    Lent need = {c.refused ? 3 : size, c.refused ? 4 : RECORD * (size / n), c.refused ? 5 : (n + 3 * e) * set.lanes, c.refused ? 6 : e + p + 1};
     if (need.work > 4000000) need.work = 100;
     Lent lent = {near(need.out), near(need.records), near(need.work), near(need.lists)};
     uint32_t refused = run_refusal(c.code, size, set, lent);
@@ -564,12 +564,13 @@ static int test_run(void)
         const uint32_t *got = (const uint32_t *)tally.p;
         uint32_t sums[5] = {got[0], 0, 0, 0, 0};
         for (size_t w = 0; w < words; w++) {
-            const uint32_t *r = (const uint32_t *)records.p + 5 * w;
+            const uint32_t *r = (const uint32_t *)records.p + RECORD * w;
             Word *word = &run.word[w];
             if (r[0] != word->state) wrong("another state");
             if (r[1] != word->iterations) wrong("other iterations");
             if (r[2] != word->unsatisfied) wrong("another count of unsatisfied checks");
             if (r[4] != word->bch) wrong("another BCH result");
+            if (r[5] != word->changed) wrong("another count of bits changed by LDPC");
             if (word->unsatisfied ? r[3] >= l.p || !unmet(l, word->before, r[3]) : r[3] != 0) wrong("a named check that is met");
             const uint8_t *bits = out.p + w * n;
             if (memcmp(bits, word->state ? word->bits : out.copy + out.front + w * n, n)) wrong("other bits");
@@ -580,6 +581,10 @@ static int test_run(void)
             states[r[0]]++;
             states[4] += r[4] == LOST;
             features[2048 + r[0] * 256 + (r[4] == LOST ? 15 : r[4]) * 16 + (r[1] < 15 ? r[1] : 15)]++;
+            changed_words[r[0]] += r[5] > 0;
+            unsigned digits = 0; /* binary */
+            while (r[5] >> digits) digits++;
+            features[3072 + r[0] * 32 + digits]++;
         }
         if (memcmp(got, sums, 20)) wrong("a tally that is not the records'");
         if (memcmp(got, run.tally, 20)) wrong("another tally");
@@ -593,7 +598,7 @@ static int test_run(void)
         for (size_t i = 0; i < x; i++)
             if (lists.p[i]) wrong("lists not left zero");
         unchanged_from(out, size, "tail of the output changed");
-        unchanged_from(records, 20 * words, "tail of the records changed");
+        unchanged_from(records, 4 * RECORD * words, "tail of the records changed");
         unchanged_from(work, w, "tail of work changed");
         unchanged_from(lists, x, "tail of lists changed");
         unchanged_from(tally, 20, "");
@@ -619,7 +624,7 @@ static void tell(void)
             if (counts[f][i]) fprintf(stderr, " %d: %lu", i, counts[f][i]);
         fprintf(stderr, "\n");
     }
-    fprintf(stderr, "counts: runs finished %lu, stopped %lu; words: waiting %lu, held %lu, met %lu, unmet %lu, of them lost %lu; BCH words corrected %lu\n", endings[0], endings[1], states[0], states[1], states[2], states[3], states[4], corrected);
+    fprintf(stderr, "counts: runs finished %lu, stopped %lu; words: waiting %lu, held %lu, met %lu, unmet %lu, of them lost %lu; with bits changed by LDPC: held %lu, met %lu, unmet %lu; BCH words corrected %lu\n", endings[0], endings[1], states[0], states[1], states[2], states[3], states[4], changed_words[1], changed_words[2], changed_words[3], corrected);
 }
 
 int LLVMFuzzerInitialize(int *argc, char ***argv)

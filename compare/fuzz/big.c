@@ -77,7 +77,7 @@ int main(int argc, char **argv)
     static uint32_t lists[P + 1 + E];
     for (int i = 0; i < N * WORDS; i++) soft[i] = i % 97 ? 20 : -9;
     CALL(raxdov_run(N, lens, 1, addrs, 3, soft, sizeof soft, LANES, 50, 0, 0, 1, 99, 0, N, b, size, (uint32_t *)c, size / 4, tally, &ending, (int8_t *)d, size, lists, P + 1 + E));
-    told("run, huge output, records and work", got, 0, tally[1] == WORDS && ending == 0 && zeros_from(b, N * WORDS) && zeros_from(c, 20 * WORDS) && zeros_from(d, 0));
+    told("run, huge output, records and work", got, 0, tally[1] == WORDS && ending == 0 && zeros_from(b, N * WORDS) && zeros_from(c, 4 * RECORD * WORDS) && zeros_from(d, 0));
 
     /* soft values from as many floats as fit */
     float *llr = (float *)a;

@@ -85,12 +85,12 @@ static void start(const uint8_t *text, size_t size)
 
 static int says(int fd, const char *what, size_t size) { return world.got[fd] == size && memcmp(world.out[fd], what, size) == 0; }
 
-static uint64_t calls, texts, forms, too_long, refusals[14], states[5], endings[2], failed_reads, failed_writes;
+static uint64_t calls, texts, forms, too_long, refusals[14], states[5], endings[2], changed_words[4], failed_reads, failed_writes;
 
 static void tell(void)
 {
-    fprintf(stderr, "counts: %lu calls of main on %lu texts, %lu of the form; ran: finished %lu, stopped %lu; words: waiting %lu, held %lu, met %lu, unmet %lu, of them lost %lu; refused:",
-            calls, texts, forms, endings[0], endings[1], states[0], states[1], states[2], states[3], states[4]);
+    fprintf(stderr, "counts: %lu calls of main on %lu texts, %lu of the form; ran: finished %lu, stopped %lu; words: waiting %lu, held %lu, met %lu, unmet %lu, of them lost %lu; with bits changed by LDPC: held %lu, met %lu, unmet %lu; refused:",
+            calls, texts, forms, endings[0], endings[1], states[0], states[1], states[2], states[3], states[4], changed_words[1], changed_words[2], changed_words[3]);
     for (int i = 1; i < 14; i++)
         if (refusals[i]) fprintf(stderr, " %d: %lu", i, refusals[i]);
     fprintf(stderr, "; reads that failed %lu, writes %lu; too long, not run: %lu\n", failed_reads, failed_writes, too_long);
@@ -121,13 +121,17 @@ static void notice(const char *report, size_t size, int form)
     features[16 + stopped]++;
     for (const char *at = memchr(report, '\n', size); at && at + 1 < report + size; at = memchr(at + 1, '\n', (size_t)(report + size - at - 1))) {
         char state[16], bch[16];
-        unsigned word, iterations, unsatisfied;
-        if (sscanf(at + 1, "%u\t%15s\t%u\t%u\t%15s", &word, state, &iterations, &unsatisfied, bch) != 5) wrong("a line of another form");
+        unsigned word, iterations, unsatisfied, changed;
+        if (sscanf(at + 1, "%u\t%15s\t%u\t%u\t%15s\t%u", &word, state, &iterations, &unsatisfied, bch, &changed) != 6) wrong("a line of another form");
         unsigned s = state[0] == 'w' ? 0 : state[0] == 'h' ? 1 : state[0] == 'm' ? 2 : 3;
         unsigned b = bch[0] == '-' ? 15 : (unsigned)atoi(bch), i = iterations < 12 ? iterations : 12 + (iterations > 50) + (iterations > 200);
         states[s]++;
         states[4] += b == 15;
         features[32 + s * 256 + b * 16 + i]++;
+        changed_words[s] += changed > 0;
+        unsigned digits = 0; /* binary */
+        while (changed >> digits) digits++;
+        features[1056 + s * 32 + digits]++;
     }
 }
 

@@ -337,7 +337,7 @@ uint32_t run_refusal(Code code, size_t soft, Settings set, Lent lent)
     if (set.layered && set.step == 0) return 10;
     if (set.length < 193 || set.length > 65535 || (uint64_t)set.first + set.length > code.n) return 11;
     size_t words = soft / code.n, p = code.n - 374 * code.rows, e = 374 * code.total + 2 * p - 1;
-    if (lent.out < soft || lent.records / 5 < words || lent.work < (code.n + 3 * e) * set.lanes || lent.lists < e + p + 1) return 13;
+    if (lent.out < soft || lent.records / RECORD < words || lent.work < (code.n + 3 * e) * set.lanes || lent.lists < e + p + 1) return 13;
     return 0;
 }
 
@@ -394,6 +394,8 @@ uint32_t run_of(Code code, const int8_t *soft, size_t words, Settings set, uint6
         if (word->state == 0) continue;
         if (word->state == 1) alone(l, n, soft + w * n, set, word->iterations, word->before, &budget, &ended);
         word->unsatisfied = unsatisfied(l, word->before);
+        /* "positions where the hard decisions, before BCH, differ from those of the input" */
+        for (size_t v = 0; v < n; v++) word->changed += word->before[v] != (soft[w * n + v] < 0);
         memcpy(word->bits, word->before, n);
         run->tally[2] += word->iterations;
         if (word->state == 1) continue;
@@ -515,7 +517,8 @@ size_t report_of(const uint8_t *text, size_t size, uint64_t budget, char out[REP
         static const char *const states[] = {"waiting", "held", "met", "unmet"};
         Word *word = &run.word[w];
         at += (size_t)sprintf(out + at, "%zu\t%s\t%u\t%u\t", w, states[word->state], word->iterations, word->unsatisfied);
-        at += (size_t)(word->bch == LOST ? sprintf(out + at, "-\n") : sprintf(out + at, "%u\n", word->bch));
+        at += (size_t)(word->bch == LOST ? sprintf(out + at, "-\t") : sprintf(out + at, "%u\t", word->bch));
+        at += (size_t)sprintf(out + at, "%u\n", word->changed);
     }
     run_free(&run);
     return at;

@@ -6,6 +6,8 @@
 #include <stdint.h>
 
 #define LOST 4294967295u
+/* Numbers of a word's record. */
+#define RECORD 6
 /* A run that needs more work than a fuzz target has time for. */
 #define TOO_LONG 1000u
 
@@ -35,9 +37,9 @@ typedef struct {
 } Lent;
 
 typedef struct {
-    uint32_t state, iterations, unsatisfied, bch;
+    uint32_t state, iterations, unsatisfied, bch, changed;
     uint8_t *bits;   /* n bits as they are left in the output; not of a waiting word */
-    uint8_t *before; /* the bits that `unsatisfied` counts */
+    uint8_t *before; /* the bits before BCH, which `unsatisfied` and `changed` count */
 } Word;
 
 typedef struct {

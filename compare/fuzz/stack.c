@@ -14,7 +14,7 @@ enum { N = 1122, ROWS = 2, TOTAL = 8, WORDS = 5, LANES = 64, BCH = 65535 };
 static const uint32_t lens[ROWS] = {4, 4};
 static const uint16_t addrs[TOTAL] = {0, 40, 121, 300, 7, 7, 381, 65535};
 static uint8_t word[BCH], out[BCH];
-static uint32_t lists[8192], records[5 * WORDS], tally[5], ending, number, five[5], index_[8192];
+static uint32_t lists[8192], records[RAXDOV_RECORD_COUNT * WORDS], tally[5], ending, number, five[5], index_[8192];
 static int8_t soft[N * WORDS], work[(N + 3 * 4000) * LANES], soft_out[64];
 static float llr[64];
 static size_t needs[2];
@@ -24,7 +24,7 @@ static size_t needs[2];
 static void run(uint32_t layered, uint32_t step, uint32_t lanes)
 {
     for (size_t i = 0; i < sizeof soft; i++) soft[i] = (int8_t)(i * 7919 % 61 - 20);
-    raxdov_run(CODE, soft, sizeof soft, lanes, 6, layered, step, 1, UINT32_MAX, 0, N, out, sizeof out, records, 5 * WORDS, tally, &ending, work, sizeof work, index_, 8192);
+    raxdov_run(CODE, soft, sizeof soft, lanes, 6, layered, step, 1, UINT32_MAX, 0, N, out, sizeof out, records, RAXDOV_RECORD_COUNT * WORDS, tally, &ending, work, sizeof work, index_, 8192);
 }
 
 static void nothing(void) {}

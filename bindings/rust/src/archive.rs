@@ -9,7 +9,7 @@ use crate::declared::*;
 use crate::refusal::Refusal;
 
 /// Numbers that a word's record and the tally have.
-pub(crate) const RECORD: usize = 5;
+pub(crate) const RECORD: usize = 6;
 const TALLY: usize = 5;
 
 /// Ok for 0, else the refusal of the number.
@@ -253,7 +253,11 @@ pub(crate) fn run(
     assert!(work.len() >= work_need && lists.len() >= lists_need);
     // SAFETY: nothing is lent.
     let layout = unsafe { (raxdov_record_words(), raxdov_tally_words()) };
-    assert_eq!(layout, (RECORD as u32, TALLY as u32));
+    assert_eq!(
+        layout,
+        (RECORD as u32, TALLY as u32),
+        "libraxdov.a has other records or another tally than this crate"
+    );
     let mut tally = [0; TALLY];
     let mut ending = 0;
     // SAFETY: the slices are there, and those that are written are borrowed alone.

@@ -27,7 +27,7 @@
 //! let mut bits = vec![0; 748];
 //! let settings = Settings { first: 0, length: 374, ..Settings::new(1, 50) };
 //! let ran = Runner::new().run(&code, &soft, &settings, &mut bits).unwrap();
-//! assert_eq!(ran.records[0].state, State::Met);
+//! assert_eq!((ran.records[0].state, ran.records[0].changed), (State::Met, 3));
 //! assert_eq!(bits, sent);
 //! ```
 #![deny(missing_docs, unsafe_code)]

@@ -1,6 +1,6 @@
 //! A run: words of soft values decoded side by side in lanes, each finished word's BCH part corrected, with a round
-//! limit, a record of every word and a tally. What one word gets does not depend on the others, on the lanes or on the
-//! round limit.
+//! limit, a record of every word and a tally. What a finished word gets does not depend on the other words, on the lanes or
+//! on the round limit; a held word has the bits and the count of changed bits that it has alone after its iterations.
 //!
 //! ```
 //! use raxdov::ldpc::Code;
@@ -125,7 +125,8 @@ pub enum State {
 /// let record = &ran.records[0];
 /// // bit 9 meets check 9 alone
 /// assert_eq!((record.iterations, record.unsatisfied, record.check), (0, 1, 9));
-/// assert_eq!(record.bch, Ok(1));
+/// // BCH corrects it, LDPC had no iteration
+/// assert_eq!((record.bch, record.changed), (Ok(1), 0));
 /// ```
 #[derive(Debug, Clone, Copy, PartialEq, Eq)]
 pub struct Record {
@@ -139,6 +140,9 @@ pub struct Record {
     pub check: u32,
     /// Bits that BCH corrected, or that the word is lost; 0 before it is finished.
     pub bch: Result<u32, Uncorrectable>,
+    /// Bits changed by LDPC: the positions, of all n, where the word's hard decisions before BCH differ from those of its
+    /// soft values. A held word's so far.
+    pub changed: u32,
 }
 
 /// What a run did in all.
@@ -341,5 +345,6 @@ fn record(numbers: &[u32]) -> Record {
         unsatisfied: numbers[2],
         check: numbers[3],
         bch: archive::corrected(numbers[4]).ok_or(Uncorrectable),
+        changed: numbers[5],
     }
 }

@@ -123,6 +123,35 @@ fn sentences_are_those_of_the_header() {
     }
 }
 
+/// Bits changed by LDPC: before BCH, so far of a held word, none of a waiting one.
+#[test]
+fn bits_changed_by_ldpc() {
+    // two words of zeros, each with three bits received wrong, two of them in the BCH part; the first iteration turns
+    // one of those and the third, the second iteration the last
+    let mut soft = vec![9; 2 * 748];
+    for at in [5, 100, 500] {
+        soft[at] = -11;
+        soft[748 + at] = -11;
+    }
+    let run = |limit, rounds| {
+        let settings = Settings {
+            rounds,
+            ..Settings::new(1, limit)
+        };
+        let ran = Runner::new().run(&code(), &soft, &settings, &mut vec![0; soft.len()]);
+        let records = ran.unwrap().records;
+        [0, 1].map(|w: usize| (records[w].state, records[w].bch, records[w].changed))
+    };
+    assert_eq!(run(50, u32::MAX), [(State::Met, Ok(0), 3); 2]);
+    assert_eq!(run(1, u32::MAX), [(State::Unmet, Ok(1), 2); 2]);
+    assert_eq!(run(0, u32::MAX), [(State::Unmet, Ok(2), 0); 2]);
+    let waiting = (State::Waiting, Ok(0), 0);
+    assert_eq!(run(50, 0), [(State::Held, Ok(0), 0), waiting]);
+    assert_eq!(run(50, 1), [(State::Held, Ok(0), 2), waiting]);
+    let both = [(State::Met, Ok(0), 3), (State::Held, Ok(0), 2)];
+    assert_eq!(run(50, 3), both);
+}
+
 /// One runner for codes and lanes of any size, in any order.
 #[test]
 fn memory_is_used_again() {

@@ -6,6 +6,7 @@ use crate::time::pair;
 use harness::archive::{self, Settings, Space, Table};
 use harness::lent::Lent;
 use harness::random::Random;
+use std::cell::RefCell;
 
 unsafe extern "C" {
     fn before_raxdov_record_words() -> u32;
@@ -88,27 +89,28 @@ fn line(
     let most = unsafe { before_raxdov_record_words().max(archive::record_words()) } as usize;
     row.to.records = Lent::filled(row.words * most, r);
     let tally = unsafe { before_raxdov_tally_words().max(archive::tally_words()) } as usize;
+    row.to.tally = Lent::filled(tally, r);
     let lent = Lent::of(&row.soft, r);
-    let mut old = crate::runs::space(r, &row.table, row.words, lanes);
-    old.records = Lent::filled(row.words * most, r);
-    old.tally = Lent::filled(tally, r);
     let (samples, turns) = match lanes {
+        _ if limit < 2 => (201, 1),
         1 if limit < 20 => (101, 2),
         1 => (41, 1),
         8 | 16 => (25, 1),
         _ => (15, 1),
     };
-    let p = pair(
-        samples,
-        turns,
-        || assert_eq!(archive::run(&row.table, &lent, row.set, &mut row.to), 0),
-        || assert_eq!(before(&row.table, &lent, row.set, &mut old), 0),
-    );
-    assert_eq!(
-        row.to.out.now(),
-        old.out.now(),
+    // where memory lies makes a difference of some per cent: both have the same
+    let to = RefCell::new(row.to);
+    let now = || assert_eq!(archive::run(&row.table, &lent, row.set, &mut to.borrow_mut()), 0);
+    let then = || assert_eq!(before(&row.table, &lent, row.set, &mut to.borrow_mut()), 0);
+    let p = pair(samples, turns, now, then);
+    then();
+    let bits = to.borrow().out.now().to_vec();
+    now();
+    assert!(
+        to.borrow().out.now() == bits,
         "the two archives wrote different bits"
     );
+    row.to = to.into_inner();
     println!(
         "| {} | {what} | {lanes} | {:.2} | {:.2} | {:.3} | {:.3} to {:.3} |",
         row.told(),
@@ -120,7 +122,7 @@ fn line(
     );
 }
 
-/// All rows of `bench runs`, and words of 5 iterations in one lane.
+/// All rows of `bench runs`, words of 5 iterations in one lane, and words that leave with 0 or 1, where what is done once for a word counts most.
 pub fn bench(name: &str, count: Option<u32>) {
     let mut r = Random(9);
     let (apart, pairs) = (plan(&mut r, false), plan(&mut r, true));
@@ -148,5 +150,10 @@ pub fn bench(name: &str, count: Option<u32>) {
     }
     for (what, step) in schedules.into_iter().filter(|(what, _)| wanted(what, 1)) {
         line(&mut r, &apart, 1, step, 5, false, what);
+    }
+    for limit in [0, 1] {
+        for lanes in [1, 16, 64].into_iter().filter(|l| wanted("few", *l)) {
+            line(&mut r, &apart, lanes, 0, limit, false, "few, sequential");
+        }
     }
 }

@@ -7,6 +7,7 @@ use harness::archive::{self, LOST, Settings};
 use harness::lent::Lent;
 use harness::random::Random;
 use harness::run::params;
+use harness::scope::RECORD;
 use oracle::ldpc::Code;
 use oracle::ldpc::fixed::{Decoder, quantise};
 
@@ -77,7 +78,7 @@ pub fn bench(file: Option<&str>, words: usize) {
                 let fails = oracle::bch::decode(&mut bits[..k]).is_err();
                 lost += u32::from(fails);
                 let same = bits == to.out.now()[w * n..w * n + n]
-                    && fails == (to.records.now()[5 * w + 4] == LOST);
+                    && fails == (to.records.now()[RECORD * w + 4] == LOST);
                 other += u32::from(!same);
             }
             let tally = to.tally.now();

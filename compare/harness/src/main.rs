@@ -3,7 +3,7 @@
 use harness::input::Plan;
 use harness::lent::EXACT;
 use harness::random::Random;
-use harness::{archive, bch, ldpc, quantise, run};
+use harness::{archive, bch, ldpc, quantise, run, scope};
 use std::process::exit;
 use std::rc::Rc;
 use std::sync::atomic::Ordering;
@@ -96,7 +96,7 @@ fn tell(seen: &Seen, seed: u64, time: Duration) {
     );
     let refused: u64 = u.refused[1..].iter().sum();
     println!(
-        "| `raxdov_run` | {} | {refused} (by 2 to 13: {:?}) | {} words: {} met, {} unmet, {} held, {} waiting; {} lost, {} corrected by BCH; {} iterations, at most {} of a word; {} runs stopped by the round limit, {} layered |",
+        "| `raxdov_run` | {} | {refused} (by 2 to 13: {:?}) | {} words: {} met, {} unmet, {} held, {} waiting; {} lost, {} corrected by BCH; LDPC changed bits in {} finished and {} held words, and in {} BCH would alter that count; {} iterations, at most {} of a word; {} runs stopped by the round limit, {} layered |",
         u.runs,
         &u.refused[2..],
         u.words,
@@ -106,6 +106,9 @@ fn tell(seen: &Seen, seed: u64, time: Duration) {
         u.waiting,
         u.lost,
         u.bch_corrected,
+        u.changed,
+        u.changed_held,
+        u.other_behind_bch,
         u.iterations,
         u.longest,
         u.stopped,
@@ -222,7 +225,7 @@ fn main() {
         }
     }
     let mut r = Random(seed);
-    if archive::record_words() != 5 || archive::tally_words() != 5 {
+    if archive::record_words() != scope::RECORD as u32 || archive::tally_words() != 5 {
         fail("record_words, tally_words");
     }
     for mode in &modes {

@@ -6,7 +6,7 @@ use crate::input::{self, Kind, Plan};
 use crate::ldpc::spoilt;
 use crate::lent::{Lent, same};
 use crate::random::Random;
-use crate::scope::{self, Lengths, Rounds, Status};
+use crate::scope::{self, Lengths, RECORD, Rounds, Status};
 use oracle::ldpc::Code;
 use oracle::ldpc::fixed::{Decoder, LaneResult, Params, Schedule};
 use std::collections::BTreeMap;
@@ -26,6 +26,10 @@ pub struct Counts {
     pub waiting: u64,
     pub lost: u64,
     pub bch_corrected: u64,
+    /// Finished and held words with bits changed by LDPC, and finished ones whose count would be another behind BCH.
+    pub changed: u64,
+    pub changed_held: u64,
+    pub other_behind_bch: u64,
     pub iterations: u64,
     pub stopped: u64,
     pub layered: u64,
@@ -57,6 +61,8 @@ pub enum Spoil {
     Unsatisfied,
     Check,
     Bch,
+    Changed,
+    ChangedLast,
     RecordsTail,
     Tally(usize),
     Ending,
@@ -69,7 +75,7 @@ pub enum Spoil {
     Soft,
 }
 
-pub const SPOILS: [Spoil; 22] = [
+pub const SPOILS: [Spoil; 24] = [
     Spoil::Answer,
     Spoil::Out,
     Spoil::OutTail,
@@ -78,6 +84,8 @@ pub const SPOILS: [Spoil; 22] = [
     Spoil::Unsatisfied,
     Spoil::Check,
     Spoil::Bch,
+    Spoil::Changed,
+    Spoil::ChangedLast,
     Spoil::RecordsTail,
     Spoil::Tally(0),
     Spoil::Tally(1),
@@ -113,6 +121,12 @@ fn spoil(what: Spoil, case: &Case, answer: &mut u32, soft: &mut Lent<i8>, to: &m
         Spoil::Unsatisfied => to.records.spoil(2, to.records.now()[2] + 1),
         Spoil::Check => to.records.spoil(3, u32::MAX),
         Spoil::Bch => to.records.spoil(4, to.records.now()[4] ^ 1),
+        Spoil::Changed => to.records.spoil(5, to.records.now()[5] + 1),
+        // of the last word, which may be waiting
+        Spoil::ChangedLast => to.records.spoil(
+            need.records as isize - 1,
+            to.records.now()[need.records - 1] ^ 1,
+        ),
         Spoil::RecordsTail => to
             .records
             .spoil(need.records as isize, to.records.now()[need.records] ^ 1),
@@ -198,9 +212,20 @@ fn original_traced(
 
 /// A word as its record tells it, without the named check; its bits before BCH, and after.
 struct Word {
-    record: [u32; 5],
+    record: [u32; RECORD],
     before: Vec<u8>,
     after: Vec<u8>,
+}
+
+/// The hard decisions of a word's soft values.
+fn decisions(soft: &[i8]) -> Vec<u8> {
+    soft.iter().map(|&l| u8::from(l < 0)).collect()
+}
+
+/// "positions where the hard decisions, before BCH, differ from those of the input"
+fn changed(soft: &[i8], bits: &[u8]) -> u32 {
+    let pairs = decisions(soft).into_iter().zip(bits);
+    pairs.filter(|(a, b)| a != *b).count() as u32
 }
 
 fn words_of(case: &Case, code: &Code) -> (Rounds, Vec<Option<Word>>) {
@@ -218,7 +243,7 @@ fn words_of(case: &Case, code: &Code) -> (Rounds, Vec<Option<Word>>) {
     let mut held: Vec<Option<Vec<u8>>> = vec![None; words.len()];
     for (w, status) in rounds.status.iter().enumerate() {
         if *status == Status::Held(0) {
-            held[w] = Some(words[w].iter().map(|&l| u8::from(l < 0)).collect());
+            held[w] = Some(decisions(words[w]));
         }
     }
     if rounds
@@ -238,14 +263,15 @@ fn words_of(case: &Case, code: &Code) -> (Rounds, Vec<Option<Word>>) {
     let told = answers
         .into_iter()
         .zip(held)
+        .zip(&words)
         .zip(&rounds.status)
-        .map(|(((answer, bits), held), status)| match status {
+        .map(|((((answer, bits), held), soft), status)| match status {
             Status::Waiting => None,
             Status::Held(i) => {
                 let before = held.expect("a held word's bits");
                 let unmet = code.syndrome_weight(&before) as u32;
                 Some(Word {
-                    record: [1, *i, unmet, 0, 0],
+                    record: [1, *i, unmet, 0, 0, changed(soft, &before)],
                     after: before.clone(),
                     before,
                 })
@@ -258,8 +284,9 @@ fn words_of(case: &Case, code: &Code) -> (Rounds, Vec<Option<Word>>) {
                 let mut after = bits.clone();
                 let bch = oracle::bch::decode(&mut after[first..first + length])
                     .map_or(LOST, |m| m as u32);
+                let changed = changed(soft, &bits);
                 Some(Word {
-                    record: [state, iterations as u32, unmet as u32, 0, bch],
+                    record: [state, iterations as u32, unmet as u32, 0, bch, changed],
                     before: bits,
                     after,
                 })
@@ -318,11 +345,11 @@ pub fn compare(case: &Case, counts: &mut Counts, spoils: Option<Spoil>) -> Resul
     to.out.holds("out", &[], need.out)?;
     to.records.holds("records", &[], need.records)?;
     for (w, word) in told.iter().enumerate() {
-        let record = &to.records.now()[5 * w..5 * w + 5];
+        let record = &to.records.now()[RECORD * w..RECORD * (w + 1)];
         let bits = &to.out.now()[n * w..n * w + n];
         let Some(word) = word else {
             counts.waiting += 1;
-            same(&format!("word {w}'s record"), record, &[0; 5])?;
+            same(&format!("word {w}'s record"), record, &[0; RECORD])?;
             if bits != &to.out.was()[n * w..n * w + n] {
                 return Err(format!("word {w} waits, and its output was written"));
             }
@@ -330,7 +357,7 @@ pub fn compare(case: &Case, counts: &mut Counts, spoils: Option<Spoil>) -> Resul
         };
         loaded += 1;
         given += word.record[1];
-        let mut without = [record[0], record[1], record[2], 0, record[4]];
+        let mut without = [record[0], record[1], record[2], 0, record[4], record[5]];
         same(&format!("word {w}'s record"), without, word.record)?;
         without[3] = record[3];
         let named = record[3] as usize;
@@ -358,7 +385,13 @@ pub fn compare(case: &Case, counts: &mut Counts, spoils: Option<Spoil>) -> Resul
             2 => counts.met += 1,
             _ => counts.unmet += 1,
         }
-        if record[0] > 1 {
+        let turned = u64::from(record[5] > 0);
+        if record[0] == 1 {
+            counts.changed_held += turned;
+        } else {
+            counts.changed += turned;
+            let behind = changed(&case.soft[n * w..n * (w + 1)], bits);
+            counts.other_behind_bch += u64::from(record[5] != behind);
             if record[4] == LOST {
                 lost += 1;
             } else {

@@ -37,6 +37,9 @@ pub fn shape(n: u32, lens: &[u32], addrs: &[u16]) -> (usize, usize, usize, usize
     (k, p, p / 374, 374 * addrs.len() + 2 * p - 1)
 }
 
+/// The numbers of a word's record: state, iterations, unsatisfied checks, named check, BCH result, bits changed by LDPC.
+pub const RECORD: usize = 6;
+
 /// How long each slice lent to a run is: output, records (in u32s), work, lists.
 #[derive(Clone, Copy, Debug)]
 pub struct Lengths {
@@ -52,7 +55,7 @@ pub fn needs(n: u32, lens: &[u32], addrs: &[u16], words: usize, lanes: u32) -> L
     let n = n as usize;
     Lengths {
         out: words * n,
-        records: 5 * words,
+        records: RECORD * words,
         work: (n + 3 * e) * lanes as usize,
         lists: e + p + 1,
     }

@@ -4,6 +4,7 @@
 use crate::bch;
 use crate::ldpc::Code;
 use crate::ldpc::fixed::{Decoder, Params, Schedule};
+use std::collections::BTreeMap;
 
 #[derive(Clone, Copy, Debug)]
 pub struct Settings {
@@ -37,7 +38,44 @@ pub struct Word {
     /// None of a word that waits.
     pub bits: Option<Vec<u8>>,
     /// Whether BCH changed a bit.
-    pub changed: bool,
+    pub flipped: bool,
+    /// Positions where its bits before BCH differ from the input's hard decisions.
+    pub changed: usize,
+    /// That number by wrong readings.
+    pub misread: Misread,
+}
+
+/// Numbers that are not asked for; where they are others, a list tells the readings apart.
+#[derive(Clone, Copy, Default, Debug)]
+pub struct Misread {
+    /// BCH's corrections are in it.
+    pub after_bch: usize,
+    /// Positions outside the BCH part are not.
+    pub in_part: usize,
+    /// A bit that is turned and turned back counts twice.
+    pub turns: usize,
+    /// A soft value of 0 is a 1 bit.
+    pub zeros: usize,
+}
+
+/// What there is to tell of the words' changed positions.
+pub fn tell(counts: &mut BTreeMap<String, u32>, words: &[Word]) {
+    for word in words {
+        let (changed, misread) = (word.changed, word.misread);
+        for (wrong, what) in [
+            (0, "not 0"),
+            (misread.after_bch, "not as after BCH"),
+            (misread.in_part, "not as in the BCH part"),
+            (misread.turns, "not as by turns"),
+            (misread.zeros, "not as with 0 for a 1"),
+        ] {
+            if changed != wrong {
+                *counts.entry(format!("changed {what}: {:?}", word.state)).or_default() += 1;
+            }
+        }
+        let most = counts.entry("changed at most".into()).or_default();
+        *most = (*most).max(changed as u32);
+    }
 }
 
 pub struct Ran {
@@ -116,8 +154,11 @@ fn unsatisfied(code: &Code, bits: &[u8]) -> Vec<usize> {
 
 /// Each word's bits after 0, 1, .. iterations up to its end, and the words in the order in which they were given iterations.
 fn decode<const W: usize>(code: &Code, soft: &[&[i8]], p: Params) -> (Vec<Vec<Vec<u8>>>, Vec<usize>) {
-    let hard = |w: &&[i8]| vec![w.iter().map(|&x| u8::from(x < 0)).collect()];
-    let mut bits: Vec<Vec<Vec<u8>>> = soft.iter().map(hard).collect();
+    // the input's hard decisions are the original's too: its answer at iteration limit 0
+    let begun = Decoder::<W>::default().decode_all(code, soft, Params { max_iter: 0, ..p });
+    let mut bits: Vec<Vec<Vec<u8>>> = begun.into_iter().map(|(_, hard)| vec![hard]).collect();
+    let hard = |own: &&[i8]| own.iter().map(|&x| u8::from(x < 0)).collect::<Vec<u8>>();
+    assert!(bits.iter().map(|seen| &seen[0]).eq(&soft.iter().map(hard).collect::<Vec<_>>()));
     let mut order = Vec::new();
     let traced = Decoder::<W>::default().decode_all_traced(code, soft, p, |w, b| {
         bits[w].push(b.to_vec());
@@ -206,20 +247,34 @@ fn same_rounds(rule: &Rounds, order: &[usize]) {
     assert!(rest.is_empty());
 }
 
+/// Positions where two words differ.
+fn differ(a: &[u8], b: &[u8]) -> usize {
+    assert_eq!(a.len(), b.len());
+    a.iter().zip(b).filter(|(x, y)| x != y).count()
+}
+
 /// A word taken, after some of its iterations.
-fn word(code: &Code, seen: &[Vec<u8>], iterations: usize, s: &Settings) -> Word {
-    let before = &seen[iterations];
+fn word(code: &Code, own: &[i8], seen: &[Vec<u8>], iterations: usize, s: &Settings) -> Word {
+    let (begun, before) = (&seen[0], &seen[iterations]);
     let left = unsatisfied(code, before);
+    let part = s.first as usize..(s.first + s.length) as usize;
     let mut bits = before.clone();
     let (state, bch) = if iterations + 1 < seen.len() {
         (State::Held, Some(0))
     } else {
-        let part = &mut bits[s.first as usize..(s.first + s.length) as usize];
-        let fixed = bch::decode(part).ok();
+        let fixed = bch::decode(&mut bits[part.clone()]).ok();
         (if left.is_empty() { State::Met } else { State::Unmet }, fixed)
     };
-    let changed = bits != *before;
-    Word { state, iterations, unsatisfied: left, bch, bits: Some(bits), changed }
+    let flipped = bits != *before;
+    let changed = differ(begun, before);
+    let ones: Vec<u8> = own.iter().map(|&x| u8::from(x <= 0)).collect();
+    let misread = Misread {
+        after_bch: differ(begun, &bits),
+        in_part: differ(&begun[part.clone()], &before[part]),
+        turns: seen[..=iterations].windows(2).map(|two| differ(&two[0], &two[1])).sum(),
+        zeros: differ(&ones, before),
+    };
+    Word { state, iterations, unsatisfied: left, bch, bits: Some(bits), flipped, changed, misread }
 }
 
 /// A run that is not refused. How many rounds it makes without a limit is the second answer.
@@ -239,10 +294,23 @@ pub fn run(code: &Code, soft: &[i8], s: &Settings) -> (Ran, u32) {
     for &w in rule.by_round.iter().flatten() {
         given[w] += 1;
     }
-    let waiting =
-        Word { state: State::Waiting, iterations: 0, unsatisfied: Vec::new(), bch: Some(0), bits: None, changed: false };
+    let waiting = Word {
+        state: State::Waiting,
+        iterations: 0,
+        unsatisfied: Vec::new(),
+        bch: Some(0),
+        bits: None,
+        flipped: false,
+        changed: 0,
+        misread: Misread::default(),
+    };
+    // a word alone, in one lane, with as many iterations as it was given, has the same bits
+    for w in 0..rule.loaded {
+        let alone = Decoder::<1>::default().decode_all(code, &soft[w..=w], Params { max_iter: given[w], ..p });
+        assert_eq!(alone[0].1, seen[w][given[w]]);
+    }
     let words: Vec<Word> = (0..soft.len())
-        .map(|w| if w < rule.loaded { word(code, &seen[w], given[w], s) } else { waiting.clone() })
+        .map(|w| if w < rule.loaded { word(code, soft[w], &seen[w], given[w], s) } else { waiting.clone() })
         .collect();
     let finished = || words.iter().filter(|w| matches!(w.state, State::Met | State::Unmet));
     let ran = Ran {

@@ -23,7 +23,7 @@ use Rattle.bch.specs.Corrected.{corrected-codeword, corrected-distance}
 use Rattle.bch.specs.declared.Decoded.the-variants.{Corrected, Uncorrectable}
 use Rattle.bch.specs.Exact.{Near, Exact}
 
-distance-self : (w : List ℕ) → distance w w ≡ 0
+pub distance-self : (w : List ℕ) → distance w w ≡ 0
 unfolding distance
 distance-self [] = refl
 distance-self (a ∷ w) =

@@ -11,7 +11,7 @@ use Rattle.schedule.specs.Status.{Status, waiting, holding, done, status, spent
 use Rattle.schedule.specs.WholeRun.{given, longest, Whole-run, As-alone}
 use Rattle.schedule.specs.Places.{sum-ext}
 use Rattle.schedule.specs.Theorem.{spent-within}
-use Rattle.outcome.specs.Outcome.{Outcome, metOf, bitsOf, outcomeOf, alone}
+use Rattle.outcome.specs.Outcome.{Outcome, metOf, bitsOf, changedOf, outcomeOf, alone}
 use Rattle.decoder_plan.specs.declared.Plan.{Plan}
 use Rattle.decoder_words.specs.Book.{View}
 use Rattle.decoder_words.specs.Run.{wordsOf}
@@ -20,27 +20,29 @@ use Rattle.decoder.specs.Demand.{beginning, Demanded}
 
 module _ (code : Code) (iterate : Word → Word) (plan : Plan) (soft : List ℤ) (order : List ℕ) (r : Result Word)
     (d : Whole-run (wordsOf code iterate plan soft) order (plan .lanes) (plan .limits .rounds) r) (bits : ℕ → List ℕ) (v : ℕ → View)
-    (as-status : (w : ℕ) → Tells code (plan .sizes .n) (plan .sizes .p) (plan .part) (bits w) (status (r .last) w) (v w)) where
+    (as-status : (w : ℕ) → Tells code (plan .sizes .n) (plan .sizes .p) (plan .part) (bits w) (beginning plan soft w) (status (r .last) w) (v w)) where
   pub demanded : (w : ℕ) → Demanded code iterate plan soft (bits w) w (status (r .last) w) (v w)
   unfolding wordsOf alone
   demanded w = at (status (r .last) w) (as-status w) (d .as-alone w)
     where
-      at : (st : Status Word) → Tells code (plan .sizes .n) (plan .sizes .p) (plan .part) (bits w) st (v w) → As-alone (wordsOf code iterate plan soft) w st
+      at : (st : Status Word) → Tells code (plan .sizes .n) (plan .sizes .p) (plan .part) (bits w) (beginning plan soft w) st (v w) → As-alone (wordsOf code iterate plan soft) w st
           → Demanded code iterate plan soft (bits w) w st (v w)
       at waiting t a = t
       at (holding x i) t a =
+          let now = a .0 ∙ ap (after (beginning plan soft w) iterate) (sym (t .iterations)) in
           record {
-            bits = t .bits ∙ ap (bitsOf (plan .sizes .n)) (a .0 ∙ ap (after (beginning code iterate plan soft w) iterate) (sym (t .iterations)));
-            fewer = subst (λ k. k < ends (beginning code iterate plan soft w) iterate (metOf code (plan .sizes .p)) (plan .limits .iterations)) (sym (t .iterations)) (a .1);
+            bits = t .bits ∙ ap (bitsOf (plan .sizes .n)) now;
+            changed = t .changed ∙ ap (changedOf (plan .sizes .n) (beginning plan soft w)) now;
+            fewer = subst (λ k. k < ends (beginning plan soft w) iterate (metOf code (plan .sizes .p)) (plan .limits .iterations)) (sym (t .iterations)) (a .1);
           }
-      at (done x i) t a = t .outcome ∙ ap₂ (outcomeOf code (plan .sizes .n) (plan .sizes .p) (plan .part)) (a .0) (a .1)
+      at (done x i) t a = t .outcome ∙ ap₂ (outcomeOf code (plan .sizes .n) (plan .sizes .p) (plan .part) (beginning plan soft w)) (a .0) (a .1)
 
   -- a record's iterations are the word's
   spent-is : (w : ℕ) → v w .iterations ≡ spent (status (r .last) w)
   unfolding outcomeOf
   spent-is w = at (status (r .last) w) (as-status w)
     where
-      at : (st : Status Word) → Tells code (plan .sizes .n) (plan .sizes .p) (plan .part) (bits w) st (v w) → v w .iterations ≡ spent st
+      at : (st : Status Word) → Tells code (plan .sizes .n) (plan .sizes .p) (plan .part) (bits w) (beginning plan soft w) st (v w) → v w .iterations ≡ spent st
       at waiting t = ap (λ (x : View). x .iterations) t
       at (holding x i) t = t .iterations
       at (done x i) t = ap (λ (o : Outcome). o .iterations) (t .outcome)

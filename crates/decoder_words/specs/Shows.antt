@@ -1,4 +1,5 @@
--- What memory says of a word while the rounds go on and when they are over, by its status: its record with BCH result 0, and hard decisions.
+-- What memory says of a word while the rounds go on and when they are over, by its status: its record with BCH result and changed bits 0, and hard
+-- decisions.
 -- decoder_correct has what it says at the run's end.
 use mathlib.Core.Path.{_≡_, refl, sym, subst}
 use mathlib.Core.Bool.{Bool, true, false}
@@ -13,23 +14,31 @@ use Rattle.iteration.specs.Iteration.{Code}
 use Rattle.iteration.specs.Count.{Names}
 use Rattle.schedule.specs.Status.{Status, waiting, holding, done}
 use Rattle.outcome.specs.Outcome.{stateOf, metOf, unmetOf, bitsOf}
-use Rattle.decoder_words.specs.Book.{Book, View, view, untouched, Holds}
+use Rattle.decoder_words.specs.Book.{Book, View, view, untouched}
 use Rattle.decoder_words.specs.Written.{Only}
 
 module _ (code : Code) (n p : ℕ) where
-  -- a word that is over, before its BCH part is corrected: it ended with the values x, after i iterations
-  pub record Over (x : Word) (i : ℕ) (v : View) : Type 0 where
-    pub state : v .state ≡ stateOf (metOf code p x)
+  -- a word that was written with the values x, after i iterations: nothing is corrected or compared yet
+  pub record Left (state : ℕ) (x : Word) (i : ℕ) (v : View) : Type 0 where
+    pub state-is : v .state ≡ state
     pub iterations : v .iterations ≡ i
     pub unsatisfied : v .unsatisfied ≡ unmetOf code p x
     pub named : Names code p x (v .check)
     pub bch : v .bch ≡ 0
+    pub changed : v .changed ≡ 0
     pub bits : v .bits ≡ bitsOf n x
+
+  -- it is over; it is held
+  abbrev pub Over : Word → ℕ → View → Type 0
+  Over x i v = Left (stateOf (metOf code p x)) x i v
+
+  abbrev pub Held : Word → ℕ → View → Type 0
+  Held x i v = Left 1 x i v
 
   -- by its status; `bits` are those that the output had before the run
   abbrev pub Shows : List ℕ → Status Word → View → Type 0
   Shows bits waiting v = v ≡ untouched bits
-  Shows bits (holding x i) v = Holds code n p x i v
+  Shows bits (holding x i) v = Held x i v
   Shows bits (done x i) v = Over x i v
 
   -- of every word

@@ -14,7 +14,7 @@ use Rattle.meter.specs.Metered.{blank}
 
 -- Room for as many records as a run may have words, not yet written.
 unfoldable pub unwritten : List WordRecord
-unwritten = replicate 4096 (record { state = 0; iterations = 0; unsatisfied = 0; check = 0; bch = 0 })
+unwritten = replicate 4096 (record { state = 0; iterations = 0; unsatisfied = 0; check = 0; bch = 0; changed = 0 })
 
 -- Of numbers with the records of so many words in front: those, and behind them blank ones for the rest of the room.
 abbrev pub numbersOf : ℕ → ℕ → List ℕ → List ℕ

@@ -7,7 +7,7 @@ use Prim.Native.Nat.{ℕ, zero, suc, _+_, _-_, _≤_, _<_}
 use native.Mathlib.Omega.{arith}
 use native.Mathlib.Decide.{ℕ-discrete, decLe}
 use native.Mathlib.Numerals.{add-one}
-use lib.ListN.{length, take, drop, set, length-append, length-take, length-drop}
+use lib.ListN.{length, getD, take, drop, set, length-append, length-take, length-drop}
 use lib.Seq.{take-suc-set, take-all, drop-drop}
 use Rattle.iteration.specs.Check.{Word}
 use Rattle.iteration.specs.Iteration.{hard}
@@ -28,6 +28,16 @@ bits-from-length x v (suc m) = ap suc (bits-from-length x (suc v) m)
 pub bits-length : (n : ℕ) (x : Word) → length (bitsOf n x) ≡ n
 unfolding bitsOf
 bits-length n x = bits-from-length x 0 n
+
+bit-from : (x : Word) (v m u : ℕ) → u < m → getD (bitsFrom x v m) u 0 ≡ hard (x .L (v + u))
+unfolding bitsFrom
+bit-from x v zero u h = absurd (omega (arith, h))
+bit-from x v (suc m) zero h = let e : v ≡ v + 0 = omega arith in ap (λ (k : ℕ). hard (x .L k)) e
+bit-from x v (suc m) (suc u) h = let e : suc v + u ≡ v + suc u = omega arith in bit-from x (suc v) m u (omega arith) ∙ ap (λ (k : ℕ). hard (x .L k)) e
+
+pub bits-at : (n : ℕ) (x : Word) (u : ℕ) → u < n → getD (bitsOf n x) u 0 ≡ hard (x .L u)
+unfolding bitsOf
+bits-at n x u h = let e : 0 + u ≡ u = omega arith in bit-from x 0 n u h ∙ ap (λ (k : ℕ). hard (x .L k)) e
 
 bits-from-snoc : (x : Word) (v m : ℕ) → bitsFrom x v (suc m) ≡ bitsFrom x v m ++ (hard (x .L (v + m)) ∷ [])
 unfolding bitsFrom

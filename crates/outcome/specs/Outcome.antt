@@ -1,5 +1,5 @@
 -- A word's outcome, from its values: "its hard decisions at the end, with the BCH part as BCH leaves it; met if every check was met before
--- BCH, else unmet; its iterations; how many checks were unsatisfied before BCH; the BCH result".
+-- BCH, else unmet; its iterations; how many checks were unsatisfied before BCH; the BCH result"; and the bits that the LDPC step changed.
 use mathlib.Core.Bool.{Bool, cond, _||_}
 use mathlib.Core.List.{List, [], _∷_, _++_}
 use Prim.Native.Nat.{ℕ, zero, suc, _+_}
@@ -10,6 +10,7 @@ use Rattle.iteration.specs.Check.{Word, within}
 use Rattle.iteration.specs.Iteration.{Code, hard, unsatisfiedCount}
 use Rattle.schedule.specs.Alone.{after, ends}
 use Rattle.decoder_plan.specs.declared.Part.{Part}
+use Rattle.bch.specs.Distance.{distance}
 use Rattle.bch.specs.Answers.{decodedOf, wordOut}
 use Rattle.bch.specs.declared.Decoded.{Decoded}
 use Rattle.bch.specs.declared.Decoded.the-variants.{Corrected, Uncorrectable, Refused}
@@ -25,6 +26,10 @@ bitsFrom x v (suc m) = hard (x .L v) ∷ bitsFrom x (suc v) m
 
 unfoldable pub bitsOf : ℕ → Word → List ℕ
 bitsOf n x = bitsFrom x 0 n
+
+-- "positions where the hard decisions, before BCH, differ from those of the input": of a word that began with the values x₀ and has the values x
+unfoldable pub changedOf : ℕ → Word → Word → ℕ
+changedOf n x₀ x = distance (bitsOf n x₀) (bitsOf n x)
 
 -- how many of the p checks its values leave unsatisfied, and whether they meet every check
 unfoldable pub unmetOf : Code → ℕ → Word → ℕ
@@ -78,20 +83,22 @@ pub record Outcome : Type 0 where
   pub iterations : ℕ
   pub unsatisfied : ℕ
   pub bch : ℕ
+  pub changed : ℕ
 
--- the outcome of a word that ends with the values x after i iterations
-unfoldable pub outcomeOf : Code → ℕ → ℕ → Part → Word → ℕ → Outcome
-outcomeOf code n p part x i =
+-- the outcome of a word that began with the values x₀ and ends with the values x after i iterations
+unfoldable pub outcomeOf : Code → ℕ → ℕ → Part → Word → Word → ℕ → Outcome
+outcomeOf code n p part x₀ x i =
     record {
       bits = corrected part (bitsOf n x);
       state = stateOf (metOf code p x);
       iterations = i;
       unsatisfied = unmetOf code p x;
       bch = bchOf part (bitsOf n x);
+      changed = changedOf n x₀ x;
     }
 
 -- Its outcome alone: from its soft values, the code and the settings. Lane count, round limit and other words cannot occur here.
 unfoldable pub alone : Code → ℕ → ℕ → (Word → Word) → ℕ → Part → List ℤ → Outcome
 alone code n p iterate iteration-limit part soft =
     let e = ends (begin n soft) iterate (metOf code p) iteration-limit in
-    outcomeOf code n p part (after (begin n soft) iterate e) e
+    outcomeOf code n p part (begin n soft) (after (begin n soft) iterate e) e

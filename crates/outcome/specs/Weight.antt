@@ -23,7 +23,8 @@ use Rattle.iteration.specs.ListsLaws.{start-in, degree-in}
 use Rattle.iteration.specs.CodeLaws.{code-in}
 use Rattle.iteration.specs.Code.{codeOf}
 use Rattle.iteration.specs.Count.{unmetAt}
-use Rattle.outcome.specs.Outcome.{bitsFrom, bitsOf, unmetOf, metOf}
+use Rattle.outcome.specs.Outcome.{bitsOf, unmetOf, metOf}
+use Rattle.outcome.specs.Laws.{bits-at}
 
 -- ---- a byte of the hard decisions is its value's
 hard-bit : (z : ℤ) → hard z % 2 ≡ hard z
@@ -33,17 +34,8 @@ hard-bit z = at (negative z)
     at true = refl
     at false = refl
 
-bit-from : (x : Word) (v m u : ℕ) → u < m → getD (bitsFrom x v m) u 0 ≡ hard (x .L (v + u))
-unfolding bitsFrom
-bit-from x v zero u h = absurd (omega (arith, h))
-bit-from x v (suc m) zero h = let e : v ≡ v + 0 = omega arith in ap (λ (k : ℕ). hard (x .L k)) e
-bit-from x v (suc m) (suc u) h = let e : suc v + u ≡ v + suc u = omega arith in bit-from x (suc v) m u (omega arith) ∙ ap (λ (k : ℕ). hard (x .L k)) e
-
 bit-at : (n : ℕ) (x : Word) (u : ℕ) → u < n → getD (bitsOf n x) u 0 % 2 ≡ hard (x .L u)
-unfolding bitsOf
-bit-at n x u h =
-    let e : 0 + u ≡ u = omega arith in
-    ap (λ (k : ℕ). k % 2) (bit-from x 0 n u h ∙ ap (λ (k : ℕ). hard (x .L k)) e) ∙ hard-bit (x .L u)
+bit-at n x u h = ap (λ (k : ℕ). k % 2) (bits-at n x u h) ∙ hard-bit (x .L u)
 
 -- ---- negative values from the front, as bits are counted
 front : (v : ℕ → ℕ) (s d : ℕ) (L : ℕ → ℤ) → negatives v s (suc d) L ≡ hard (L (v s)) + negatives v (suc s) d L

@@ -10,6 +10,7 @@ ghost use Rattle.iteration.specs.Lists.{var, Lists, codeIn};
 ghost use Rattle.iteration.specs.Count.{unmetAt};
 ghost use Rattle.iteration.specs.CountLaws.{UnmetCounted};
 ghost use Rattle.outcome.specs.Outcome.{begin, bitsOf, metOf, corrected, bchResult, bchOf, stateOf, isFinished, keptOf, lostOf};
+ghost use Rattle.outcome.specs.Changed.{changedBits, Comparing};
 ghost use Rattle.outcome.specs.Soft.{Edges, values, Lent};
 
 // How many checks a word leaves unsatisfied, and one of them (0 if there is none).
@@ -90,6 +91,49 @@ pub fn soft_bits(n: usize, soft: &[i8], out: &mut [u8])
         out[i] = lane_math::bit(soft[i]);
         i += 1;
     }
+}
+
+// So many positions are compared at a time: their count fits a u8, of which the compiler adds sixteen at once.
+const BLOCK: usize = 224;
+
+fn block_end(k: usize, n: usize) -> usize
+    requires { ⌜ k < n ⌝ }
+    ensures { λ r. ⌜ (k < r) × (r ≤ n) × (r ≤ k + 224) ⌝ }
+{
+    if n - k < BLOCK {
+        return n;
+    }
+    k + BLOCK
+}
+
+// In how many of the positions from `from` to before `to` a word's bits differ from its hard decisions before any iteration.
+fn differing(n: usize, soft: &[i8], bits: &[u8], from: usize, to: usize) -> u8
+    requires { ⌜ (length (now soft) ≡ n) × (length (now bits) ≡ n) × (from ≤ to) × (to ≤ n) × (to ≤ from + 255) ⌝ }
+    ensures { λ r. ⌜ Comparing (bitsOf n (begin n (now (soft .entry)))) (now (bits .entry)) from to r ⌝ }
+{
+    let mut count: u8 = 0;
+    let mut k = from;
+    while k < to {
+        let differ = (lane_math::bit(soft[k]) ^ bits[k]) % 2;
+        count += differ;
+        k += 1;
+    }
+    count
+}
+
+// In how many positions a word's bits differ from its hard decisions before any iteration.
+pub fn changed(n: usize, soft: &[i8], bits: &[u8]) -> u32
+    requires { ⌜ (length (now soft) ≡ n) × (length (now bits) ≡ n) × (n ≤ 65535) ⌝ }
+    ensures { λ r. ⌜ r ≡ changedBits n (begin n (now (soft .entry))) (now (bits .entry)) ⌝ }
+{
+    let mut count: u32 = 0;
+    let mut k: usize = 0;
+    while k < n {
+        let end = block_end(k, n);
+        count += differing(n, soft, bits, k, end) as u32;
+        k = end;
+    }
+    count
 }
 
 // The BCH result of a lost word.

@@ -4,6 +4,7 @@ use mathlib.Core.List.{List, [], _∷_, _++_}
 use Prim.Native.Nat.{ℕ, zero, suc}
 use Rattle.laws.specs.Definitions.{decimal}
 use Rattle.report_form.specs.Description.{line}
+use Rattle.report_lines.specs.declared.Result.{Result}
 
 -- "ending (`finished` or `stopped`)"
 abbrev pub endingText : Bool → List ℕ
@@ -23,24 +24,24 @@ bchText true corrected = 45 ∷ []
 bchText false corrected = decimal corrected
 
 -- what a line says of a word
-pub record Result : Type 0 where
-  pub state : ℕ
-  pub iterations : ℕ
-  pub unsatisfied : ℕ
-  pub lost : Bool
-  pub corrected : ℕ
-
-abbrev pub resultWith : ℕ → ℕ → ℕ → Bool → ℕ → Result
-resultWith state iterations unsatisfied lost corrected =
-    record { state = state; iterations = iterations; unsatisfied = unsatisfied; lost = lost; corrected = corrected }
+abbrev pub resultWith : ℕ → ℕ → ℕ → Bool → ℕ → ℕ → Result
+resultWith state iterations unsatisfied lost corrected changed =
+    record {
+      state = state;
+      iterations = iterations;
+      unsatisfied = unsatisfied;
+      lost = lost;
+      corrected = corrected;
+      changed = changed;
+    }
 
 -- "First line: ending, rounds"
 abbrev pub firstLine : Bool → ℕ → List ℕ
 firstLine stopped rounds = line (endingText stopped) (decimal rounds ∷ [])
 
--- "Then word, state, iterations, unsatisfied, BCH"
+-- "Then word, state, iterations, unsatisfied, BCH"; of the bits changed by LDPC: "Report lines gain it as a last field"
 abbrev pub resultLine : ℕ → Result → List ℕ
-resultLine word r = line (decimal word) (stateText (r .state) ∷ decimal (r .iterations) ∷ decimal (r .unsatisfied) ∷ bchText (r .lost) (r .corrected) ∷ [])
+resultLine word r = line (decimal word) (stateText (r .state) ∷ decimal (r .iterations) ∷ decimal (r .unsatisfied) ∷ bchText (r .lost) (r .corrected) ∷ decimal (r .changed) ∷ [])
 
 abbrev pub resultLines : ℕ → List Result → List ℕ
 resultLines word [] = []

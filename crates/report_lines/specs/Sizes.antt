@@ -8,7 +8,8 @@ use native.Mathlib.Omega.{arith}
 use lib.ListN.{length, length-append}
 use Rattle.laws.specs.Decimal.{decimal-length}
 use Rattle.laws.specs.Definitions.{decimal}
-use Rattle.report_lines.specs.Lines.{Result, endingText, stateText, bchText, firstLine, resultLine, resultLines}
+use Rattle.report_lines.specs.Lines.{endingText, stateText, bchText, firstLine, resultLine, resultLines}
+use Rattle.report_lines.specs.declared.Result.{Result}
 
 pub number-length : (v : ℕ) → v < 4294967296 → length (decimal v) ≤ 10
 number-length v h = decimal-length 9 v (omega arith)
@@ -32,9 +33,9 @@ unmet (suc zero) a b c = absurd (b refl)
 unmet (suc (suc zero)) a b c = absurd (c refl)
 unmet (suc (suc (suc n))) a b c = refl
 
-bch-length : (lost : Bool) (corrected : ℕ) → corrected < 4294967296 → length (bchText lost corrected ++ 10 ∷ []) ≤ 11
+pub bch-length : (lost : Bool) (corrected : ℕ) → corrected < 4294967296 → length (bchText lost corrected ++ 9 ∷ []) ≤ 11
 bch-length true corrected h = omega arith
-bch-length false corrected h = field-length corrected 10 h
+bch-length false corrected h = field-length corrected 9 h
 
 tabbed : (xs ys : List ℕ) → length (xs ++ 9 ∷ ys) ≡ length (xs ++ 9 ∷ []) + length ys
 tabbed xs ys = omega (arith, length-append xs (9 ∷ ys), length-append xs (9 ∷ []))
@@ -44,14 +45,15 @@ pub first-line-length : (stopped : Bool) (rounds : ℕ) → rounds < 4294967296 
 first-line-length stopped rounds h =
     omega (arith, tabbed (endingText stopped) (decimal rounds ++ 10 ∷ []), ending-length stopped, field-length rounds 10 h)
 
--- a word's line is at most 52 bytes long
-pub word-line-length : (word : ℕ) (r : Result) → word < 4294967296 → r .iterations < 4294967296 → r .unsatisfied < 4294967296 → r .corrected < 4294967296 → length (resultLine word r) ≤ 52
-word-line-length word r w i u c =
-    let bch = bchText (r .lost) (r .corrected) ++ 10 ∷ [] in
-    let last = decimal (r .unsatisfied) ++ 9 ∷ bch in
-    let three = decimal (r .iterations) ++ 9 ∷ last in
-    let four = stateText (r .state) ++ 9 ∷ three in
-    omega (arith, tabbed (decimal word) four, field-length word 9 w, tabbed (stateText (r .state)) three, state-length (r .state), tabbed (decimal (r .iterations)) last, field-length (r .iterations) 9 i, tabbed (decimal (r .unsatisfied)) bch, field-length (r .unsatisfied) 9 u, bch-length (r .lost) (r .corrected) c)
+-- a word's line is at most 63 bytes long
+pub word-line-length : (word : ℕ) (r : Result) → word < 4294967296 → r .iterations < 4294967296 → r .unsatisfied < 4294967296 → r .corrected < 4294967296 → r .changed < 4294967296 → length (resultLine word r) ≤ 63
+word-line-length word r w i u c g =
+    let last = decimal (r .changed) ++ 10 ∷ [] in
+    let two = bchText (r .lost) (r .corrected) ++ 9 ∷ last in
+    let three = decimal (r .unsatisfied) ++ 9 ∷ two in
+    let four = decimal (r .iterations) ++ 9 ∷ three in
+    let five = stateText (r .state) ++ 9 ∷ four in
+    omega (arith, tabbed (decimal word) five, field-length word 9 w, tabbed (stateText (r .state)) four, state-length (r .state), tabbed (decimal (r .iterations)) three, field-length (r .iterations) 9 i, tabbed (decimal (r .unsatisfied)) two, field-length (r .unsatisfied) 9 u, tabbed (bchText (r .lost) (r .corrected)) last, bch-length (r .lost) (r .corrected) c, field-length (r .changed) 10 g)
 
 -- one word more
 pub word-lines-snoc : (word : ℕ) (rs : List Result) (r : Result) → resultLines word (rs ++ r ∷ []) ≡ resultLines word rs ++ resultLine (word + length rs) r

@@ -3,8 +3,19 @@ ghost use mathlib.Core.List.{_∷_, [], _++_};
 ghost use Prim.Native.Nat.{_+_, _≤_, _<_};
 ghost use lib.ListN.{length};
 ghost use Rattle.laws.specs.Definitions.{decimal};
-ghost use Rattle.report_lines.specs.Lines.{endingText, stateText, bchText, firstLine, resultWith, resultLine, refusedLine};
+ghost use Rattle.report_lines.specs.Lines.{endingText, stateText, bchText, firstLine, resultLine, refusedLine};
 ghost use Rattle.report_lines.specs.Wrote.{Wrote};
+
+// What a line says of a word: its state, its iterations, its unsatisfied checks, whether it is lost, the bits that BCH corrected, and the
+// bits that LDPC changed.
+pub struct Result {
+    pub state: u32,
+    pub iterations: u32,
+    pub unsatisfied: u32,
+    pub lost: bool,
+    pub corrected: u32,
+    pub changed: u32,
+}
 
 // A byte.
 fn put_byte(out: &mut [u8], at: usize, b: u8) -> usize
@@ -62,7 +73,7 @@ fn put_ending(out: &mut [u8], at: usize, stopped: bool) -> usize
 }
 
 // A word's state, and a tab.
-fn put_state(out: &mut [u8], at: usize, state: u8) -> usize
+fn put_state(out: &mut [u8], at: usize, state: u32) -> usize
     requires { ⌜ (at + 8 ≤ length (now out)) × (state < 4) ⌝ }
     ensures { λ r. ⌜ Wrote (stateText state ++ 9 ∷ []) at (now (out .entry)) r (now (out .exit)) ⌝ }
 {
@@ -78,15 +89,15 @@ fn put_state(out: &mut [u8], at: usize, state: u8) -> usize
     put_text(out, at, b"unmet\t")
 }
 
-// The BCH result, and a newline.
+// The BCH result, and a tab.
 fn put_bch(out: &mut [u8], at: usize, lost: bool, corrected: u32) -> usize
     requires { ⌜ at + 11 ≤ length (now out) ⌝ }
-    ensures { λ r. ⌜ Wrote (bchText lost corrected ++ 10 ∷ []) at (now (out .entry)) r (now (out .exit)) ⌝ }
+    ensures { λ r. ⌜ Wrote (bchText lost corrected ++ 9 ∷ []) at (now (out .entry)) r (now (out .exit)) ⌝ }
 {
     if lost {
-        put_text(out, at, b"-\n")
+        put_text(out, at, b"-\t")
     } else {
-        put_field(out, at, corrected, b'\n')
+        put_field(out, at, corrected, b'\t')
     }
 }
 
@@ -99,25 +110,17 @@ pub fn write_first(out: &mut [u8], at: usize, stopped: bool, rounds: u32) -> usi
     put_field(out, next, rounds, b'\n')
 }
 
-// A word's line: at most 52 bytes.
-pub fn write_word(
-    out: &mut [u8],
-    at: usize,
-    word: u32,
-    state: u8,
-    iterations: u32,
-    unsatisfied: u32,
-    lost: bool,
-    corrected: u32,
-) -> usize
-    requires { ⌜ (at + 52 ≤ length (now out)) × (state < 4) ⌝ }
-    ensures { λ r. ⌜ Wrote (resultLine word (resultWith state iterations unsatisfied lost corrected)) at (now (out .entry)) r (now (out .exit)) ⌝ }
+// A word's line: at most 63 bytes.
+pub fn write_word(out: &mut [u8], at: usize, word: u32, r: Result) -> usize
+    requires { ⌜ (at + 63 ≤ length (now out)) × (r .state < 4) ⌝ }
+    ensures { λ next. ⌜ Wrote (resultLine word r) at (now (out .entry)) next (now (out .exit)) ⌝ }
 {
     let a = put_field(out, at, word, b'\t');
-    let b = put_state(out, a, state);
-    let c = put_field(out, b, iterations, b'\t');
-    let d = put_field(out, c, unsatisfied, b'\t');
-    put_bch(out, d, lost, corrected)
+    let b = put_state(out, a, r.state);
+    let c = put_field(out, b, r.iterations, b'\t');
+    let d = put_field(out, c, r.unsatisfied, b'\t');
+    let e = put_bch(out, d, r.lost, r.corrected);
+    put_field(out, e, r.changed, b'\n')
 }
 
 // The line of a refusal: at most 19 bytes.

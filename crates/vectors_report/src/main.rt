@@ -37,7 +37,7 @@ fn report(text: &[u8]) {
     let r = report_text::report(text);
     let length = r.length;
     let bytes = r.bytes;
-    if length <= 852 {
+    if length <= 1028 {
         io::write_all(1, &bytes[..length]);
     }
 }

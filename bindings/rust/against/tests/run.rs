@@ -64,6 +64,11 @@ fn schedule(ends: &[usize], lanes: usize, rounds: u32) -> (Vec<Option<usize>>, b
     }
 }
 
+/// Positions where they differ.
+fn distance(a: &[u8], b: &[u8]) -> usize {
+    a.iter().zip(b).filter(|(x, y)| x != y).count()
+}
+
 fn compare(
     ran: &Ran,
     out: &[u8],
@@ -80,8 +85,8 @@ fn compare(
         let Some(i) = given[w] else {
             assert_eq!((record.state, record.iterations), (State::Waiting, 0));
             assert_eq!(
-                (record.unsatisfied, record.check, record.bch),
-                (0, 0, Ok(0))
+                (record.unsatisfied, record.check, record.bch, record.changed),
+                (0, 0, Ok(0), 0)
             );
             assert!(bits.iter().all(|&b| b == 9), "a waiting word's bits");
             continue;
@@ -102,6 +107,7 @@ fn compare(
             (state, i, bch)
         );
         assert_eq!(record.unsatisfied as usize, code.syndrome_weight(before));
+        assert_eq!(record.changed as usize, distance(before, &word.bits[0]));
         let named = code.check(record.check as usize);
         let odd = named.iter().fold(0, |a, &v| a ^ before[v as usize]);
         assert_eq!(odd == 1, record.unsatisfied > 0, "the named check");
@@ -123,6 +129,8 @@ fn runs() {
     let mut runner = Runner::new();
     let mut states = [0; 4];
     let (mut corrected, mut lost) = (0, 0);
+    // words with bits changed by LDPC, by state; those where it counts that BCH comes behind
+    let (mut changed, mut before_bch) = ([0; 4], 0);
     for _ in 0..150 {
         let groups = 2 + d.below(6);
         let count = 1 + d.below(groups - 1);
@@ -166,12 +174,18 @@ fn runs() {
         assert_eq!(out[n * soft.len()..], [9; 3]);
         assert_eq!(ran.records.len(), soft.len());
         compare(&ran, &out, n, &code, &alone, &settings);
-        for record in &ran.records {
+        for (w, record) in ran.records.iter().enumerate() {
             states[record.state as usize] += 1;
             corrected += usize::from(matches!(record.bch, Ok(1..)));
             lost += usize::from(record.bch.is_err());
+            changed[record.state as usize] += usize::from(record.changed > 0);
+            let after = distance(&out[n * w..n * (w + 1)], &alone[w].bits[0]);
+            let finished = matches!(record.state, State::Met | State::Unmet);
+            before_bch += usize::from(finished && record.changed as usize != after);
         }
     }
     assert!(states.iter().all(|&count| count > 50), "{states:?}");
     assert!(corrected > 20 && lost > 50, "{corrected} {lost}");
+    assert!(changed[1..].iter().all(|&count| count > 50), "{changed:?}");
+    assert!(before_bch > 20, "{before_bch}");
 }

@@ -77,7 +77,8 @@ impl Text {
                 State::Unmet => "unmet",
             };
             let bch = word.bch.map_or("-".into(), |fixed| fixed.to_string());
-            writeln!(report, "{w}\t{state}\t{}\t{}\t{bch}", word.iterations, word.unsatisfied.len()).unwrap();
+            let (iterations, left, changed) = (word.iterations, word.unsatisfied.len(), word.changed);
+            writeln!(report, "{w}\t{state}\t{iterations}\t{left}\t{bch}\t{changed}").unwrap();
             let what = match (word.state, word.bch, word.iterations) {
                 (State::Waiting, ..) => "",
                 (State::Held, _, 0) => " at 0",
@@ -89,6 +90,7 @@ impl Text {
             };
             count(&format!("words {state}{what}"));
         }
+        rounds::tell(counts, &ran.words);
         report
     }
 }
@@ -392,7 +394,7 @@ fn malformed(seen: &mut Seen) {
 fn main() {
     let mut seen = Seen::default();
     let mut choice = Choice(2026);
-    assert_eq!(example().report(&mut BTreeMap::new()), "finished\t0\n0\tmet\t0\t0\t0\n1\tunmet\t0\t1\t1\n");
+    assert_eq!(example().report(&mut BTreeMap::new()), "finished\t0\n0\tmet\t0\t0\t0\t0\n1\tunmet\t0\t1\t1\t0\n");
     seen.right(&example());
     for (step, limit) in [(None, 0), (None, 5), (Some(1), 5), (Some(374), 65_535)] {
         seen.right(&errors(step, limit));

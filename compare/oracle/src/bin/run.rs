@@ -11,6 +11,9 @@
 //! a seed of four. The state starts at the seed plus w. For each place six numbers are drawn: the value is a, or -a where the base word has a 1, and noise of -b to b;
 //! it is negated by chance of c in 256, any value by chance of d, one of -128, -1, 0, 1, 127 by chance of e; then clamped.
 //!
+//! In the second file a case has a line, and each of its words one: state, iterations, unsatisfied checks, BCH result, 1 (the
+//! named check is right), and the bits that LDPC changed.
+//!
 //! The output is lent with (7i + 13) mod 251 at place i, work with 77, lists with 777,777,777, and the tally with 901 to 905.
 
 use oracle::bch;
@@ -234,7 +237,8 @@ impl Seen {
         for word in &ran.words {
             let state = word.state as u32;
             let bch = word.bch.map_or("-".into(), |fixed| fixed.to_string());
-            writeln!(self.output, "{state} {} {} {bch} 1", word.iterations, word.unsatisfied.len()).unwrap();
+            let left = word.unsatisfied.len();
+            writeln!(self.output, "{state} {} {left} {bch} 1 {}", word.iterations, word.changed).unwrap();
         }
         self.cases += 1;
         self.tell(case, &ran);
@@ -261,7 +265,7 @@ impl Seen {
                         (State::Met, _) => "met after some",
                         _ => "unmet",
                     };
-                    let bch = match (bch, word.changed) {
+                    let bch = match (bch, word.flipped) {
                         (Some(0), _) => "clean",
                         (Some(_), _) => "corrected",
                         (None, false) => "lost unchanged",
@@ -273,6 +277,7 @@ impl Seen {
             self.count(&format!("words {end}"));
             self.count("words");
         }
+        rounds::tell(&mut self.counts, &ran.words);
     }
 }
 

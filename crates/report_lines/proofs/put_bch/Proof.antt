@@ -28,7 +28,7 @@ returns c =
     let at-if1 = at-put-text .before .before .before in
     let s = at-if1 .before .before in
     subst
-    (λ (b : Bool). Wrote (bchText b (s .args .corrected) ++ 10 ∷ []) (s .args .at) (now (s .args .out)) (at-put-text .put-text .result) (at-put-text .put-text .last .0))
+    (λ (b : Bool). Wrote (bchText b (s .args .corrected) ++ 9 ∷ []) (s .args .at) (now (s .args .out)) (at-put-text .put-text .result) (at-put-text .put-text .last .0))
     (sym (at-if1 .if1 .taken)) (at-put-text .put-text .ensures)
 
 same-length-2 : tie.Need-same-length-2
@@ -41,7 +41,7 @@ returns-2 c =
     let s = at-if1 .before .before in
     subst
     (λ (b : Bool).
-    Wrote (bchText b (s .args .corrected) ++ 10 ∷ []) (s .args .at) (now (s .args .out)) (at-put-field .put-field .result) (at-put-field .put-field .last .0))
+    Wrote (bchText b (s .args .corrected) ++ 9 ∷ []) (s .args .at) (now (s .args .out)) (at-put-field .put-field .result) (at-put-field .put-field .last .0))
     (sym (at-if1 .if1 .left)) (at-put-field .put-field .ensures)
 
 pub put-bch-spec : {M : Type 1} → statement M
