@@ -8,7 +8,7 @@ use Rattle.iteration.specs.Check.{Word}
 use Rattle.ldpc_shape.specs.Shape.{pOf, sizesOf}
 use Rattle.iteration.specs.Code.{codeOf}
 use Rattle.schedule.specs.Alone.{after, ends}
-use Rattle.outcome.specs.Outcome.{Outcome, begin, bitsOf, metOf, alone}
+use Rattle.outcome.specs.Outcome.{Outcome, begin, bitsOf, changedOf, metOf, alone}
 use Rattle.decoder_plan.specs.Plan.{planOf}
 use Rattle.decoder_plan.specs.declared.Plan.{Plan}
 use Rattle.decoder_plan.specs.declared.Settings.{Settings}
@@ -63,3 +63,7 @@ module _ (n : ℕ) (lens addrs : List ℕ) where
 
   abbrev pub bitsAlone : Settings → List ℤ → List ℕ
   bitsAlone set own = bitsOf n (after (begin n own) (iterateBy set) (atEnd set own))
+
+  -- the bits changed in a word alone after i iterations
+  abbrev pub changedAlone : Settings → List ℤ → ℕ → ℕ
+  changedAlone set own i = changedOf n (begin n own) (after (begin n own) (iterateBy set) i)
