@@ -1,0 +1,110 @@
+-- The ways through `push`: refused, passed over, taken.
+use mathlib.Core.Path.{_≡_, refl, sym, ap, _∙_, subst}
+use mathlib.Core.Logic.{_≢_}
+use mathlib.Core.Bool.{Bool, true, false, cond}
+use mathlib.Core.List.{List, [], _∷_, _++_}
+use Prim.Native.Nat.{ℕ, suc, _*_, _≤_, _<_}
+use native.Mathlib.Decide.{ℕ-discrete, decLt}
+use native.Mathlib.Omega.{arith}
+use borrow.Author.Tests.{lt-ltb, le-ltb, eq-eqb, ne-eqb}
+use lib.Dec.{eqb, ltb}
+use lib.ListN.{length}
+use Rattle.outcome.specs.Outcome.{isFinished}
+use Rattle.window.specs.declared.Record.{Record}
+use Rattle.window.specs.declared.Window.{Window}
+use Rattle.window.specs.declared.Pushed.{Pushed}
+use Rattle.window.specs.declared.Pushed.the-variants.{Now, Refused}
+use Rattle.window.specs.Figures.{finishedIn, Shows}
+use Rattle.window.specs.Push.{pushRefusal, slotOf, leaving, written, moved, Handed, empty, taken, pushed, series, Fit, pushedNumber, pushedOf, ringOut, Pushes}
+use Rattle.window.specs.Series.{shows, series-long, series-snoc}
+
+-- ---- each test of the code
+pub zero-width : (w room : ℕ) → w ≡ 0 → pushRefusal w room ≡ 14
+unfolding pushRefusal
+zero-width w room e = simp (eq-eqb w 0 e)
+
+pub great-width : (w room : ℕ) → w ≢ 0 → 4096 < w → pushRefusal w room ≡ 14
+unfolding pushRefusal
+great-width w room ne h = simp (ne-eqb w 0 ne, lt-ltb 4096 w h)
+
+pub short-ring : (w room : ℕ) → w ≢ 0 → w ≤ 4096 → room < 3 * w → pushRefusal w room ≡ 13
+unfolding pushRefusal
+short-ring w room ne h g = simp (ne-eqb w 0 ne, le-ltb 4096 w h, lt-ltb room (3 * w) g)
+
+pub fair : (w room : ℕ) → w ≢ 0 → w ≤ 4096 → 3 * w ≤ room → pushRefusal w room ≡ 0
+unfolding pushRefusal
+fair w room ne h g = simp (ne-eqb w 0 ne, le-ltb 4096 w h, le-ltb room (3 * w) g)
+
+-- what an accepted call knows
+pub record Fair (w room : ℕ) : Type 0 where
+  pub some : 0 < w
+  pub few : w ≤ 4096
+  pub long : 3 * w ≤ room
+
+pub accepted : (w room : ℕ) → pushRefusal w room ≡ 0 → Fair w room
+accepted w room e = zero (ℕ-discrete w 0)
+  where
+    last : w ≢ 0 → w ≤ 4096 → Dec (room < 3 * w) → Fair w room
+    last ne h (yes g) = absurd (omega (arith, e, short-ring w room ne h g))
+    last ne h (no g) = record { some = omega (arith, ne); few = h; long = omega arith }
+
+    great : w ≢ 0 → Dec (4096 < w) → Fair w room
+    great ne (yes g) = absurd (omega (arith, e, great-width w room ne g))
+    great ne (no g) = last ne (omega arith) (decLt room (3 * w))
+
+    zero : Dec (w ≡ 0) → Fair w room
+    zero (yes z) = absurd (omega (arith, e, zero-width w room z))
+    zero (no ne) = great ne (decLt 4096 w)
+
+module _ (w : ℕ) (W : Window) (r : Record) (ring : List ℕ) where
+  abbrev H : Handed
+  H = record { window = W; ring = ring }
+
+  abbrev F : ℕ
+  F = pushRefusal w (length ring)
+
+  abbrev windowIn : Pushed → Window
+  windowIn (Now A) = A
+  windowIn (Refused f) = W
+
+  abbrev isNow : Pushed → ℕ
+  isNow (Now A) = 0
+  isNow (Refused f) = 1
+
+  pub refuses : (f : ℕ) → f ≢ 0 → f ≡ F → Pushes w W r ring ring (Refused f)
+  unfolding pushedOf ringOut
+  refuses f ne e =
+      let no : eqb F 0 ≡ false = ne-eqb F 0 (λ z. ne (e ∙ z)) in
+      record {
+        answer = ap Refused e ∙ sym (ap (λ (b : Bool). cond b (Now (pushed w H r .window)) (Refused F)) no);
+        number = e;
+        ring-is = sym (ap (λ (b : Bool). cond b (pushed w H r .ring) ring) no);
+        afresh = λ rs ring₀ fit so W′ now. absurd (omega (arith, ap isNow now));
+      }
+
+  pub accepts : F ≡ 0 → (h : Handed) → h ≡ pushed w H r → Pushes w W r ring (h .ring) (Now (h .window))
+  unfolding pushedOf ringOut
+  accepts e h eh =
+      let yes : eqb F 0 ≡ true = eq-eqb F 0 e in
+      record {
+        answer = ap (λ (x : Handed). Now (x .window)) eh ∙ sym (ap (λ (b : Bool). cond b (Now (pushed w H r .window)) (Refused F)) yes);
+        number = sym e;
+        ring-is = ap (λ (x : Handed). x .ring) eh ∙ sym (ap (λ (b : Bool). cond b (pushed w H r .ring) ring) yes);
+        afresh = λ rs ring₀ fit so W′ now.
+            let k = accepted w (length ring) e in
+            let room : 3 * w ≤ length ring₀ = omega (arith, k .long, ap (λ (x : Handed). length (x .ring)) so, series-long w (empty ring₀) rs) in
+            let same : series w (empty ring₀) (rs ++ r ∷ []) ≡ h = series-snoc w (empty ring₀) rs r ∙ ap (λ (x : Handed). pushed w x r) (sym so) ∙ sym eh in
+            subst (Shows w (finishedIn (rs ++ r ∷ []))) (ap (λ (x : Handed). x .window) same ∙ ap windowIn now)
+            (shows w (k .some) (k .few) (rs ++ r ∷ []) fit ring₀ room);
+      }
+
+  pub passes : isFinished (r .state) ≡ false → H ≡ pushed w H r
+  unfolding pushed
+  passes e = sym (ap (λ (b : Bool). cond b (taken w H r) H) e)
+
+  pub takes : isFinished (r .state) ≡ true → (s : ℕ) (old : Record) → s ≡ slotOf w (W .at) → old ≡ leaving w (W .words) ring s
+      → record { window = moved w W s old r; ring = written ring s r } ≡ pushed w H r
+  unfolding pushed taken
+  takes e s old es eo =
+      (λ i. record { window = moved w W (es i) ((eo ∙ ap (leaving w (W .words) ring) es) i) r; ring = written ring (es i) r })
+      ∙ sym (ap (λ (b : Bool). cond b (taken w H r) H) e)
