@@ -218,9 +218,9 @@ uint32_t raxdov_window_words(void);
 /* One record more of a long series, in a window over the last finished words.
    width    how many words the window covers, 1 to 4,096
    window   enum raxdov_window, read and written; zeros to begin with
-   record   enum raxdov_record of one word, as raxdov_run writes it; its state, iterations and BCH result are read. A
-            record whose state is neither RAXDOV_MET nor RAXDOV_UNMET is passed over: the call returns 0, and window
-            and ring are as they were. Otherwise any numbers will do
+   numbers  one word's record (enum raxdov_record), as raxdov_run writes it; its state, iterations and BCH result are
+            read. A record whose state is neither RAXDOV_MET nor RAXDOV_UNMET is passed over: the call returns 0, and
+            window and ring are as they were. Otherwise any numbers will do
    ring     the records that the window covers: 3 * width elements. Beside an empty window what it holds does not
             matter, so one that begins anew needs only its window set to zeros
    Window and ring belong together: hand both on as the call before left them, with the same width. Then the figures
@@ -228,7 +228,7 @@ uint32_t raxdov_window_words(void);
    fewer. If they were altered, or the width is another, the call stays within its slices all the same, but the figures
    mean nothing. The time of a call does not depend on the width.
    Refused by 14, 13, whatever the record: window and ring are then unchanged. */
-uint32_t raxdov_window_push(uint32_t width, uint64_t window[5], const uint32_t record[6], uint32_t *ring,
+uint32_t raxdov_window_push(uint32_t width, uint64_t window[5], const uint32_t numbers[6], uint32_t *ring,
                             size_t ring_len);
 
 #ifdef __cplusplus

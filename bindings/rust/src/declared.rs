@@ -126,7 +126,7 @@ unsafe extern "C" {
     pub fn raxdov_window_push(
         width: u32,
         window: *mut [u64; 5],
-        record: *const [u32; 6],
+        numbers: *const [u32; 6],
         ring: *mut u32,
         ring_len: usize,
     ) -> u32;
