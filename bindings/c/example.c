@@ -127,5 +127,6 @@ int main(void)
     run(0, UINT32_MAX);  /* too many are left */
     run(50, 2);          /* the round limit comes first: the word is held, and the window passes it over */
     run(50, UINT32_MAX);
+    run(4, UINT32_MAX); /* the lost word leaves the window */
     return 0;
 }
