@@ -1,13 +1,13 @@
 -- The ways through `push`: refused, passed over, taken.
-use mathlib.Core.Path.{_≡_, refl, sym, ap, _∙_, subst}
+use mathlib.Core.Path.{_≡_, sym, ap, ap₂, _∙_, subst}
 use mathlib.Core.Logic.{_≢_}
 use mathlib.Core.Bool.{Bool, true, false, cond}
 use mathlib.Core.List.{List, [], _∷_, _++_}
-use Prim.Native.Nat.{ℕ, suc, _*_, _≤_, _<_}
+use Prim.Native.Nat.{ℕ, _*_, _≤_, _<_}
 use native.Mathlib.Decide.{ℕ-discrete, decLt}
 use native.Mathlib.Omega.{arith}
 use borrow.Author.Tests.{lt-ltb, le-ltb, eq-eqb, ne-eqb}
-use lib.Dec.{eqb, ltb}
+use lib.Dec.{eqb}
 use lib.ListN.{length}
 use Rattle.outcome.specs.Outcome.{isFinished}
 use Rattle.window.specs.declared.Record.{Record}
@@ -15,8 +15,8 @@ use Rattle.window.specs.declared.Window.{Window}
 use Rattle.window.specs.declared.Pushed.{Pushed}
 use Rattle.window.specs.declared.Pushed.the-variants.{Now, Refused}
 use Rattle.window.specs.Figures.{finishedIn, Shows}
-use Rattle.window.specs.Push.{pushRefusal, slotOf, leaving, written, moved, Handed, empty, taken, pushed, series, Fit, pushedNumber, pushedOf, ringOut, Pushes}
-use Rattle.window.specs.Series.{shows, series-long, series-snoc}
+use Rattle.window.specs.Push.{pushRefusal, slotOf, leaving, written, moved, Handed, empty, taken, pushed, series, pushedOf, ringOut, Pushes}
+use Rattle.window.specs.Series.{series-shows, series-long, series-snoc}
 
 -- ---- each test of the code
 pub zero-width : (w room : ℕ) → w ≡ 0 → pushRefusal w room ≡ 14
@@ -95,16 +95,13 @@ module _ (w : ℕ) (W : Window) (r : Record) (ring : List ℕ) where
             let room : 3 * w ≤ length ring₀ = omega (arith, k .long, ap (λ (x : Handed). length (x .ring)) so, series-long w (empty ring₀) rs) in
             let same : series w (empty ring₀) (rs ++ r ∷ []) ≡ h = series-snoc w (empty ring₀) rs r ∙ ap (λ (x : Handed). pushed w x r) (sym so) ∙ sym eh in
             subst (Shows w (finishedIn (rs ++ r ∷ []))) (ap (λ (x : Handed). x .window) same ∙ ap windowIn now)
-            (shows w (k .some) (k .few) (rs ++ r ∷ []) fit ring₀ room);
+            (series-shows w (k .some) (k .few) (rs ++ r ∷ []) fit ring₀ room);
       }
 
-  pub passes : isFinished (r .state) ≡ false → H ≡ pushed w H r
-  unfolding pushed
-  passes e = sym (ap (λ (b : Bool). cond b (taken w H r) H) e)
-
-  pub takes : isFinished (r .state) ≡ true → (s : ℕ) (old : Record) → s ≡ slotOf w (W .at) → old ≡ leaving w (W .words) ring s
-      → record { window = moved w W s old r; ring = written ring s r } ≡ pushed w H r
+  pub takes : isFinished (r .state) ≡ true → (s : ℕ) (old : Record) (W′ : Window) (ring′ : List ℕ) → s ≡ slotOf w (W .at) → old ≡ leaving w (W .words) ring s
+      → W′ ≡ moved w W s old r → ring′ ≡ written ring s r → record { window = W′; ring = ring′ } ≡ pushed w H r
   unfolding pushed taken
-  takes e s old es eo =
-      (λ i. record { window = moved w W (es i) ((eo ∙ ap (leaving w (W .words) ring) es) i) r; ring = written ring (es i) r })
+  takes e s old W′ ring′ es eo eW er =
+      let whole : old ≡ leaving w (W .words) ring (slotOf w (W .at)) = eo ∙ ap (leaving w (W .words) ring) es in
+      (λ i. record { window = (eW ∙ ap₂ (λ (k : ℕ) (o : Record). moved w W k o r) es whole) i; ring = (er ∙ ap (λ (k : ℕ). written ring k r) es) i })
       ∙ sym (ap (λ (b : Bool). cond b (taken w H r) H) e)

@@ -1,14 +1,13 @@
--- The figures after any series of records: `shows`, one theorem over every figure.
+-- The figures after any series of records: `series-shows`, one theorem over every figure.
 use mathlib.Core.Path.{_≡_, refl, sym, ap, ap₂, _∙_, subst}
-use mathlib.Core.Logic.{_≢_}
 use mathlib.Core.Bool.{Bool, true, false, cond}
 use mathlib.Core.List.{List, [], _∷_, _++_, append-assoc, append-nil}
-use Prim.Native.Nat.{ℕ, zero, suc, _+_, _-_, _*_, _%_, _^_, _≤_, _<_}
+use Prim.Native.Nat.{ℕ, suc, _+_, _-_, _*_, _%_, _^_, _≤_, _<_}
 use native.Mathlib.Nat.{mod-lt, mod-eq-of-lt, mul-le-mul-right}
 use native.Mathlib.Decide.{ℕ-discrete, decLe, decLt}
 use native.Mathlib.Omega.{arith}
 use borrow.Author.Tests.{lt-ltb, le-ltb}
-use lib.Dec.{eqb, ltb}
+use lib.Dec.{ltb}
 use lib.ListN.{length, getD, drop, length-append, length-drop, List·getD-append}
 use lib.Seq.{getD-drop, drop-nil, drop-cons, drop-append-le, getD-append-add}
 use Rattle.outcome.specs.Outcome.{isFinished, isLost, lostOf, lost}
@@ -275,8 +274,8 @@ holds-series w some few (r ∷ rs) fit before h H =
 
 -- From an empty window, through any series of records at one width, whatever the ring held at first: each figure equals the one worked out afresh from the last
 -- w finished records.
-pub shows : (w : ℕ) → 0 < w → w ≤ 4096 → (rs : List Record) → Fit rs → (ring : List ℕ) → 3 * w ≤ length ring → Shows w (finishedIn rs) (series w (empty ring) rs .window)
-shows w some few rs fit ring room = holds-series w some few rs fit [] (empty ring) (holds-none w ring some room) .shown
+pub series-shows : (w : ℕ) → 0 < w → w ≤ 4096 → (rs : List Record) → Fit rs → (ring : List ℕ) → 3 * w ≤ length ring → Shows w (finishedIn rs) (series w (empty ring) rs .window)
+series-shows w some few rs fit ring room = holds-series w some few rs fit [] (empty ring) (holds-none w ring some room) .shown
 
 -- ---- the ring keeps its length, and a series may end in one record more
 pub pushed-long : (w : ℕ) (h : Handed) (r : Record) → length (pushed w h r .ring) ≡ length (h .ring)

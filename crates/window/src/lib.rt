@@ -85,17 +85,17 @@ fn oldest(width: u64, words: u64, ring: &[u32], slot: usize) -> Record
     requires { ⌜ 3 * slot + 3 ≤ length (now ring) ⌝ }
     ensures { λ r. ⌜ r ≡ leaving width words (now (ring .entry)) slot ⌝ }
 {
-    if words < width {
-        Record {
-            state: 0,
-            iterations: 0,
-            bch: 0,
-        }
-    } else {
+    if width <= words {
         Record {
             state: ring[3 * slot],
             iterations: ring[3 * slot + 1],
             bch: ring[3 * slot + 2],
+        }
+    } else {
+        Record {
+            state: 0,
+            iterations: 0,
+            bch: 0,
         }
     }
 }

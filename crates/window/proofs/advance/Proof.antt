@@ -1,6 +1,5 @@
 -- `window::advance` meets its contract. Assumes nothing.
-use mathlib.Core.Path.{_≡_, ap, ap₂, _∙_}
-use native.Mathlib.Omega.{arith}
+use mathlib.Core.Path.{ap₂, _∙_}
 use borrow.Author.Needs.{needs}
 use Rattle.window.specs.Figures.{lostBy, iterationsBy}
 use Rattle.window.specs.Push.{slid, moved}

@@ -41,11 +41,11 @@ shared-slice-read-t20 c = search needs
 
 returns : tie.Need-returns
 unfolding leaving recordIn
-returns c = sym (simp (lt-ltb _ _ (c .if1 .taken)))
+returns c = sym (simp (le-ltb _ _ (c .before .before .before .if1 .taken)))
 
 returns-2 : tie.Need-returns-2
 unfolding leaving recordIn
-returns-2 c = sym (simp (le-ltb _ _ (c .before .before .before .if1 .left)))
+returns-2 c = sym (simp (lt-ltb _ _ (c .if1 .left)))
 
 pub oldest-spec : {M : Type 1} → statement M
 oldest-spec =

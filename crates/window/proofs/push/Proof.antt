@@ -1,13 +1,14 @@
 -- `window::push` meets its contract. Assumes nothing.
-use mathlib.Core.Path.{_≡_, sym, ap, _∙_}
-use Prim.Native.Nat.{ℕ, _<_}
+use mathlib.Core.Path.{_≡_, sym, _∙_}
+use Prim.Native.Nat.{_<_}
 use lib.ListN.{length}
 use native.Mathlib.Omega.{arith}
 use borrow.Author.Needs.{needs}
 use borrow.Author.Tests.{not-true, not-false}
 use Rattle.window.specs.Push.{pushRefusal}
 use Rattle.window.specs.Ring.{slot-below}
-use Rattle.window.specs.PushLaws.{Fair, accepted, refuses, accepts, passes, takes}
+use Rattle.window.specs.Series.{passed-over}
+use Rattle.window.specs.PushLaws.{Fair, accepted, refuses, accepts, takes}
 use Rattle.window.proofs.push.Statement.{statement}
 use Rattle.window.proofs.push.Tie as tie
 
@@ -53,7 +54,7 @@ returns-2 c =
     let r = asked (c .before) in
     let s = start r in
     accepts (s .args .width) (s .args .was) (s .args .new) (s .args .ring .now) (no-refusal (c .before)) _
-    (passes (s .args .width) (s .args .was) (s .args .new) (s .args .ring .now) (sym (c .before .is-finished .ensures) ∙ not-true _ (c .if2 .taken)))
+    (sym (passed-over (s .args .width) (record { window = s .args .was; ring = s .args .ring .now }) (s .args .new) (sym (c .before .is-finished .ensures) ∙ not-true _ (c .if2 .taken))))
 
 slot-of-requires : tie.Need-slot-of-requires
 slot-of-requires c κs = search needs
@@ -78,8 +79,8 @@ returns-3 c =
     let s = start (asked (placed a)) in
     let now-finished = sym (placed a .is-finished .ensures) ∙ not-false _ (a .before .if2 .left) in
     accepts (s .args .width) (s .args .was) (s .args .new) (s .args .ring .now) (no-refusal (placed a)) (record { window = c .advance .result; ring = p .put .last .0 })
-    ((λ i. record { window = c .advance .ensures i; ring = p .put .ensures i })
-    ∙ takes (s .args .width) (s .args .was) (s .args .new) (s .args .ring .now) now-finished (a .slot-of .result) (o .oldest .result) (a .slot-of .ensures) (o .oldest .ensures))
+    (takes (s .args .width) (s .args .was) (s .args .new) (s .args .ring .now) now-finished (a .slot-of .result) (o .oldest .result) (c .advance .result) (p .put .last .0)
+    (a .slot-of .ensures) (o .oldest .ensures) (c .advance .ensures) (p .put .ensures))
 
 pub push-spec : {M : Type 1} → statement M
 push-spec =

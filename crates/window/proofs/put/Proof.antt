@@ -1,15 +1,12 @@
 -- `window::put` meets its contract. Assumes nothing.
-use mathlib.Core.Path.{_≡_, refl, sym, ap, _∙_}
+use mathlib.Core.Path.{refl}
 use native.Mathlib.Omega.{arith}
 use Prim.Native.Nat.{_+_, _*_}
 use lib.ListN.{set, length-set}
-use borrow.Author.Tests.{eq-eqb, ne-eqb, lt-ltb, le-ltb, le-leb, lt-leb}
 use Rattle.window.specs.Push.{written}
 use borrow.Author.Needs.{needs}
 use Rattle.window.proofs.put.Statement.{statement}
 use Rattle.window.proofs.put.Tie as tie
-use Rattle.window.proofs.put.Reads as reads
-use Rattle.window.proofs.put.Lts as lts
 
 mul-ring : tie.Need-mul-ring
 mul-ring c = search needs
