@@ -5,7 +5,7 @@ use Prim.Native.Nat.{ℕ}
 use Rattle.outcome.specs.Outcome.{isFinished, isLost, lostOf, lost}
 use Rattle.window.specs.declared.Record.{Record}
 use Rattle.window.specs.declared.Window.{Window}
-use Rattle.window.specs.Figures.{finishedIn, lastOf, sumOf, lostBy, iterationsBy, correctedBy}
+use Rattle.window.specs.Figures.{finishedIn, lastOf, lostBy, iterationsBy, correctedBy}
 use Rattle.window.specs.Push.{recordIn, written, slotOf, nextAt, nextWords, leaving, slid, moved, empty, taken, pushed, series, pushRefusal}
 
 abbrev with : ℕ → ℕ → ℕ → Record

@@ -3,8 +3,9 @@
 use mathlib.Core.Path.{_≡_}
 use mathlib.Core.Bool.{cond}
 use mathlib.Core.List.{List, [], _∷_}
-use Prim.Native.Nat.{ℕ, _+_, _-_}
+use Prim.Native.Nat.{ℕ, _-_}
 use lib.ListN.{length, drop}
+use Rattle.schedule.specs.Status.{sum}
 use Rattle.outcome.specs.Outcome.{isFinished, isLost, lostOf}
 use Rattle.window.specs.declared.Record.{Record}
 use Rattle.window.specs.declared.Window.{Window}
@@ -17,10 +18,6 @@ finishedIn (r ∷ rs) = cond (isFinished (r .state)) (r ∷ finishedIn rs) (fini
 -- "the last w records or all if there are fewer"
 unfoldable pub lastOf : ℕ → List Record → List Record
 lastOf w rs = drop (length rs - w) rs
-
-unfoldable pub sumOf : (Record → ℕ) → List Record → ℕ
-sumOf f [] = 0
-sumOf f (r ∷ rs) = f r + sumOf f rs
 
 -- ---- what a record adds to each figure
 unfoldable pub lostBy : Record → ℕ
@@ -36,6 +33,6 @@ correctedBy r = cond (isLost (r .bch)) 0 (r .bch)
 -- "each figure equals one worked out afresh from those records": of a window of width w over the finished records rs
 pub record Shows (w : ℕ) (rs : List Record) (W : Window) : Type 0 where
   pub words : W .words ≡ length (lastOf w rs)
-  pub lost : W .lost ≡ sumOf lostBy (lastOf w rs)
-  pub iterations : W .iterations ≡ sumOf iterationsBy (lastOf w rs)
-  pub corrected : W .corrected ≡ sumOf correctedBy (lastOf w rs)
+  pub lost : W .lost ≡ sum lostBy (lastOf w rs)
+  pub iterations : W .iterations ≡ sum iterationsBy (lastOf w rs)
+  pub corrected : W .corrected ≡ sum correctedBy (lastOf w rs)

@@ -10,10 +10,11 @@ use borrow.Author.Tests.{lt-ltb, le-ltb}
 use lib.Dec.{ltb}
 use lib.ListN.{length, getD, drop, length-append, length-drop, List·getD-append}
 use lib.Seq.{getD-drop, drop-nil, drop-cons, drop-append-le, getD-append-add}
+use Rattle.schedule.specs.Status.{sum}
 use Rattle.outcome.specs.Outcome.{isFinished, isLost, lostOf, lost}
 use Rattle.window.specs.declared.Record.{Record}
 use Rattle.window.specs.declared.Window.{Window}
-use Rattle.window.specs.Figures.{finishedIn, lastOf, sumOf, lostBy, iterationsBy, correctedBy, Shows}
+use Rattle.window.specs.Figures.{finishedIn, lastOf, lostBy, iterationsBy, correctedBy, Shows}
 use Rattle.window.specs.Push.{none, recordIn, written, slotOf, nextAt, nextWords, leaving, slid, moved, Handed, empty, taken, pushed, series, Fit}
 use Rattle.window.specs.Ring.{next-mod, apart, oldest-slot, written-long, written-here, written-else}
 
@@ -21,13 +22,13 @@ use Rattle.window.specs.Ring.{next-mod, apart, oldest-slot, written-long
 abbrev largest : ℕ
 largest = 4294967295
 
-sum-snoc : (f : Record → ℕ) (rs : List Record) (r : Record) → sumOf f (rs ++ r ∷ []) ≡ sumOf f rs + f r
-unfolding sumOf
+sum-snoc : (f : Record → ℕ) (rs : List Record) (r : Record) → sum f (rs ++ r ∷ []) ≡ sum f rs + f r
+unfolding sum
 sum-snoc f [] r = omega arith
 sum-snoc f (q ∷ rs) r = omega (arith, sum-snoc f rs r)
 
-sum-le : (f : Record → ℕ) (rs : List Record) → ((i : ℕ) → i < length rs → f (getD rs i none) ≤ largest) → sumOf f rs ≤ length rs * largest
-unfolding sumOf
+sum-le : (f : Record → ℕ) (rs : List Record) → ((i : ℕ) → i < length rs → f (getD rs i none) ≤ largest) → sum f rs ≤ length rs * largest
+unfolding sum
 sum-le f [] h = omega arith
 sum-le f (r ∷ rs) h = omega (arith, h 0 (omega arith), sum-le f rs (λ i q. h (suc i) (omega arith)))
 
@@ -37,12 +38,12 @@ slid-is s m l h g = omega arith
 
 module _ (f : Record → ℕ) (w : ℕ) (few : w ≤ 4096) (rs : List Record) (small : (i : ℕ) → i < length rs → f (getD rs i none) ≤ largest) where
   -- what is counted fits
-  pub figure-le : sumOf f (lastOf w rs) ≤ 4096 * largest
+  pub figure-le : sum f (lastOf w rs) ≤ 4096 * largest
   unfolding lastOf
   figure-le =
       let d = drop (length rs - w) rs in
       let k : length d ≤ 4096 = omega (arith, length-drop (length rs - w) rs) in
-      let b : sumOf f d ≤ length d * largest =
+      let b : sum f d ≤ length d * largest =
       sum-le f d (λ i q. subst (λ (x : Record). f x ≤ largest) (sym (getD-drop (length rs - w) rs i none)) (small (length rs - w + i) (omega (arith, q, length-drop (length rs - w) rs)))) in
       omega (arith, mul-le-mul-right {m = length d} {n = 4096} largest k)
 
@@ -53,36 +54,36 @@ module _ (f : Record → ℕ) (w : ℕ) (some : 0 < w) (few : w ≤ 4096) (rs : 
   long : length (rs ++ r ∷ []) ≡ L + 1
   long = length-append rs (r ∷ [])
 
-  fits : sumOf f (drop (L - w) rs) ≤ 4096 * largest
+  fits : sum f (drop (L - w) rs) ≤ 4096 * largest
   unfolding lastOf
   fits = figure-le f w few rs small
 
   -- the window is not yet full
-  grows : L < w → slid (sumOf f (lastOf w rs)) (f r) 0 ≡ sumOf f (lastOf w (rs ++ r ∷ []))
+  grows : L < w → slid (sum f (lastOf w rs)) (f r) 0 ≡ sum f (lastOf w (rs ++ r ∷ []))
   unfolding lastOf
   grows h =
       let a : length (rs ++ r ∷ []) - w ≡ 0 = omega (arith, long) in
       let b : L - w ≡ 0 = omega arith in
-      slid-is (sumOf f (drop (L - w) rs)) (f r) 0 (omega (arith, fits, small-r)) (omega arith)
-      ∙ less (sumOf f (drop (L - w) rs) + f r)
-      ∙ ap (λ (k : ℕ). sumOf f (drop k rs) + f r) b
-      ∙ sym (ap (λ (k : ℕ). sumOf f (drop k (rs ++ r ∷ []))) a ∙ sum-snoc f rs r)
+      slid-is (sum f (drop (L - w) rs)) (f r) 0 (omega (arith, fits, small-r)) (omega arith)
+      ∙ less (sum f (drop (L - w) rs) + f r)
+      ∙ ap (λ (k : ℕ). sum f (drop k rs) + f r) b
+      ∙ sym (ap (λ (k : ℕ). sum f (drop k (rs ++ r ∷ []))) a ∙ sum-snoc f rs r)
     where
       less : (x : ℕ) → x - 0 ≡ x
       less x = omega arith
 
   -- it is full: the oldest leaves
-  slides : w ≤ L → slid (sumOf f (lastOf w rs)) (f r) (f (getD rs (L - w) none)) ≡ sumOf f (lastOf w (rs ++ r ∷ []))
-  unfolding lastOf sumOf
+  slides : w ≤ L → slid (sum f (lastOf w rs)) (f r) (f (getD rs (L - w) none)) ≡ sum f (lastOf w (rs ++ r ∷ []))
+  unfolding lastOf sum
   slides h =
       let j = L - w in
       let a : length (rs ++ r ∷ []) - w ≡ suc j = omega (arith, long) in
       let inside : j < L = omega arith in
-      let old : sumOf f (drop j rs) ≡ f (getD rs j none) + sumOf f (drop (suc j) rs) = ap (sumOf f) (drop-cons rs j none inside) in
-      let new : sumOf f (drop (suc j) (rs ++ r ∷ [])) ≡ sumOf f (drop (suc j) rs) + f r = ap (sumOf f) (drop-append-le (suc j) rs (r ∷ []) (omega arith)) ∙ sum-snoc f (drop (suc j) rs) r in
-      let flat : sumOf f (drop j rs) + f r - f (getD rs j none) ≡ sumOf f (drop (suc j) rs) + f r = omega (arith, old) in
-      slid-is (sumOf f (drop j rs)) (f r) (f (getD rs j none)) (omega (arith, fits, small-r)) (omega (arith, old)) ∙ flat
-      ∙ sym (ap (λ (k : ℕ). sumOf f (drop k (rs ++ r ∷ []))) a ∙ new)
+      let old : sum f (drop j rs) ≡ f (getD rs j none) + sum f (drop (suc j) rs) = ap (sum f) (drop-cons rs j none inside) in
+      let new : sum f (drop (suc j) (rs ++ r ∷ [])) ≡ sum f (drop (suc j) rs) + f r = ap (sum f) (drop-append-le (suc j) rs (r ∷ []) (omega arith)) ∙ sum-snoc f (drop (suc j) rs) r in
+      let flat : sum f (drop j rs) + f r - f (getD rs j none) ≡ sum f (drop (suc j) rs) + f r = omega (arith, old) in
+      slid-is (sum f (drop j rs)) (f r) (f (getD rs j none)) (omega (arith, fits, small-r)) (omega (arith, old)) ∙ flat
+      ∙ sym (ap (λ (k : ℕ). sum f (drop k (rs ++ r ∷ []))) a ∙ new)
 
 -- ---- what a window and its ring hold of the finished records so far
 record Small (r : Record) : Type 0 where
@@ -96,9 +97,9 @@ record Holds (w : ℕ) (rs : List Record) (h : Handed) : Type 0 where
   held : (i : ℕ) → i < length rs → length rs ≤ i + w → recordIn (h .ring) (i % w) ≡ getD rs i none
   small : (i : ℕ) → i < length rs → Small (getD rs i none)
 
-sum-none : (f : Record → ℕ) (w : ℕ) → 0 ≡ sumOf f (lastOf w [])
-unfolding lastOf sumOf
-sum-none f w = sym (ap (sumOf f) (drop-nil {A = Record} (0 - w)))
+sum-none : (f : Record → ℕ) (w : ℕ) → 0 ≡ sum f (lastOf w [])
+unfolding lastOf sum
+sum-none f w = sym (ap (sum f) (drop-nil {A = Record} (0 - w)))
 
 length-last : (w : ℕ) (rs : List Record) → length (lastOf w rs) ≡ length rs - (length rs - w)
 unfolding lastOf
@@ -190,18 +191,18 @@ module _ (w : ℕ) (some : 0 < w) (few : w ≤ 4096) (rs : List Record) (h : Han
   old-fewer g = ap (λ (b : Bool). cond b none (recordIn (h .ring) S)) (lt-ltb (W .words) w (omega (arith, words-fewer g)))
 
   -- every figure by one law
-  figure-moves : (f : Record → ℕ) → f none ≡ 0 → ((q : Record) → Small q → f q ≤ largest) → (x : ℕ) → x ≡ sumOf f (lastOf w rs)
-      → slid x (f r) (f old) ≡ sumOf f (lastOf w (rs ++ r ∷ []))
+  figure-moves : (f : Record → ℕ) → f none ≡ 0 → ((q : Record) → Small q → f q ≤ largest) → (x : ℕ) → x ≡ sum f (lastOf w rs)
+      → slid x (f r) (f old) ≡ sum f (lastOf w (rs ++ r ∷ []))
   figure-moves f zero-f small-f x e = at (decLe w N)
     where
       small : (i : ℕ) → i < N → f (getD rs i none) ≤ largest
       small i q = small-f (getD rs i none) (H .small i q)
 
-      at : Dec (w ≤ N) → slid x (f r) (f old) ≡ sumOf f (lastOf w (rs ++ r ∷ []))
+      at : Dec (w ≤ N) → slid x (f r) (f old) ≡ sum f (lastOf w (rs ++ r ∷ []))
       at (yes g) = ap₂ (λ (y : ℕ) (o : Record). slid y (f r) (f o)) e (old-full g) ∙ slides f w some few rs r small (small-f r sm) g
       at (no g) =
           let l : N < w = omega arith in
-          ap₂ (λ (y : ℕ) (o : Record). slid y (f r) (f o)) e (old-fewer l) ∙ ap (slid (sumOf f (lastOf w rs)) (f r)) zero-f
+          ap₂ (λ (y : ℕ) (o : Record). slid y (f r) (f o)) e (old-fewer l) ∙ ap (slid (sum f (lastOf w rs)) (f r)) zero-f
           ∙ grows f w some few rs r small (small-f r sm) l
 
   words-move : nextWords w (W .words) ≡ length (lastOf w (rs ++ r ∷ []))

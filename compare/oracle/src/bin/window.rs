@@ -3,8 +3,8 @@
 //! original nothing.
 //!
 //! In a series the model keeps every finished record and sums the last ones afresh after each record; it has no ring and no
-//! running sums. Windows that were altered have no meaning that the request gives: for them it works out the rule that
-//! docs/DECISIONS.md has, in numbers that do not wrap.
+//! running sums. A window that was altered has no meaning in the request: for it the rule of docs/DECISIONS.md ("The window") is
+//! worked out, in numbers that do not wrap.
 //!
 //! The form: palettes of 24 bytes, eight each for state, iterations and bch (see `value`), and zeros up to 256 bytes; then 16 bytes a block,
 //! numbers of four: the width, the length of the ring, kind + 4 * palette + 64 * records, and the checksum. Kind 0 goes on with the
@@ -27,13 +27,33 @@ const NUMBERS: [u8; 8] = [0, 12, 50, 252, 253, 254, 255, 255];
 const LARGE: [u8; 8] = [254; 8];
 const FINISHED_STATES: [u8; 8] = [2, 3, 2, 3, 2, 3, 2, 3];
 const PALETTES: [[[u8; 8]; 3]; 7] = [
-    [[2, 3, 2, 3, 2, 0, 4, 254], NUMBERS, [0, 12, 254, 252, 253, 254, 255, 3]],
-    [[2, 3, 2, 3, 3, 1, 5, 255], NUMBERS, [0, 1, 254, 252, 253, 255, 2, 7]],
-    [FINISHED_STATES, NUMBERS, [0, 12, 254, 252, 253, 254, 255, 3]],
-    [[0, 1, 4, 5, 254, 0, 1, 255], NUMBERS, [0, 12, 254, 252, 253, 254, 255, 3]],
+    [
+        [2, 3, 2, 3, 2, 0, 4, 254],
+        NUMBERS,
+        [0, 12, 254, 252, 253, 254, 255, 3],
+    ],
+    [
+        [2, 3, 2, 3, 3, 1, 5, 255],
+        NUMBERS,
+        [0, 1, 254, 252, 253, 255, 2, 7],
+    ],
+    [
+        FINISHED_STATES,
+        NUMBERS,
+        [0, 12, 254, 252, 253, 254, 255, 3],
+    ],
+    [
+        [0, 1, 4, 5, 254, 0, 1, 255],
+        NUMBERS,
+        [0, 12, 254, 252, 253, 254, 255, 3],
+    ],
     [FINISHED_STATES, LARGE, [253; 8]],
     [FINISHED_STATES, [0; 8], LARGE],
-    [[2, 2, 2, 3, 2, 2, 3, 1], [3, 7, 12, 20, 50, 5, 1, 0], [0, 1, 2, 12, 254, 0, 0, 5]],
+    [
+        [2, 2, 2, 3, 2, 2, 3, 1],
+        [3, 7, 12, 20, 50, 5, 1, 0],
+        [0, 1, 2, 12, 254, 0, 0, 5],
+    ],
 ];
 
 /// Numbers of a window that was altered.
@@ -94,11 +114,7 @@ impl Record {
     }
 
     fn corrected(&self) -> u128 {
-        if self.bch == LOST {
-            0
-        } else {
-            self.bch.into()
-        }
+        if self.bch == LOST { 0 } else { self.bch.into() }
     }
 }
 
@@ -200,7 +216,8 @@ fn pushed(width: u32, was: Window, new: Record, ring: &mut [u32]) -> Window {
     own.copy_from_slice(&[new.state, new.iterations, new.bch]);
     let adds = |r: Record| [r.lost().into(), r.iterations.into(), r.corrected()];
     let (more, less) = (adds(new), if full { adds(old) } else { [0; 3] });
-    let sum = |k: usize| ((u128::from(was[2 + k]) + (1 << 64) + more[k] - less[k]) % (1 << 64)) as u64;
+    let sum =
+        |k: usize| ((u128::from(was[2 + k]) + (1 << 64) + more[k] - less[k]) % (1 << 64)) as u64;
     let words = if full { width } else { was[1] + 1 };
     [(slot + 1) % width, words, sum(0), sum(1), sum(2)]
 }
@@ -220,7 +237,15 @@ impl Written {
         *self.reached.entry(what).or_default() += 1;
     }
 
-    fn block(&mut self, width: u32, room: usize, kind: u32, palette: usize, records: u32, sum: u64) {
+    fn block(
+        &mut self,
+        width: u32,
+        room: usize,
+        kind: u32,
+        palette: usize,
+        records: u32,
+        sum: u64,
+    ) {
         let form = kind + 4 * palette as u32 + 64 * records;
         self.blocks.push([width, room as u32, form, sum as u32]);
     }
@@ -230,7 +255,14 @@ impl Written {
             0..4 => ["waiting", "held", "met", "unmet"][r.state as usize],
             _ => "state above 3",
         };
-        self.count(format!("{state}{}", if r.bch == LOST { ", bch 4,294,967,295" } else { "" }));
+        self.count(format!(
+            "{state}{}",
+            if r.bch == LOST {
+                ", bch 4,294,967,295"
+            } else {
+                ""
+            }
+        ));
     }
 
     /// A series: so many records of each palette, in blocks of at most 64, in a ring with a tail.
@@ -238,7 +270,9 @@ impl Written {
         let tail = self.number() as usize % 4 * 5;
         let room = 3 * width as usize + tail;
         let first = self.number();
-        let behind: Vec<u32> = (3 * width..room as u32).map(|j| garbage(first, j)).collect();
+        let behind: Vec<u32> = (3 * width..room as u32)
+            .map(|j| garbage(first, j))
+            .collect();
         let mut finished = Vec::new();
         for &(palette, records) in parts {
             for from in (0..records).step_by(64) {
@@ -255,7 +289,14 @@ impl Written {
                         .fold(mix(sum, 0), mix_wide);
                 }
                 let sum = behind.iter().fold(sum, |h, &v| mix(h, v));
-                self.block(width, room, (self.number() == first).into(), palette, n, sum);
+                self.block(
+                    width,
+                    room,
+                    (self.number() == first).into(),
+                    palette,
+                    n,
+                    sum,
+                );
             }
         }
         let filled = match finished.len().cmp(&(width as usize)) {
@@ -268,7 +309,14 @@ impl Written {
     }
 
     /// One push into a window: one that was altered, or the one of the push before.
-    fn single(&mut self, width: u32, palette: usize, ring: &mut Vec<u32>, window: &mut Window, made: Option<usize>) {
+    fn single(
+        &mut self,
+        width: u32,
+        palette: usize,
+        ring: &mut Vec<u32>,
+        window: &mut Window,
+        made: Option<usize>,
+    ) {
         let number = self.number();
         if let Some(room) = made {
             *ring = (0..room as u32).map(|j| garbage(number, j)).collect();
@@ -279,7 +327,10 @@ impl Written {
         let end = match refused {
             0 if new.finished() => "taken".into(),
             0 => "passed over".into(),
-            _ => format!("refused by {refused}{}", if new.finished() { "" } else { ", unfinished" }),
+            _ => format!(
+                "refused by {refused}{}",
+                if new.finished() { "" } else { ", unfinished" }
+            ),
         };
         self.count(format!("single: {end}"));
         if refused == 0 {
@@ -291,8 +342,12 @@ impl Written {
             }
             *window = pushed(width, *window, new, ring);
         }
-        let sum = window[1..].iter().fold(mix(0, refused), |h, &v| mix_wide(h, v));
-        let sum = ring.iter().fold(mix_wide(sum, window[0]), |h, &v| mix(h, v));
+        let sum = window[1..]
+            .iter()
+            .fold(mix(0, refused), |h, &v| mix_wide(h, v));
+        let sum = ring
+            .iter()
+            .fold(mix_wide(sum, window[0]), |h, &v| mix(h, v));
         let kind = if made.is_some() { 2 } else { 3 };
         self.block(width, ring.len(), kind, palette, 1, sum);
     }
@@ -313,7 +368,10 @@ fn all_series(to: &mut Written) {
         to.series(w, &any(2 * w + 1000));
         to.series(w, &[(USUAL, 2 * w + 100)]);
         // the largest numbers, and after them none
-        to.series(w, &[(LARGEST, w + 104), (ALL_LOST, w + 104), (FINISHED, 100)]);
+        to.series(
+            w,
+            &[(LARGEST, w + 104), (ALL_LOST, w + 104), (FINISHED, 100)],
+        );
         to.series(w, &[(UNFINISHED, 40)]);
         // unfinished records at first, when the window is full but one, when it is, and in between
         to.series(
@@ -346,7 +404,13 @@ fn all_singles(to: &mut Written) {
     for i in 0..500 {
         let width = WIDTHS[i % 5];
         let room = 3 * width as usize + i % 4;
-        to.single(width, if i % 9 == 0 { ANY[0] } else { FINISHED }, &mut ring, &mut window, Some(room));
+        to.single(
+            width,
+            if i % 9 == 0 { ANY[0] } else { FINISHED },
+            &mut ring,
+            &mut window,
+            Some(room),
+        );
     }
     // handed on at another width every few records
     for i in 0..500 {
