@@ -2,6 +2,7 @@
    looks at the last of them. */
 #include <raxdov.h>
 
+#include <inttypes.h>
 #include <stdio.h>
 #include <stdlib.h>
 #include <string.h>
@@ -65,13 +66,14 @@ static void print_record(const uint32_t *record)
     printf(", changed by LDPC %u", (unsigned)record[RAXDOV_RECORD_CHANGED]);
 }
 
-/* Window and ring belong together, and are handed on from record to record. */
-static void print_window(const uint32_t *record)
+/* Window and ring belong together, and are handed on from record to record. (All records here are of one word, for
+   show: a window counts what it is given.) */
+static void push_and_print(const uint32_t *record)
 {
     accepted("window", raxdov_window_push(WIDTH, window, record, ring, sizeof ring / sizeof *ring));
-    printf("  the last %u finished: lost %u, iterations %u, corrected by BCH %u\n",
-           (unsigned)window[RAXDOV_WINDOW_WORDS], (unsigned)window[RAXDOV_WINDOW_LOST],
-           (unsigned)window[RAXDOV_WINDOW_ITERATIONS], (unsigned)window[RAXDOV_WINDOW_CORRECTED]);
+    printf("  the last %" PRIu64 " finished: lost %" PRIu64 ", iterations %" PRIu64 ", corrected by BCH %" PRIu64 "\n",
+           window[RAXDOV_WINDOW_WORDS], window[RAXDOV_WINDOW_LOST], window[RAXDOV_WINDOW_ITERATIONS],
+           window[RAXDOV_WINDOW_CORRECTED]);
 }
 
 static void run(uint32_t limit, uint32_t rounds)
@@ -97,7 +99,7 @@ static void run(uint32_t limit, uint32_t rounds)
            (unsigned)tally[RAXDOV_TALLY_ROUNDS]);
     print_record(record);
     printf("; the message is %s\n", memcmp(out, message, MESSAGE) == 0 ? "right" : "wrong");
-    print_window(record);
+    push_and_print(record);
 }
 
 int main(void)

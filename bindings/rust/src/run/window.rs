@@ -7,12 +7,12 @@ use std::fmt;
 
 /// Numbers that the ring has for each record: state, iterations, BCH result.
 const RING: usize = 3;
-/// The greatest width.
-const WIDEST: u32 = 4096;
-
 /// A window over a long series of records, of many runs: how many of the last finished words are lost, and how many
 /// iterations and corrected bits they had. It covers as many words as its width, or all if there are fewer. It owns the
 /// memory for its records, which is made once; the time of a push does not depend on the width.
+///
+/// A window cannot be stored: to go on after a restart, keep the last `width` finished records and push them into a new
+/// window, which is then equal to the one that was.
 ///
 /// Two windows are equal if they have the same width and cover the same words in the same order, by state, iterations
 /// and BCH result, whatever was pushed before: they then show the same figures, and go on to do so.
@@ -44,6 +44,13 @@ pub struct Window {
 }
 
 impl Window {
+    /// The greatest width.
+    ///
+    /// ```
+    /// assert_eq!(raxdov::run::Window::WIDEST, 4096);
+    /// ```
+    pub const WIDEST: u32 = 4096;
+
     /// An empty window over the last `width` finished words, 1 to 4,096.
     ///
     /// ```
@@ -58,11 +65,15 @@ impl Window {
     /// # Errors
     ///
     /// 14 ([`Refusal::Width`]), if the width is 0 or above 4,096.
+    ///
+    /// # Panics
+    ///
+    /// If the archive that is linked has windows or records of other sizes than this crate; here and in every push.
     pub fn new(width: u32) -> Result<Self, Refusal> {
         let mut window = Self {
             width,
             numbers: [0; WINDOW],
-            ring: vec![0; RING * width.min(WIDEST) as usize].into_boxed_slice(),
+            ring: vec![0; RING * width.min(Self::WIDEST) as usize].into_boxed_slice(),
         };
         // a waiting word's record changes nothing, and the archive says what it thinks of the width
         window.take(&[0; archive::RECORD])?;
@@ -92,6 +103,21 @@ impl Window {
     pub fn push(&mut self, record: &Record) {
         self.take(&numbers(record))
             .expect("libraxdov.a took the width before");
+    }
+
+    /// The window is empty again, with the same width.
+    ///
+    /// ```
+    /// use raxdov::run::{Record, State, Window};
+    ///
+    /// let mut window = Window::new(2).unwrap();
+    /// window.push(&Record { state: State::Met, iterations: 7, unsatisfied: 0, check: 0, bch: Ok(3), changed: 0 });
+    /// window.clear();
+    /// assert_eq!(window, Window::new(2).unwrap());
+    /// ```
+    pub fn clear(&mut self) {
+        // whatever the ring of an empty window holds plays no part
+        self.numbers = [0; WINDOW];
     }
 
     fn take(&mut self, record: &[u32; archive::RECORD]) -> Result<(), Refusal> {
