@@ -213,7 +213,17 @@ fn width(r: &mut Random) -> u32 {
 
 /// A width or a ring that is refused, and a ring for it.
 fn refused(r: &mut Random) -> (u32, usize) {
-    let wide = r.pick(&[0, 4097, 4098, 8192, 1 << 16, 1 << 31, u32::MAX]);
+    // three times the last is 2 modulo 2^32
+    let wide = r.pick(&[
+        0,
+        4097,
+        4098,
+        8192,
+        1 << 16,
+        1 << 31,
+        u32::MAX,
+        1_431_655_766,
+    ]);
     match r.below(4) {
         0 => (wide, r.below(40)),
         1 => (wide, 3 * (wide.min(4097) as usize) + r.below(3)),
