@@ -105,3 +105,26 @@ module _ (w : ℕ) (W : Window) (r : Record) (ring : List ℕ) where
       let whole : old ≡ leaving w (W .words) ring (slotOf w (W .at)) = eo ∙ ap (leaving w (W .words) ring) es in
       (λ i. record { window = (eW ∙ ap₂ (λ (k : ℕ) (o : Record). moved w W k o r) es whole) i; ring = (er ∙ ap (λ (k : ℕ). written ring k r) es) i })
       ∙ sym (ap (λ (b : Bool). cond b (taken w H r) H) e)
+
+-- ---- a window handed on: the promise of one call is what the next one's `afresh` asks for, so that a chain of accepted calls is a series
+module _ (w : ℕ) (W : Window) (r : Record) (ring ring′ : List ℕ) (W′ : Window) (P : Pushes w W r ring ring′ (Now W′)) where
+  abbrev was : Handed
+  was = record { window = W; ring = ring }
+
+  abbrev windowOf : Pushed → Window
+  windowOf (Now A) = A
+  windowOf (Refused f) = W
+
+  accepted-so : eqb (pushRefusal w (length ring)) 0 ≡ true
+  accepted-so = eq-eqb (pushRefusal w (length ring)) 0 (sym (P .number))
+
+  pub window-on : W′ ≡ pushed w was r .window
+  unfolding pushedOf
+  window-on = ap windowOf (P .answer ∙ ap (λ (b : Bool). cond b (Now (pushed w was r .window)) (Refused (pushRefusal w (length ring)))) accepted-so)
+
+  pub ring-on : ring′ ≡ pushed w was r .ring
+  unfolding ringOut
+  ring-on = P .ring-is ∙ ap (λ (b : Bool). cond b (pushed w was r .ring) ring) accepted-so
+
+  pub handed-on : (rs : List Record) (ring₀ : List ℕ) → was ≡ series w (empty ring₀) rs → record { window = W′; ring = ring′ } ≡ series w (empty ring₀) (rs ++ r ∷ [])
+  handed-on rs ring₀ so = (λ i. record { window = window-on i; ring = ring-on i }) ∙ ap (λ (h : Handed). pushed w h r) so ∙ sym (series-snoc w (empty ring₀) rs r)
