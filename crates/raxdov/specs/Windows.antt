@@ -1,24 +1,20 @@
 -- A window over words that runs finished shows the figures of those words alone: nothing of the other words, lane counts and round limits.
-use mathlib.Core.Path.{_≡_, refl, sym, ap, ap₂, _∙_, subst}
+use mathlib.Core.Path.{_≡_, refl, ap, ap₂, _∙_, subst}
 use mathlib.Core.Logic.{_⊎_, inl, inr}
 use mathlib.Core.Bool.{Bool, true, cond}
-use mathlib.Core.List.{List, [], _∷_, _++_, map}
+use mathlib.Core.List.{List, [], _∷_, map}
 use Prim.Native.Nat.{ℕ, _*_, _^_, _≤_, _<_}
 use native.Mathlib.Omega.{arith}
-use borrow.Author.Tests.{eq-eqb}
-use lib.Dec.{eqb}
 use lib.ListN.{length}
 use Rattle.outcome.specs.Outcome.{Outcome, isFinished, lost}
 use Rattle.decoder_words.specs.Fields.{ownPart}
 use Rattle.decoder.specs.Accepted.{Accepted-run, says, aloneBy}
 use Rattle.decoder.specs.Audit.{finished-alone, figures-few}
 use Rattle.window.specs.declared.Record.{Record}
-use Rattle.window.specs.declared.Pushed.{Pushed}
-use Rattle.window.specs.declared.Pushed.the-variants.{Now, Refused}
 use Rattle.window.specs.Figures.{finishedIn, Shows}
-use Rattle.window.specs.Push.{pushRefusal, empty, pushed, series, Fit, pushedNumber, pushedOf, Pushes}
+use Rattle.window.specs.Push.{empty, series, Fit}
 use Rattle.window.specs.Series.{series-shows}
-use Rattle.raxdov.specs.Numbers.{windowOf, handedOf, recordOf, windowInto}
+use Rattle.raxdov.specs.Numbers.{handedOf}
 
 -- a word that an accepted run of some code finished, whatever run it was
 pub record Finished-word : Type 0 where
@@ -68,21 +64,6 @@ window-alone w some few fs ring room =
     subst (λ (rs : List Record). Shows w rs (series w (empty ring) (map recorded fs) .window)) (all-finished fs ∙ same-records fs)
     (series-shows w some few (map recorded fs) (all-fit fs) ring room)
 
--- ---- the window's numbers: what `raxdov_window_push` promises, said of the five numbers that it leaves. Five zeros are the empty window
-zeros-empty : (ring : List ℕ) → handedOf (0 ∷ 0 ∷ 0 ∷ 0 ∷ 0 ∷ []) ring ≡ empty ring
+-- of a window as numbers, five zeros are the empty one
+pub zeros-empty : (ring : List ℕ) → handedOf (0 ∷ 0 ∷ 0 ∷ 0 ∷ 0 ∷ []) ring ≡ empty ring
 zeros-empty ring = refl
-
-module _ (w a : ℕ) (window window′ numbers ring ring′ : List ℕ) where
-  abbrev answer : Pushed
-  answer = pushedOf w (handedOf window ring) (recordOf numbers)
-
-  pub numbers-afresh : a ≡ pushedNumber answer → window′ ≡ windowInto answer window → Pushes w (windowOf window) (recordOf numbers) ring ring′ answer → a ≡ 0
-      → (rs : List Record) (ring₀ : List ℕ) → Fit (rs ++ recordOf numbers ∷ []) → handedOf window ring ≡ series w (empty ring₀) rs
-      → Shows w (finishedIn (rs ++ recordOf numbers ∷ [])) (windowOf window′)
-  unfolding pushedOf
-  numbers-afresh number left P done rs ring₀ fit so =
-      let yes : eqb (pushRefusal w (length ring)) 0 ≡ true = eq-eqb (pushRefusal w (length ring)) 0 (sym (P .number) ∙ sym number ∙ done) in
-      let W′ = pushed w (handedOf window ring) (recordOf numbers) .window in
-      let now : answer ≡ Now W′ = ap (λ (b : Bool). cond b (Now W′) (Refused (pushRefusal w (length ring)))) yes in
-      subst (Shows w (finishedIn (rs ++ recordOf numbers ∷ []))) (sym (ap windowOf (left ∙ ap (λ (q : Pushed). windowInto q window) now)))
-      (P .afresh rs ring₀ fit so W′ now)

@@ -80,13 +80,18 @@ unfoldable pub series : ℕ → Handed → List Record → Handed
 series w h [] = h
 series w h (r ∷ rs) = series w (pushed w h r) rs
 
--- ---- `push`
--- a record's numbers are u32s, as all that can be handed in are
+-- what a record's figures are made of are u32s, as all that can be handed in are
 abbrev pub Fit : List Record → Type 0
 Fit [] = Unit
 Fit (r ∷ rs) = (r .iterations < 2 ^ 32) × ((r .bch < 2 ^ 32) × Fit rs)
 
--- the scope's number of each answer, and the window that it has
+-- "Where a window begins empty and is handed on unaltered at one width, each figure equals one worked out afresh from those records": of the window W′ that
+-- the record r makes of what was handed on, where that is what the records rs left, of any number and whatever the ring held at first
+abbrev pub Afresh : ℕ → Handed → Record → Window → Type 0
+Afresh w h r W′ = (rs : List Record) (ring₀ : List ℕ) → Fit (rs ++ r ∷ []) → h ≡ series w (empty ring₀) rs → Shows w (finishedIn (rs ++ r ∷ [])) W′
+
+-- ---- `push`
+-- the number of each answer, 0 where nothing is refused, and the answer
 abbrev pub pushedNumber : Pushed → ℕ
 pushedNumber (Now W) = 0
 pushedNumber (Refused f) = f
@@ -98,12 +103,9 @@ pushedOf w h r = cond (eqb (pushRefusal w (length (h .ring))) 0) (Now (pushed w 
 unfoldable pub ringOut : ℕ → Handed → Record → List ℕ
 ringOut w h r = cond (eqb (pushRefusal w (length (h .ring))) 0) (pushed w h r .ring) (h .ring)
 
--- what `push` promises of the window W with its ring, which ring′ is left of, and the answer
+-- what `push` promises of the window W and its ring; ring′ is the ring at exit, p the answer
 pub record Pushes (w : ℕ) (W : Window) (r : Record) (ring ring′ : List ℕ) (p : Pushed) : Type 0 where
   pub answer : p ≡ pushedOf w (record { window = W; ring = ring }) r
   pub number : pushedNumber p ≡ pushRefusal w (length ring)
   pub ring-is : ring′ ≡ ringOut w (record { window = W; ring = ring }) r
-  -- "Where a window begins empty and is handed on unaltered at one width, each figure equals one worked out afresh from those records": where the records rs,
-  -- of any number, left this window and this ring, and whatever the ring held at first
-  pub afresh : (rs : List Record) (ring₀ : List ℕ) → Fit (rs ++ r ∷ []) → record { window = W; ring = ring } ≡ series w (empty ring₀) rs
-      → (W′ : Window) → p ≡ Now W′ → Shows w (finishedIn (rs ++ r ∷ [])) W′
+  pub afresh : (W′ : Window) → p ≡ Now W′ → Afresh w (record { window = W; ring = ring }) r W′

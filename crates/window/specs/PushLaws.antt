@@ -1,5 +1,5 @@
 -- The ways through `push`: refused, passed over, taken.
-use mathlib.Core.Path.{_≡_, sym, ap, ap₂, _∙_, subst}
+use mathlib.Core.Path.{_≡_, refl, sym, ap, ap₂, _∙_, subst}
 use mathlib.Core.Logic.{_≢_}
 use mathlib.Core.Bool.{Bool, true, false, cond}
 use mathlib.Core.List.{List, [], _∷_, _++_}
@@ -15,7 +15,7 @@ use Rattle.window.specs.declared.Window.{Window}
 use Rattle.window.specs.declared.Pushed.{Pushed}
 use Rattle.window.specs.declared.Pushed.the-variants.{Now, Refused}
 use Rattle.window.specs.Figures.{finishedIn, Shows}
-use Rattle.window.specs.Push.{pushRefusal, slotOf, leaving, written, moved, Handed, empty, taken, pushed, series, pushedOf, ringOut, Pushes}
+use Rattle.window.specs.Push.{pushRefusal, slotOf, leaving, written, moved, Handed, empty, taken, pushed, series, pushedNumber, pushedOf, ringOut, Pushes}
 use Rattle.window.specs.Series.{series-shows, series-long, series-snoc}
 
 -- ---- each test of the code
@@ -79,7 +79,7 @@ module _ (w : ℕ) (W : Window) (r : Record) (ring : List ℕ) where
         answer = ap Refused e ∙ sym (ap (λ (b : Bool). cond b (Now (pushed w H r .window)) (Refused F)) no);
         number = e;
         ring-is = sym (ap (λ (b : Bool). cond b (pushed w H r .ring) ring) no);
-        afresh = λ rs ring₀ fit so W′ now. absurd (omega (arith, ap isNow now));
+        afresh = λ W′ now rs ring₀ fit so. absurd (omega (arith, ap isNow now));
       }
 
   pub accepts : F ≡ 0 → (h : Handed) → h ≡ pushed w H r → Pushes w W r ring (h .ring) (Now (h .window))
@@ -90,7 +90,7 @@ module _ (w : ℕ) (W : Window) (r : Record) (ring : List ℕ) where
         answer = ap (λ (x : Handed). Now (x .window)) eh ∙ sym (ap (λ (b : Bool). cond b (Now (pushed w H r .window)) (Refused F)) yes);
         number = sym e;
         ring-is = ap (λ (x : Handed). x .ring) eh ∙ sym (ap (λ (b : Bool). cond b (pushed w H r .ring) ring) yes);
-        afresh = λ rs ring₀ fit so W′ now.
+        afresh = λ W′ now rs ring₀ fit so.
             let k = accepted w (length ring) e in
             let room : 3 * w ≤ length ring₀ = omega (arith, k .long, ap (λ (x : Handed). length (x .ring)) so, series-long w (empty ring₀) rs) in
             let same : series w (empty ring₀) (rs ++ r ∷ []) ≡ h = series-snoc w (empty ring₀) rs r ∙ ap (λ (x : Handed). pushed w x r) (sym so) ∙ sym eh in
@@ -106,25 +106,22 @@ module _ (w : ℕ) (W : Window) (r : Record) (ring : List ℕ) where
       (λ i. record { window = (eW ∙ ap₂ (λ (k : ℕ) (o : Record). moved w W k o r) es whole) i; ring = (er ∙ ap (λ (k : ℕ). written ring k r) es) i })
       ∙ sym (ap (λ (b : Bool). cond b (taken w H r) H) e)
 
--- ---- a window handed on: the promise of one call is what the next one's `afresh` asks for, so that a chain of accepted calls is a series
-module _ (w : ℕ) (W : Window) (r : Record) (ring ring′ : List ℕ) (W′ : Window) (P : Pushes w W r ring ring′ (Now W′)) where
-  abbrev was : Handed
-  was = record { window = W; ring = ring }
+  -- ---- what an answer that is no refusal says
+  module _ (ring′ : List ℕ) (p : Pushed) (P : Pushes w W r ring ring′ p) (none : pushedNumber p ≡ 0) where
+    accepted-so : eqb F 0 ≡ true
+    accepted-so = eq-eqb F 0 (sym (P .number) ∙ none)
 
-  abbrev windowOf : Pushed → Window
-  windowOf (Now A) = A
-  windowOf (Refused f) = W
+    pub now-is : p ≡ Now (pushed w H r .window)
+    unfolding pushedOf
+    now-is = P .answer ∙ ap (λ (b : Bool). cond b (Now (pushed w H r .window)) (Refused F)) accepted-so
 
-  accepted-so : eqb (pushRefusal w (length ring)) 0 ≡ true
-  accepted-so = eq-eqb (pushRefusal w (length ring)) 0 (sym (P .number))
+    pub ring-on : ring′ ≡ pushed w H r .ring
+    unfolding ringOut
+    ring-on = P .ring-is ∙ ap (λ (b : Bool). cond b (pushed w H r .ring) ring) accepted-so
 
-  pub window-on : W′ ≡ pushed w was r .window
-  unfolding pushedOf
-  window-on = ap windowOf (P .answer ∙ ap (λ (b : Bool). cond b (Now (pushed w was r .window)) (Refused (pushRefusal w (length ring)))) accepted-so)
-
-  pub ring-on : ring′ ≡ pushed w was r .ring
-  unfolding ringOut
-  ring-on = P .ring-is ∙ ap (λ (b : Bool). cond b (pushed w was r .ring) ring) accepted-so
-
-  pub handed-on : (rs : List Record) (ring₀ : List ℕ) → was ≡ series w (empty ring₀) rs → record { window = W′; ring = ring′ } ≡ series w (empty ring₀) (rs ++ r ∷ [])
-  handed-on rs ring₀ so = (λ i. record { window = window-on i; ring = ring-on i }) ∙ ap (λ (h : Handed). pushed w h r) so ∙ sym (series-snoc w (empty ring₀) rs r)
+  -- a window handed on: the promise of one call is what the next one's `afresh` asks for, so that a chain of accepted calls is a series
+  pub handed-on : (ring′ : List ℕ) (W′ : Window) → Pushes w W r ring ring′ (Now W′) → (rs : List Record) (ring₀ : List ℕ) → H ≡ series w (empty ring₀) rs
+      → record { window = W′; ring = ring′ } ≡ series w (empty ring₀) (rs ++ r ∷ [])
+  handed-on ring′ W′ P rs ring₀ so =
+      (λ i. record { window = ap windowIn (now-is ring′ (Now W′) P refl) i; ring = ring-on ring′ (Now W′) P refl i })
+      ∙ ap (λ (h : Handed). pushed w h r) so ∙ sym (series-snoc w (empty ring₀) rs r)

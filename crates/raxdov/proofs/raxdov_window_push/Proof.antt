@@ -3,7 +3,8 @@ use mathlib.Core.Path.{_≡_, sym, ap, _∙_, subst}
 use borrow.Author.Needs.{needs}
 use Rattle.decoder_words.specs.declared.Noted.{Noted}
 use Rattle.window.specs.declared.Pushed.{Pushed}
-use Rattle.window.specs.Push.{pushedNumber, pushedOf, Pushes}
+use Rattle.window.specs.Push.{pushedNumber, pushedOf, ringOut, Afresh, Pushes}
+use Rattle.window.specs.PushLaws.{now-is}
 use Rattle.raxdov.specs.Numbers.{windowOf, handedOf, recordOf, windowInto}
 use Rattle.raxdov.proofs.raxdov_window_push.Statement.{statement}
 use Rattle.raxdov.proofs.raxdov_window_push.Tie as tie
@@ -24,16 +25,22 @@ pushes c =
     (noted c .read .ensures) (c .push .ensures)
 
 -- what is told of an answer r is told of the window's
-tells : (c : tie.After-push) {r : Pushed} → c .push .result ≡ r → (let a = start (noted c) .args in let answer = pushedOf (a .width) (handedOf (a .window .now) (a .ring .now)) (recordOf (a .numbers .now)) in
+tells : (c : tie.After-push) {r : Pushed} → c .push .result ≡ r → (let a = start (noted c) .args in let h = handedOf (a .window .now) (a .ring .now) in let answer = pushedOf (a .width) h (recordOf (a .numbers .now)) in
     (pushedNumber r ≡ pushedNumber answer) × ((windowInto r (a .window .now) ≡ windowInto answer (a .window .now))
-    × Pushes (a .width) (windowOf (a .window .now)) (recordOf (a .numbers .now)) (a .ring .now) (c .push .last .1 .1 .1 .0) answer))
+    × ((c .push .last .1 .1 .1 .0 ≡ ringOut (a .width) h (recordOf (a .numbers .now)))
+    × (pushedNumber r ≡ 0 → Afresh (a .width) h (recordOf (a .numbers .now)) (windowOf (windowInto r (a .window .now)))))))
 tells c is =
     let a = start (noted c) .args in
     let e = sym is ∙ pushes c .answer in (
       ap pushedNumber e,
       (
         ap (λ (p : Pushed). windowInto p (a .window .now)) e,
-        subst (Pushes (a .width) (windowOf (a .window .now)) (recordOf (a .numbers .now)) (a .ring .now) (c .push .last .1 .1 .1 .0)) (pushes c .answer) (pushes c),
+        (
+          pushes c .ring-is,
+          λ z.
+              let now = now-is (a .width) (windowOf (a .window .now)) (recordOf (a .numbers .now)) (a .ring .now) _ _ (pushes c) (ap pushedNumber is ∙ z) in
+              subst (Afresh (a .width) (handedOf (a .window .now) (a .ring .now)) (recordOf (a .numbers .now))) (ap (λ (p : Pushed). windowOf (windowInto p (a .window .now))) (sym now ∙ is)) (pushes c .afresh _ now),
+        ),
       ),
     )
 
