@@ -1,4 +1,5 @@
--- One record more: what `push` answers and leaves, whatever window and ring hold; and a whole series of records.
+-- One record more: what `push` answers and leaves, whatever window and ring hold; and a whole series of records. The request has no ring, no 13 and
+-- no word on windows that were altered: how the figures are kept is ours (docs/DECISIONS.md).
 use mathlib.Core.Path.{_≡_}
 use mathlib.Core.Bool.{cond}
 use mathlib.Core.List.{List, [], _∷_, _++_}
@@ -32,6 +33,7 @@ slotOf w at = cond (ltb at w) at 0
 unfoldable pub nextAt : ℕ → ℕ → ℕ
 nextAt w s = cond (eqb (s + 1) w) 0 (s + 1)
 
+-- how many words are covered then: one more, up to the width
 unfoldable pub nextWords : ℕ → ℕ → ℕ
 nextWords w words = cond (ltb words w) (words + 1) w
 
