@@ -1,6 +1,8 @@
-/* A message is encoded by BCH and then by LDPC, noise is added, and runs give it back, each with its record. */
+/* A message is encoded by BCH and then by LDPC, noise is added, and runs give it back, each with its record. A window
+   looks at the last of them. */
 #include <raxdov.h>
 
+#include <inttypes.h>
 #include <stdio.h>
 #include <stdlib.h>
 #include <string.h>
@@ -11,6 +13,7 @@
 #define K (374u * ROWS)
 #define MESSAGE (K - RAXDOV_BCH_PARITY) /* the BCH word fills the information bits */
 #define LANES 1u
+#define WIDTH 2u /* of the window */
 
 static const uint32_t lens[ROWS] = {6, 4, 3, 3, 3};
 static const uint16_t addrs[ADDRESSES] = {41,  388, 617,  904, 1276, 1730, 95,  512, 833, 1409,
@@ -19,6 +22,8 @@ static const uint16_t addrs[ADDRESSES] = {41,  388, 617,  904, 1276, 1730, 95,  
 static uint8_t message[MESSAGE], info[K], sent[N], out[N];
 static float llr[N];
 static int8_t soft[N];
+static uint64_t window[RAXDOV_WINDOW_COUNT]; /* zeros: empty */
+static uint32_t ring[RAXDOV_WINDOW_RING * WIDTH];
 
 /* A refusal ends the program. */
 static void accepted(const char *call, uint32_t number)
@@ -61,6 +66,16 @@ static void print_record(const uint32_t *record)
     printf(", changed by LDPC %u", (unsigned)record[RAXDOV_RECORD_CHANGED]);
 }
 
+/* Window and ring belong together, and are handed on from record to record. (All records here are of one word, for
+   show: a window counts what it is given.) */
+static void push_and_print(const uint32_t *record)
+{
+    accepted("window", raxdov_window_push(WIDTH, window, record, ring, sizeof ring / sizeof *ring));
+    printf("  the last %" PRIu64 " finished: lost %" PRIu64 ", iterations %" PRIu64 ", corrected by BCH %" PRIu64 "\n",
+           window[RAXDOV_WINDOW_WORDS], window[RAXDOV_WINDOW_LOST], window[RAXDOV_WINDOW_ITERATIONS],
+           window[RAXDOV_WINDOW_CORRECTED]);
+}
+
 static void run(uint32_t limit, uint32_t rounds)
 {
     uint32_t record[RAXDOV_RECORD_COUNT], tally[RAXDOV_TALLY_COUNT], ending;
@@ -84,12 +99,18 @@ static void run(uint32_t limit, uint32_t rounds)
            (unsigned)tally[RAXDOV_TALLY_ROUNDS]);
     print_record(record);
     printf("; the message is %s\n", memcmp(out, message, MESSAGE) == 0 ? "right" : "wrong");
+    push_and_print(record);
 }
 
 int main(void)
 {
     size_t i, wrong = 0;
 
+    if (raxdov_record_words() != RAXDOV_RECORD_COUNT || raxdov_tally_words() != RAXDOV_TALLY_COUNT ||
+        raxdov_window_words() != RAXDOV_WINDOW_COUNT) {
+        fprintf(stderr, "header and archive do not belong together\n");
+        return 1;
+    }
     for (i = 0; i < MESSAGE; i++) {
         message[i] = (uint8_t)draw(2);
     }
@@ -106,6 +127,8 @@ int main(void)
     run(50, UINT32_MAX); /* every check is met */
     run(4, UINT32_MAX);  /* checks are left, and BCH corrects the rest */
     run(0, UINT32_MAX);  /* too many are left */
-    run(50, 2);          /* the round limit comes first: the word is held */
+    run(50, 2);          /* the round limit comes first: the word is held, and the window passes it over */
+    run(50, UINT32_MAX);
+    run(4, UINT32_MAX); /* the lost word leaves the window */
     return 0;
 }

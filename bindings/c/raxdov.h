@@ -6,6 +6,8 @@
    nothing else that is lent. What a longer slice means:
      out, lists, records, work          are written, and may be longer than what is asked for: what lies behind is left
                                         as it was. Shorter: 13
+     ring                               is read and written: it belongs to its window, one ring to one window. It may be
+                                        longer: what lies behind is left as it was. Shorter: 13
      info, bits                         are k and n bytes long. Longer or shorter: 12
      lens, addrs                        have an element for each row and for each address: a longer one is another code.
                                         The row lengths add up to addrs_len, or else: 5
@@ -13,9 +15,9 @@
      message, word                      are as long as the BCH message or word. Of a length that BCH does not take: 11
      soft                               is a whole number of words of n values: a longer one is more words. Else: 8
 
-   Answers. Every function but raxdov_record_words and raxdov_tally_words returns 0, or the number of a refusal
-   (enum raxdov_refusal); a call that is refused has changed nothing. A function lists its refusals in the order in
-   which it looks for them ("2 to 6, 13"): of several it returns the first of that list.
+   Answers. Every function but raxdov_record_words, raxdov_tally_words and raxdov_window_words returns 0, or the number
+   of a refusal (enum raxdov_refusal); a call that is refused has changed nothing. A function lists its refusals in the
+   order in which it looks for them ("2 to 6, 13" or "14, 13"): of several it returns the first of that list.
 
    Codes. An LDPC code is n, the number of addresses of each row (lens) and the rows' addresses one after the other
    (addrs). k = 374 * lens_len information bits, P = n - k checks, q = P / 374, E = 374 * addrs_len + 2 * P - 1 edges.
@@ -23,7 +25,8 @@
 
    Bits. A byte is a bit; of a byte that is read only the lowest bit counts.
 
-   Memory. No function allocates or keeps anything, so calls on different slices may run in different threads.
+   Memory. No function allocates or keeps anything, so calls on different slices may run in different threads. What a
+   call is lent to be written no other thread may read meanwhile, also where it is left as it was.
    raxdov_run wants about 140 KB of stack (have 256 KiB), every other function less than 16 KB. */
 #ifndef RAXDOV_H
 #define RAXDOV_H
@@ -53,7 +56,8 @@ enum raxdov_refusal {
                                             run's BCH part passes the end of its word. */
     RAXDOV_REFUSED_SIZE = 12,            /* Information is not k long, a hard word not n, or a check number is P or
                                             more. */
-    RAXDOV_REFUSED_TOO_SHORT = 13        /* A lent output or work slice is too short. */
+    RAXDOV_REFUSED_TOO_SHORT = 13,       /* A lent output or work slice is too short. */
+    RAXDOV_REFUSED_WIDTH = 14            /* A window's width is 0 or above 4,096. */
 };
 
 /* The BCH result of a word that is uncorrectable, or lost. */
@@ -117,6 +121,23 @@ enum raxdov_ending {
     RAXDOV_FINISHED = 0, /* every word is finished */
     RAXDOV_STOPPED = 1   /* the round limit was used up with words held */
 };
+
+/* A window: figures over the last finished words of a long series of records, of many runs: over as many words as its
+   width, or over all if there are fewer. window[RAXDOV_WINDOW_WORDS] .. All zeros is an empty window. */
+enum raxdov_window {
+    RAXDOV_WINDOW_AT = 0,         /* for the archive's own use: where in the ring the next record goes */
+    RAXDOV_WINDOW_WORDS = 1,      /* words that the window covers now: the width, or fewer */
+    RAXDOV_WINDOW_LOST = 2,       /* how many of them are lost */
+    RAXDOV_WINDOW_ITERATIONS = 3, /* the sum of their iterations, lost words' too; of a run's records at most
+                                     268,431,360 */
+    RAXDOV_WINDOW_CORRECTED = 4,  /* the sum of the bits that BCH corrected in them; a lost word adds 0; of a run's
+                                     records at most 49,152 */
+    RAXDOV_WINDOW_COUNT = 5
+};
+
+/* The greatest width of a window, and the elements of its ring for each word of the width. */
+#define RAXDOV_WINDOW_WIDEST 4096
+#define RAXDOV_WINDOW_RING 3
 
 /* Soft values from floats: out[i] = llr[i] * scale, one f32 product, rounded to the nearest whole number with halves
    away from zero, clamped to -127 .. 127; a NaN gives 0.
@@ -194,6 +215,31 @@ uint32_t raxdov_run(uint32_t n, const uint32_t *lens, size_t lens_len, const uin
                     uint32_t step, int8_t offset, uint32_t rounds, uint32_t first, uint32_t length, uint8_t *out,
                     size_t out_len, uint32_t *records, size_t records_len, uint32_t tally[5], uint32_t *ending,
                     int8_t *work, size_t work_len, uint32_t *lists, size_t lists_len);
+
+/* RAXDOV_WINDOW_COUNT of the archive that is linked: compare it with this header's, as a later archive may have more
+   numbers. (How many words a window covers is window[RAXDOV_WINDOW_WORDS].) */
+uint32_t raxdov_window_words(void);
+
+/* One record more of a long series, in a window over the last finished words.
+   width    how many words the window covers at most, 1 to 4,096
+   window   enum raxdov_window, read and written; zeros to begin with
+   numbers  one word's record (enum raxdov_record), as raxdov_run writes it: of its word w, records +
+            RAXDOV_RECORD_COUNT * w. State, iterations and BCH result are read. A record whose state is neither
+            RAXDOV_MET nor RAXDOV_UNMET is passed over: the call returns 0, and window and ring are as they were.
+            Every other record is taken, whatever its numbers; a BCH result of RAXDOV_LOST makes it a lost word
+   ring     the records that the window covers: 3 * width elements. Beside an empty window what it holds does not
+            matter, so one that begins anew needs only its window set to zeros
+   Window and ring belong together: hand both on as the call before left them, with the same width. Then the figures
+   after each call are those of the last width finished records since the window was empty, or of all if there are
+   fewer, in the order of the calls; a run's records stand in the order of its words, not of their finishing. Window,
+   ring and width may be stored and loaded, together, for an archive with the same raxdov_window_words.
+   If window or ring was altered, or the width is another, the call stays within its slices all the same, but the
+   figures mean nothing, and go on to do so however many records follow, until the window is set to zeros. To change
+   the width, begin anew: the window set to zeros, and a ring of 3 elements for each word of the new width.
+   The time of a call does not depend on the width.
+   Refused by 14, 13, whatever the record: window and ring are then unchanged. */
+uint32_t raxdov_window_push(uint32_t width, uint64_t window[5], const uint32_t numbers[6], uint32_t *ring,
+                            size_t ring_len);
 
 #ifdef __cplusplus
 }

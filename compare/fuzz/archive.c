@@ -11,8 +11,9 @@
 
 static const uint8_t *at, *end;
 static const char *function;
-static uint64_t counts[14][15], executions, states[5], endings[2], changed_words[4], corrected;
-static const char *const names[14] = {"quantise", "ldpc_sizes", "ldpc_new", "ldpc_check", "ldpc_parity", "ldpc_encode", "ldpc_syndrome_weight", "bch_parity", "bch_encode", "bch_decode", "record_words", "tally_words", "run_sizes", "run"};
+static uint64_t counts[16][15], executions, states[5], endings[2], changed_words[4], corrected, too_long;
+static uint64_t series, altered_series, passed_over, oldest_left, of_runs;
+static const char *const names[16] = {"quantise", "ldpc_sizes", "ldpc_new", "ldpc_check", "ldpc_parity", "ldpc_encode", "ldpc_syndrome_weight", "bch_parity", "bch_encode", "bch_decode", "record_words", "tally_words", "run_sizes", "run", "window_words", "window_push"};
 __attribute__((section("__libfuzzer_extra_counters"), used)) static uint8_t features[4096];
 
 static void wrong(const char *what)
@@ -424,14 +425,139 @@ static void test_bch_decode(void)
     give_back(result);
 }
 
+/* ---- windows ---- */
+
+/* A window and its ring, handed on from push to push; beside them the scope's, and the finished records since it was empty. */
+typedef struct {
+    uint32_t width;
+    int altered;
+    Slice window, ring;
+    uint64_t numbers[5];
+    uint32_t *same_ring;
+    uint32_t (*records)[RECORD];
+    size_t count, room;
+} Series;
+
+static Series begin(uint32_t width, size_t ring)
+{
+    Series s = {0};
+    s.width = width;
+    s.window = lend(5, 8);
+    s.ring = lend(ring, 4);
+    memset(s.window.p, 0, 40);
+    s.same_ring = malloc(4 * ring + 1);
+    memcpy(s.same_ring, s.ring.p, 4 * ring);
+    series++;
+    return s;
+}
+
+static void end_series(Series *s)
+{
+    if (!s->same_ring) return;
+    free(s->same_ring);
+    free(s->records);
+    give_back(s->window);
+    give_back(s->ring);
+    memset(s, 0, sizeof *s);
+}
+
+/* The ring is compared and the figures are worked out afresh if `all`. */
+static void push(Series *s, const uint32_t *record, int all)
+{
+    uint64_t *window = (uint64_t *)s->window.p, figures[4];
+    uint32_t refused = window_refusal(s->width, s->ring.size / 4);
+    const char *called = function;
+    function = names[15];
+    answered(15, raxdov_window_push(s->width, window, record, (uint32_t *)s->ring.p, s->ring.size / 4), refused);
+    if (!refused) {
+        int full = s->numbers[1] >= s->width;
+        if (!finished(record))
+            passed_over++;
+        else {
+            oldest_left += full;
+            if (s->count == s->room) s->records = realloc(s->records, (s->room = 2 * s->room + 8) * sizeof *s->records);
+            memcpy(s->records[s->count++], record, sizeof *s->records);
+            features[3200 + 4 * full + 2 * (record[4] == LOST) + s->altered]++;
+        }
+        window_push(s->width, s->numbers, record, s->same_ring);
+    }
+    if (memcmp(window, s->numbers, 40)) wrong("another window");
+    if (all) {
+        if (s->ring.size && memcmp(s->ring.p, s->same_ring, s->ring.size)) wrong("another ring");
+        if (!s->altered) {
+            figures_of((const uint32_t(*)[RECORD])s->records, s->count, s->width, figures);
+            if (memcmp(window + 1, figures, 32)) wrong("figures that are not those of the last records");
+        }
+    }
+    unchanged_from(s->window, 40, "");
+    unchanged_from(s->ring, s->ring.size, "");
+    function = called;
+}
+
+static uint32_t take_width(void)
+{
+    uint32_t b = byte();
+    switch (b & 15) {
+    case 15: return whole();
+    case 14: return 4093 + (b >> 4) % 8;
+    case 13: return b & 16 ? 0 : 4097;
+    case 12: return half() % 4200;
+    default: return 1 + (b >> 4) % 12;
+    }
+}
+
+static void take_record(uint32_t record[RECORD])
+{
+    uint32_t b = at < end ? byte() : chance(256);
+    for (int i = 1; i < RECORD; i++) record[i] = b & 8 ? chance(65536) << 16 | chance(65536) : chance(13);
+    record[0] = (b & 7) < 6 ? 2 + (b & 1) : (b & 7) == 6 ? b >> 4 & 1 : 4 + chance(4);
+    if (b >> 4 == 15) record[0] = chance(65536) << 16 | chance(65536);
+    if ((b >> 5) % 3 == 1) record[4] = LOST;
+    if (b >> 4 == 14) record[1] = record[4] = LOST - 1;
+}
+
+static void test_window(void)
+{
+    sow();
+    uint32_t width = take_width(), b = byte(), pushes = 1 + byte() % 48;
+    Series s = begin(width, near(width <= 5000 ? 3 * (size_t)width : 9));
+    uint32_t refused = window_refusal(width, s.ring.size / 4);
+    if (b >= 248 && !refused) pushes = width + byte();
+    if ((b & 3) == 3) { /* a window of any numbers */
+        s.altered = 1;
+        altered_series++;
+        for (int i = 0; i < 5; i++) {
+            uint32_t kind = byte();
+            s.numbers[i] = kind & 1 ? (uint64_t)chance(65536) << 48 | chance(65536) : kind & 2 ? (uint64_t)width + (kind >> 2) % 4 - 1 : (uint64_t)0 - (kind >> 2) % 3;
+        }
+        memcpy(s.window.p, s.numbers, 40);
+    }
+    for (uint32_t i = 0; i < pushes; i++) {
+        Slice record = lend(RECORD, 4);
+        take_record((uint32_t *)record.p);
+        keep(&record);
+        /* another width, for which the ring has room */
+        if (s.altered && !refused && chance(4) == 0) s.width = 1 + chance(width);
+        push(&s, (const uint32_t *)record.p, width <= 64 || i % 256 == 0 || i + 1 == pushes);
+        unchanged(record);
+        give_back(record);
+    }
+    end_series(&s);
+}
+
 /* ---- runs ---- */
+
+/* A window over the records of all runs of the script. */
+static Series over_runs;
 
 static void test_numbers(void)
 {
     if (raxdov_record_words() != RECORD || RAXDOV_RECORD_COUNT != RECORD) wrong("record_words");
     if (raxdov_tally_words() != 5) wrong("tally_words");
+    if (raxdov_window_words() != 5 || RAXDOV_WINDOW_COUNT != 5) wrong("window_words");
     counts[10][0]++;
     counts[11][0]++;
+    counts[14][0]++;
 }
 
 static uint32_t take_lanes(void)
@@ -549,7 +675,7 @@ static int test_run(void)
     Run run = {0};
     words = refused ? 0 : size / n;
     if (!refused && run_of(c.code, (const int8_t *)soft.p, words, set, BUDGET, &run)) {
-        counts[13][14]++;
+        too_long++;
         give_back(soft);
         give_code(c);
         return 0;
@@ -587,6 +713,9 @@ static int test_run(void)
             features[3072 + r[0] * 32 + digits]++;
         }
         if (memcmp(got, sums, 20)) wrong("a tally that is not the records'");
+        if (!over_runs.same_ring) over_runs = begin(3, 9);
+        for (size_t w = 0; w < words; w++) push(&over_runs, (const uint32_t *)records.p + RECORD * w, 1);
+        of_runs += words;
         if (memcmp(got, run.tally, 20)) wrong("another tally");
         if (*(uint32_t *)ending.p != run.ending) wrong("another ending");
         endings[run.ending]++;
@@ -615,16 +744,17 @@ static int test_run(void)
 
 static void tell(void)
 {
-    fprintf(stderr, "counts: %lu scripts; calls by answer (14 stands for a run that was too long and not made):\n", executions);
-    for (int f = 0; f < 14; f++) {
+    fprintf(stderr, "counts: %lu scripts; %lu runs that were too long were not made; calls by answer:\n", executions, too_long);
+    for (int f = 0; f < 16; f++) {
         uint64_t sum = 0;
-        for (int i = 0; i < 14; i++) sum += counts[f][i];
+        for (int i = 0; i < 15; i++) sum += counts[f][i];
         fprintf(stderr, "counts: %s %lu:", names[f], sum);
         for (int i = 0; i < 15; i++)
             if (counts[f][i]) fprintf(stderr, " %d: %lu", i, counts[f][i]);
         fprintf(stderr, "\n");
     }
-    fprintf(stderr, "counts: runs finished %lu, stopped %lu; words: waiting %lu, held %lu, met %lu, unmet %lu, of them lost %lu; with bits changed by LDPC: held %lu, met %lu, unmet %lu; BCH words corrected %lu\n", endings[0], endings[1], states[0], states[1], states[2], states[3], states[4], changed_words[1], changed_words[2], changed_words[3], corrected);
+    fprintf(stderr, "counts: runs finished %lu, stopped %lu; words: waiting %lu, held %lu, met %lu, unmet %lu, of them lost %lu; with bits changed by LDPC: held %lu, met %lu, unmet %lu; BCH words corrected %lu\n"
+                    "counts: windows %lu, %lu of them altered; records passed over %lu; pushes where the oldest left %lu; records of runs pushed %lu\n", endings[0], endings[1], states[0], states[1], states[2], states[3], states[4], changed_words[1], changed_words[2], changed_words[3], corrected, series, altered_series, passed_over, oldest_left, of_runs);
 }
 
 int LLVMFuzzerInitialize(int *argc, char ***argv)
@@ -641,8 +771,8 @@ int LLVMFuzzerTestOneInput(const uint8_t *data, size_t size)
     end = data + size;
     executions++;
     for (int calls = 0; at < end && calls < 8; calls++) {
-        uint32_t f = byte() % 20;
-        function = names[f < 14 ? f : 13];
+        uint32_t f = byte() % 24;
+        function = names[f < 15 ? f : f < 18 ? 15 : 13];
         switch (f) {
         case 0: test_quantise(); break;
         case 1: test_sizes(); break;
@@ -655,12 +785,20 @@ int LLVMFuzzerTestOneInput(const uint8_t *data, size_t size)
         case 8: test_bch_encode(1); break;
         case 9: test_bch_decode(); break;
         case 10:
-        case 11: test_numbers(); break;
+        case 11:
+        case 14: test_numbers(); break;
         case 12: test_run_sizes(); break;
+        case 15:
+        case 16:
+        case 17: test_window(); break;
         default:
-            if (!test_run()) return -1;
+            if (!test_run()) {
+                end_series(&over_runs);
+                return -1;
+            }
             calls += 3;
         }
     }
+    end_series(&over_runs);
     return 0;
 }

@@ -65,7 +65,15 @@ int main(int argc, char **argv)
     CALL(raxdov_run(N, lens, 1, addrs, 3, (const int8_t *)a, whole + 1, LANES, 5, 0, 0, 1, 9, 0, N, b, size, (uint32_t *)c, size / 4, tally, &ending, (int8_t *)d, size, five, 5));
     told("run, soft values that are no whole number of words", got, 8, zeros_from(b, 0));
 
+    uint64_t window[5] = {1, 2, 3, 4, 5};
+    uint32_t record[RECORD] = {3, 50, 7, 1, 12, 9}, left[RECORD] = {0};
+    CALL(raxdov_window_push(4097, window, record, (uint32_t *)b, size / 4)), told("window_push, too wide, a huge ring", got, 14, window[0] == 1 && window[4] == 5 && zeros_from(b, 0));
+
     /* accepted, with much room behind what is written */
+    memset(window, 0, sizeof window);
+    CALL(raxdov_window_push(4096, window, record, (uint32_t *)b, size / 4)), memcpy(left, b, 12);
+    told("window_push, a huge ring", got, 0, window[0] == 1 && window[1] == 1 && window[2] == 0 && window[3] == 50 && window[4] == 12 && left[0] == 3 && left[1] == 50 && left[2] == 12 && zeros_from(b, 12));
+    memset(b, 0, 12);
     uint8_t message[300];
     for (int i = 0; i < 300; i++) message[i] = (uint8_t)(i * 7 % 3 == 0);
     bch_parity(message, 300, parity);

@@ -422,6 +422,55 @@ void run_free(Run *run)
     run->words = 0;
 }
 
+/* ---- windows ---- */
+
+uint32_t window_refusal(uint32_t width, size_t ring)
+{
+    if (width == 0 || width > 4096) return 14;
+    return ring < 3 * (size_t)width ? 13 : 0;
+}
+
+int finished(const uint32_t record[RECORD]) { return record[0] == 2 || record[0] == 3; }
+
+void figures_of(const uint32_t (*records)[RECORD], size_t count, size_t width, uint64_t figures[4])
+{
+    size_t first = count > width ? count - width : 0;
+    figures[0] = count - first;
+    figures[1] = figures[2] = figures[3] = 0;
+    for (size_t i = first; i < count; i++) {
+        figures[2] += records[i][1];
+        if (records[i][4] == LOST)
+            figures[1]++; /* a lost word adds no corrected bits */
+        else
+            figures[3] += records[i][4];
+    }
+}
+
+/* The request says nothing of windows that were altered. Decided: a place at or past the width is taken as 0, as many words as the
+   width or more as a full window, sums are modulo 2^64, and a record of the ring counts as lost only if it is a finished word's. */
+void window_push(uint32_t width, uint64_t window[5], const uint32_t record[RECORD], uint32_t *ring)
+{
+    if (!finished(record)) return;
+    uint64_t slot = window[0] >= width ? 0 : window[0];
+    uint32_t *place = ring + 3 * slot;
+    if (window[1] >= width) { /* the oldest leaves */
+        window[1] = width - 1;
+        window[3] -= place[1];
+        if (place[2] != LOST)
+            window[4] -= place[2];
+        else if (place[0] == 2 || place[0] == 3)
+            window[2]--;
+    }
+    place[0] = record[0];
+    place[1] = record[1];
+    place[2] = record[4];
+    window[0] = (slot + 1) % width;
+    window[1]++;
+    window[2] += record[4] == LOST;
+    window[3] += record[1];
+    window[4] += record[4] == LOST ? 0 : record[4];
+}
+
 /* ---- the report's text ---- */
 
 typedef struct {

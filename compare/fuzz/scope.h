@@ -1,5 +1,5 @@
-/* What the scope says, written out in C from its sentences and from nothing of the product: refusals, codes, the decoder, BCH and
-   the report's text. The fuzz targets hold every answer to it. */
+/* What the scope says, written out in C from its sentences and from nothing of the product: refusals, codes, the decoder, BCH,
+   windows and the report's text. The fuzz targets hold every answer to it. */
 #ifndef SCOPE_H
 #define SCOPE_H
 #include <stddef.h>
@@ -64,6 +64,14 @@ uint32_t run_refusal(Code code, size_t soft, Settings set, Lent lent);
 /* An accepted run; TOO_LONG if it needs more than `budget` edges, else 0. */
 uint32_t run_of(Code code, const int8_t *soft, size_t words, Settings set, uint64_t budget, Run *run);
 void run_free(Run *run);
+/* 14, then 13, or 0. */
+uint32_t window_refusal(uint32_t width, size_t ring);
+/* Whether a record is of a finished word. */
+int finished(const uint32_t record[RECORD]);
+/* Words, lost, iterations and corrected bits of the last `width` of these finished records, or of all if there are fewer. */
+void figures_of(const uint32_t (*records)[RECORD], size_t count, size_t width, uint64_t figures[4]);
+/* What an accepted push makes of any window (place, words, lost, iterations, corrected) and ring, also of altered ones. */
+void window_push(uint32_t width, uint64_t window[5], const uint32_t record[RECORD], uint32_t *ring);
 /* The report on a text: its size, or 0 if the run is too long. The form alone: *form is 1 for a text of the form. */
 #define REPORT_ROOM 4096
 size_t report_of(const uint8_t *text, size_t size, uint64_t budget, char out[REPORT_ROOM], int *form);

@@ -14,10 +14,12 @@ enum { N = 1122, ROWS = 2, TOTAL = 8, WORDS = 5, LANES = 64, BCH = 65535 };
 static const uint32_t lens[ROWS] = {4, 4};
 static const uint16_t addrs[TOTAL] = {0, 40, 121, 300, 7, 7, 381, 65535};
 static uint8_t word[BCH], out[BCH];
-static uint32_t lists[8192], records[RAXDOV_RECORD_COUNT * WORDS], tally[5], ending, number, five[5], index_[8192];
+static uint32_t lists[8192], records[RAXDOV_RECORD_COUNT * WORDS], tally[5], ending, number, five[RAXDOV_RECORD_COUNT], index_[8192];
 static int8_t soft[N * WORDS], work[(N + 3 * 4000) * LANES], soft_out[64];
 static float llr[64];
 static size_t needs[2];
+static uint64_t window[RAXDOV_WINDOW_COUNT];
+static uint32_t ring[RAXDOV_WINDOW_RING * RAXDOV_WINDOW_WIDEST];
 
 #define CODE N, lens, ROWS, addrs, TOTAL
 
@@ -56,6 +58,13 @@ static void run_one(void) { run(0, 0, 1); }
 static void run_layered(void) { run(1, 7, LANES); }
 static void run_whole(void) { run(1, 374, 17); }
 static void run_refused(void) { run(0, 0, 65); }
+static void window_words(void) { number = raxdov_window_words(); }
+static void window_push(void)
+{
+    static const uint32_t record[RAXDOV_RECORD_COUNT] = {RAXDOV_UNMET, 50, 3, 1, RAXDOV_LOST, 9};
+    for (int i = 0; i < 2 * RAXDOV_WINDOW_WIDEST; i++) raxdov_window_push(RAXDOV_WINDOW_WIDEST, window, record, ring, sizeof ring / 4);
+}
+static void window_refused(void) { raxdov_window_push(0, window, five, ring, sizeof ring / 4); }
 
 static void *call(void *f)
 {
@@ -96,6 +105,7 @@ int main(int argc, char **argv)
         {"bch_decode, lost", bch_lost, 16000}, {"record_words", record_words, 16000}, {"tally_words", tally_words, 16000},
         {"run_sizes", run_sizes, 16000}, {"run, sequential, 64 lanes", run_sequential, run_most}, {"run, sequential, 1 lane", run_one, run_most},
         {"run, layered by 7, 64 lanes", run_layered, run_most}, {"run, layered by 374, 17 lanes", run_whole, run_most}, {"run, refused", run_refused, run_most},
+        {"window_words", window_words, 16000}, {"window_push", window_push, 16000}, {"window_push, refused", window_refused, 16000},
     };
     int wrong = 0;
     size_t thread = taken(nothing);

@@ -8,9 +8,10 @@
 use crate::declared::*;
 use crate::refusal::Refusal;
 
-/// Numbers that a word's record and the tally have.
+/// Numbers that a word's record, the tally and a window have.
 pub(crate) const RECORD: usize = 6;
 const TALLY: usize = 5;
+pub(crate) const WINDOW: usize = 5;
 
 /// Ok for 0, else the refusal of the number.
 fn answer(number: u32) -> Result<(), Refusal> {
@@ -291,4 +292,22 @@ pub(crate) fn run(
         )
     })?;
     Ok((tally, ending))
+}
+
+/// One record more in a window. Where it is refused, window and ring are unchanged.
+pub(crate) fn window_push(
+    width: u32,
+    window: &mut [u64; WINDOW],
+    record: &[u32; RECORD],
+    ring: &mut [u32],
+) -> Result<(), Refusal> {
+    // SAFETY: nothing is lent.
+    let layout = unsafe { (raxdov_window_words(), raxdov_record_words()) };
+    assert_eq!(
+        layout,
+        (WINDOW as u32, RECORD as u32),
+        "libraxdov.a has other windows or records than this crate"
+    );
+    // SAFETY: the record is there, and window and ring are borrowed alone.
+    answer(unsafe { raxdov_window_push(width, window, record, ring.as_mut_ptr(), ring.len()) })
 }

@@ -122,4 +122,12 @@ unsafe extern "C" {
         lists: *mut u32,
         lists_len: usize,
     ) -> u32;
+    pub fn raxdov_window_words() -> u32;
+    pub fn raxdov_window_push(
+        width: u32,
+        window: *mut [u64; 5],
+        numbers: *const [u32; 6],
+        ring: *mut u32,
+        ring_len: usize,
+    ) -> u32;
 }

@@ -1,13 +1,14 @@
 //! Forward error correction of ISDB-S3 satellite receivers: the LDPC and BCH codes of ARIB STD-B44, with refusals by
-//! number, a round limit, records of words and a tally. The work is done by `libraxdov.a`, whose functions are proved
-//! to meet their contracts; this crate lends them memory.
+//! number, a round limit, records of words, a tally and windows over the last words. The work is done by
+//! `libraxdov.a`, whose functions are proved to meet their contracts; this crate lends them memory.
 //!
 //! - [`ldpc`] and [`bch`] have the names, signatures and results of isdb-rs (`isdb_fec::ldpc`, `isdb_fec::bch`), so
 //!   that a program changes over by its imports. What differs is said at each item.
-//! - [`run`] decodes and corrects in one go and records each word.
+//! - [`run`] decodes and corrects in one go and records each word; its [`run::Window`] keeps figures over the last
+//!   finished words of many runs.
 //!
-//! A call on wrong sizes panics where the original does; [`ldpc::Code::try_new`] and [`run::Runner::run`] answer a
-//! [`Refusal`].
+//! A call on wrong sizes panics where the original does; [`ldpc::Code::try_new`], [`run::Runner::run`] and
+//! [`run::Window::new`] answer a [`Refusal`].
 //!
 //! ```
 //! use raxdov::ldpc::Code;

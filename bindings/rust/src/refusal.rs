@@ -44,9 +44,11 @@ pub enum Refusal {
     Size = 12,
     /// A lent output or work slice is too short.
     TooShort = 13,
+    /// A window's width is 0 or above 4,096.
+    Width = 14,
 }
 
-const ALL: [Refusal; 13] = [
+const ALL: [Refusal; 14] = [
     Refusal::Form,
     Refusal::N,
     Refusal::Rows,
@@ -60,10 +62,11 @@ const ALL: [Refusal; 13] = [
     Refusal::Bch,
     Refusal::Size,
     Refusal::TooShort,
+    Refusal::Width,
 ];
 
 impl Refusal {
-    /// The number, 1 to 13.
+    /// The number, 1 to 14.
     ///
     /// ```
     /// assert_eq!(raxdov::Refusal::TooShort.number(), 13);
@@ -72,7 +75,7 @@ impl Refusal {
         self as u32
     }
 
-    /// The refusal of a number; none for 0 and above 13.
+    /// The refusal of a number; none for 0 and above 14.
     ///
     /// ```
     /// use raxdov::Refusal;
@@ -111,6 +114,7 @@ impl Refusal {
                 "information is not k long, a hard word not n, or a check number is P or more"
             }
             Self::TooShort => "a lent output or work slice is too short",
+            Self::Width => "a window's width is 0 or above 4,096",
         }
     }
 }

@@ -1,6 +1,7 @@
 //! A run: words of soft values decoded side by side in lanes, each finished word's BCH part corrected, with a round
 //! limit, a record of every word and a tally. What a finished word gets does not depend on the other words, on the lanes or
 //! on the round limit; a held word has the bits and the count of changed bits that it has alone after its iterations.
+//! A [`Window`] looks at the last finished words of many runs.
 //!
 //! ```
 //! use raxdov::ldpc::Code;
@@ -27,6 +28,10 @@ use crate::bch::Uncorrectable;
 use crate::ldpc::Code;
 use crate::ldpc::fixed::Schedule;
 use crate::refusal::Refusal;
+
+mod window;
+
+pub use window::Window;
 
 /// The settings of a run.
 ///
@@ -347,4 +352,16 @@ fn record(numbers: &[u32]) -> Record {
         bch: archive::corrected(numbers[4]).ok_or(Uncorrectable),
         changed: numbers[5],
     }
+}
+
+/// A record's numbers as a run writes them.
+fn numbers(record: &Record) -> [u32; RECORD] {
+    [
+        record.state as u32,
+        record.iterations,
+        record.unsatisfied,
+        record.check,
+        record.bch.unwrap_or(u32::MAX),
+        record.changed,
+    ]
 }

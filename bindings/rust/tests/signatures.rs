@@ -49,6 +49,7 @@ fn c_type(kind: &str) -> &str {
         "u8" => "uint8_t",
         "u16" => "uint16_t",
         "u32" => "uint32_t",
+        "u64" => "uint64_t",
         "usize" => "size_t",
         _ => panic!("the type {kind}"),
     }
@@ -58,7 +59,10 @@ fn c_type(kind: &str) -> &str {
 fn in_c(name: &str, kind: &str) -> String {
     let slice = |kind: &str| kind.strip_suffix(']').map(str::to_string);
     if let Some(kind) = kind.strip_prefix("&[").and_then(slice) {
-        return format!("const {} *{name}, size_t {name}_len", c_type(&kind));
+        return match kind.split_once("; ") {
+            Some((kind, size)) => format!("const {} {name}[{size}]", c_type(kind)),
+            None => format!("const {} *{name}, size_t {name}_len", c_type(&kind)),
+        };
     }
     if let Some(kind) = kind.strip_prefix("&mut [").and_then(slice) {
         return match kind.split_once("; ") {
@@ -75,7 +79,10 @@ fn in_c(name: &str, kind: &str) -> String {
 fn in_rust(name: &str, kind: &str) -> String {
     let slice = |kind: &str| kind.strip_suffix(']').map(str::to_string);
     if let Some(kind) = kind.strip_prefix("&[").and_then(slice) {
-        return format!("{name}: *const {kind}, {name}_len: usize");
+        return match kind.split_once("; ") {
+            Some(_) => format!("{name}: *const [{kind}]"),
+            None => format!("{name}: *const {kind}, {name}_len: usize"),
+        };
     }
     if let Some(kind) = kind.strip_prefix("&mut [").and_then(slice) {
         return match kind.split_once("; ") {
@@ -95,12 +102,12 @@ fn list(parameters: &[(String, String)], one: fn(&str, &str) -> String) -> Strin
 }
 
 #[test]
-fn the_source_exports_fourteen() {
+fn the_source_exports_sixteen() {
     let names: Vec<String> = exported().into_iter().map(|(name, _)| name).collect();
     let marked = read("../../crates/raxdov/src/lib.rt")
         .matches("#[no_mangle]")
         .count();
-    assert_eq!((names.len(), marked), (14, 14), "{names:?}");
+    assert_eq!((names.len(), marked), (16, 16), "{names:?}");
 }
 
 #[test]

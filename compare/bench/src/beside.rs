@@ -100,7 +100,12 @@ fn line(
     };
     // where memory lies makes a difference of some per cent: both have the same
     let to = RefCell::new(row.to);
-    let now = || assert_eq!(archive::run(&row.table, &lent, row.set, &mut to.borrow_mut()), 0);
+    let now = || {
+        assert_eq!(
+            archive::run(&row.table, &lent, row.set, &mut to.borrow_mut()),
+            0
+        )
+    };
     let then = || assert_eq!(before(&row.table, &lent, row.set, &mut to.borrow_mut()), 0);
     let p = pair(samples, turns, now, then);
     then();

@@ -9,9 +9,10 @@ mod noise;
 mod place;
 mod runs;
 mod time;
+mod windows;
 
 const USAGE: &str =
-    "bench codes | growth | runs [CHART.svg] [SCHEDULE] [LANES] | noise [CHART.svg] [WORDS]
+    "bench codes | growth | windows | runs [CHART.svg] [SCHEDULE] [LANES] | noise [CHART.svg] [WORDS]
 bench beside [SCHEDULE] [LANES]: built with RAXDOV_BEFORE, an earlier libraxdov.a";
 
 fn main() {
@@ -23,6 +24,7 @@ fn main() {
     match words.first().map(String::as_str) {
         Some("codes") => codes::bench(),
         Some("growth") => growth::bench(),
+        Some("windows") => windows::bench(),
         Some("runs") => runs::bench(
             chart,
             words.get(2).map_or("", String::as_str),

@@ -57,6 +57,22 @@ pub fn alone(samples: usize, mut f: impl FnMut()) -> Times {
     times(all)
 }
 
+/// `samples` calls of each of several sides, in turn.
+pub fn in_turn(samples: usize, sides: &mut [impl FnMut()]) -> Vec<Times> {
+    let mut all = vec![Vec::new(); sides.len()];
+    for i in 0..=samples {
+        for (f, spent) in sides.iter_mut().zip(&mut all) {
+            let start = now();
+            f();
+            // the first time is for the caches
+            if i > 0 {
+                spent.push(now() - start);
+            }
+        }
+    }
+    all.into_iter().map(times).collect()
+}
+
 /// `samples` times `turns` calls of each side, in turn; times of one call.
 pub fn pair(
     samples: usize,

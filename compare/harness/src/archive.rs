@@ -23,6 +23,12 @@ impl Table {
     }
 }
 
+/// A window as it is lent: its numbers, and the records that it covers.
+pub struct Window {
+    pub numbers: Lent<u64>,
+    pub ring: Lent<u32>,
+}
+
 /// A run's settings.
 #[derive(Clone, Copy, Debug)]
 pub struct Settings {
@@ -229,4 +235,35 @@ pub fn run(t: &Table, soft: &Lent<i8>, set: Settings, to: &mut Space) -> u32 {
             lists,
         )
     }
+}
+
+pub fn window_words() -> u32 {
+    unsafe { raxdov_window_words() }
+}
+
+pub fn window_push(width: u32, window: &mut Window, record: &Lent<u32>) -> u32 {
+    assert_eq!((window.numbers.len(), record.len()), (5, 6));
+    let n = window.ring.len();
+    unsafe {
+        raxdov_window_push(
+            width,
+            window.numbers.ptr_mut().cast(),
+            record.ptr().cast(),
+            window.ring.ptr_mut(),
+            n,
+        )
+    }
+}
+
+/// Each record in turn, for times; whether all were accepted.
+pub fn window_push_all(
+    width: u32,
+    window: &mut [u64; 5],
+    records: &[[u32; 6]],
+    ring: &mut [u32],
+) -> bool {
+    let (to, n) = (ring.as_mut_ptr(), ring.len());
+    records
+        .iter()
+        .all(|record| unsafe { raxdov_window_push(width, window, record, to, n) } == 0)
 }

@@ -32,6 +32,11 @@ impl Plain for u32 {
         x as u32
     }
 }
+impl Plain for u64 {
+    fn of(x: u64) -> Self {
+        x
+    }
+}
 impl Plain for usize {
     fn of(x: u64) -> Self {
         x as usize

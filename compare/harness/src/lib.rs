@@ -9,3 +9,4 @@ pub mod quantise;
 pub mod random;
 pub mod run;
 pub mod scope;
+pub mod window;

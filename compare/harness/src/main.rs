@@ -3,13 +3,13 @@
 use harness::input::Plan;
 use harness::lent::EXACT;
 use harness::random::Random;
-use harness::{archive, bch, ldpc, quantise, run, scope};
+use harness::{archive, bch, ldpc, quantise, run, scope, window};
 use std::process::exit;
 use std::rc::Rc;
 use std::sync::atomic::Ordering;
 use std::time::{Duration, Instant};
 
-const USAGE: &str = "harness [--seed N] [--seconds N] [--only quantise|ldpc|bch|run] [--exact] [--selftest] [--largest]
+const USAGE: &str = "harness [--seed N] [--seconds N] [--only quantise|ldpc|bch|run|window] [--exact] [--selftest] [--largest]
   --exact     each lent slice is an allocation of its own, for a memory checker
   --selftest  spoil each result of the archive in turn, and see that it is found
   --largest   only the accepted code with the most edges, every function and four runs";
@@ -19,6 +19,7 @@ struct Seen {
     ldpc: ldpc::Counts,
     bch: bch::Counts,
     run: run::Counts,
+    window: window::Counts,
 }
 
 fn fail(what: &str) -> ! {
@@ -114,6 +115,20 @@ fn tell(seen: &Seen, seed: u64, time: Duration) {
         u.stopped,
         u.layered
     );
+    let w = &seen.window;
+    println!(
+        "| `raxdov_window_push` | {} | {} by 13, {} by 14 ({} of them with a ring that is too short as well) | {} series and {} altered windows; {} records passed over, {} after which the oldest left; figures worked out afresh {} times; {} pushes of records of runs |",
+        w.pushes,
+        w.refused[0],
+        w.refused[1],
+        w.both,
+        w.series,
+        w.altered,
+        w.passed,
+        w.full,
+        w.afresh,
+        w.of_runs
+    );
     let at = |w: &u32| u.lanes.get(w).copied().unwrap_or(0);
     let lanes: Vec<String> = run::LANES[..8]
         .iter()
@@ -195,6 +210,11 @@ fn selftest(r: &mut Random) {
         "selftest: {} spoilt results found in each of {done} runs",
         run::SPOILS.len()
     );
+    let mut spoilt = 0;
+    for _ in 0..20 {
+        spoilt = window::selftest(r).unwrap_or_else(|e| fail(&e));
+    }
+    println!("selftest: {spoilt} spoilt results found in each of 20 pushes onto a full window");
 }
 
 fn main() {
@@ -225,8 +245,11 @@ fn main() {
         }
     }
     let mut r = Random(seed);
-    if archive::record_words() != scope::RECORD as u32 || archive::tally_words() != 5 {
-        fail("record_words, tally_words");
+    if archive::record_words() != scope::RECORD as u32
+        || archive::tally_words() != 5
+        || archive::window_words() != scope::WINDOW as u32
+    {
+        fail("record_words, tally_words, window_words");
     }
     for mode in &modes {
         if mode == "--selftest" {
@@ -243,16 +266,18 @@ fn main() {
         ldpc: ldpc::Counts::default(),
         bch: bch::Counts::default(),
         run: run::Counts::default(),
+        window: window::Counts::default(),
     };
-    let names = ["quantise", "ldpc", "bch", "run"];
-    let shares = [6.0, 10.0, 28.0, 56.0];
-    let mut spent = [0.0f64; 4];
+    let mut over_runs = window::OverRuns::new(&mut r);
+    let names = ["quantise", "ldpc", "bch", "run", "window"];
+    let shares = [6.0, 10.0, 26.0, 54.0, 4.0];
+    let mut spent = [0.0f64; 5];
     let start = Instant::now();
     let mut told = start;
     while start.elapsed().as_secs() < seconds {
         let turn = match names.iter().position(|n| *n == only) {
             Some(i) => i,
-            None => (0..4)
+            None => (0..5)
                 .min_by(|&a, &b| (spent[a] / shares[a]).total_cmp(&(spent[b] / shares[b])))
                 .unwrap(),
         };
@@ -266,19 +291,27 @@ fn main() {
             }
             1 => ldpc::compare(&mut r, &mut seen.ldpc).unwrap_or_else(|e| fail(&e)),
             2 => bch::compare(&mut r, &mut seen.bch).unwrap_or_else(|e| fail(&e)),
-            _ => runs(&mut r, &mut seen.run),
+            3 => {
+                runs(&mut r, &mut seen.run);
+                let records = std::mem::take(&mut seen.run.records);
+                over_runs
+                    .take(&mut r, &records, &mut seen.window)
+                    .unwrap_or_else(|e| fail(&e));
+            }
+            _ => window::compare(&mut r, &mut seen.window).unwrap_or_else(|e| fail(&e)),
         }
         spent[turn] += began.elapsed().as_secs_f64();
         if told.elapsed().as_secs() >= 10 {
             told = Instant::now();
             eprintln!(
-                "{:>5} s: {} quantise, {} codes, {} BCH words, {} runs of {} words",
+                "{:>5} s: {} quantise, {} codes, {} BCH words, {} runs of {} words, {} pushes",
                 start.elapsed().as_secs(),
                 seen.quantise.0,
                 seen.ldpc.new + seen.ldpc.refused,
                 seen.bch.decode,
                 seen.run.runs,
-                seen.run.words
+                seen.run.words,
+                seen.window.pushes
             );
         }
     }

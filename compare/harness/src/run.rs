@@ -36,6 +36,8 @@ pub struct Counts {
     pub refused: [u64; 14],
     pub lanes: BTreeMap<u32, u64>,
     pub longest: u64,
+    /// Records that accepted runs wrote, in their order, for the windows over them.
+    pub records: Vec<[u32; RECORD]>,
 }
 
 /// One run.
@@ -412,6 +414,10 @@ pub fn compare(case: &Case, counts: &mut Counts, spoils: Option<Spoil>) -> Resul
     counts.stopped += u64::from(rounds.stopped);
     counts.layered += u64::from(case.set.layered != 0);
     *counts.lanes.entry(case.set.lanes).or_default() += 1;
+    let written = to.records.now()[..need.records].chunks_exact(RECORD);
+    counts
+        .records
+        .extend(written.map(|record| <[u32; RECORD]>::try_from(record).unwrap()));
     Ok(())
 }
 

@@ -1,5 +1,5 @@
-//! What the scope says by itself: the numbers of refusal in their order, and the round rule. Each is written out from its
-//! sentences.
+//! What the scope says by itself: the numbers of refusal in their order, the round rule, and windows. Each is written out from
+//! its sentences.
 
 use crate::archive::Settings;
 
@@ -164,5 +164,80 @@ pub fn rounds(ends: &[u32], lanes: usize, limit: u32) -> Rounds {
                 status[w] = Status::Held(i + 1);
             }
         }
+    }
+}
+
+/// The numbers of a window: place, words, lost, iterations, corrected bits.
+pub const WINDOW: usize = 5;
+
+/// 14 and then 13, or 0: "refuses with 14 a width that is 0 or above 4,096, as the first of its checks".
+pub fn window_refusal(width: u32, ring: usize) -> u32 {
+    if !(1..=4096).contains(&width) {
+        14
+    } else if ring < 3 * width as usize {
+        13
+    } else {
+        0
+    }
+}
+
+/// Met or unmet.
+pub fn finished(record: &[u32; RECORD]) -> bool {
+    record[0] == 2 || record[0] == 3
+}
+
+/// "the number lost, the sums of iterations and of corrected bits, over the last w records or all if there are fewer", of
+/// finished records; and how many these are. "A lost word adds 0 corrected bits."
+pub fn afresh(width: usize, finished: &[[u32; RECORD]]) -> [u64; 4] {
+    let last = &finished[finished.len().saturating_sub(width)..];
+    let lost = |r: &[u32; RECORD]| r[4] == u32::MAX;
+    [
+        last.len() as u64,
+        last.iter().filter(|r| lost(r)).count() as u64,
+        last.iter().map(|r| u64::from(r[1])).sum(),
+        last.iter()
+            .map(|r| if lost(r) { 0 } else { u64::from(r[4]) })
+            .sum(),
+    ]
+}
+
+/// An accepted push onto any window and ring, altered ones too, where the request leaves open what comes of it: a place at or
+/// past the width is taken as 0, as many words as the width or more as a full window, and sums are modulo 2^64.
+pub fn window_push(
+    width: u32,
+    window: &mut [u64; WINDOW],
+    record: &[u32; RECORD],
+    ring: &mut [u32],
+) {
+    // "An unfinished record is passed over"
+    if !finished(record) {
+        return;
+    }
+    let width = u64::from(width);
+    let [at, words, sums @ ..] = *window;
+    let slot = if at < width { at } else { 0 };
+    let place = &mut ring[3 * slot as usize..][..3];
+    let old = if words < width {
+        [0; 3]
+    } else {
+        [place[0], place[1], place[2]]
+    };
+    let new = [record[0], record[1], record[4]];
+    place.copy_from_slice(&new);
+    let adds = |[state, iterations, bch]: [u32; 3]| {
+        let lost = bch == u32::MAX;
+        let counted = lost && (state == 2 || state == 3);
+        [
+            i128::from(counted),
+            i128::from(iterations),
+            if lost { 0 } else { i128::from(bch) },
+        ]
+    };
+    let (more, less) = (adds(new), adds(old));
+    window[0] = (slot + 1) % width;
+    window[1] = (words.min(width - 1)) + 1;
+    for i in 0..3 {
+        let sum = i128::from(sums[i]) + more[i] - less[i];
+        window[2 + i] = sum.rem_euclid(1 << 64) as u64;
     }
 }

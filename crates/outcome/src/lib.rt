@@ -170,7 +170,8 @@ pub fn state_of(met: bool) -> u32
     if met { 2 } else { 3 }
 }
 
-fn is_finished(state: u32) -> bool
+// Whether a state is a finished word's.
+pub fn is_finished(state: u32) -> bool
     ensures { λ r. ⌜ r ≡ isFinished state ⌝ }
 {
     if state == 2 {

@@ -41,8 +41,8 @@ module _ {X : Type 0} where
   unfoldable pub status : State X → ℕ → Status X
   status s v = seek v (all-words s)
 
--- ---- numbers over a list of words
-unfoldable pub sum : (ℕ → ℕ) → List ℕ → ℕ
+-- ---- numbers over a list of words, or of anything
+unfoldable pub sum : {A : Type 0} → (A → ℕ) → List A → ℕ
 sum f [] = 0
 sum f (w ∷ ws) = f w + sum f ws
 
