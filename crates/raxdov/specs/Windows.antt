@@ -1,8 +1,8 @@
 -- A window over words that runs finished shows the figures of those words alone: nothing of the other words, lane counts and round limits.
-use mathlib.Core.Path.{_≡_, refl, ap, ap₂, _∙_, subst}
+use mathlib.Core.Path.{_≡_, refl, sym, ap, ap₂, _∙_, subst}
 use mathlib.Core.Logic.{_⊎_, inl, inr}
 use mathlib.Core.Bool.{Bool, true, cond}
-use mathlib.Core.List.{List, [], _∷_, map}
+use mathlib.Core.List.{List, [], _∷_, _++_, map}
 use Prim.Native.Nat.{ℕ, _*_, _^_, _≤_, _<_}
 use native.Mathlib.Omega.{arith}
 use lib.ListN.{length}
@@ -11,10 +11,12 @@ use Rattle.decoder_words.specs.Fields.{ownPart}
 use Rattle.decoder.specs.Accepted.{Accepted-run, says, aloneBy}
 use Rattle.decoder.specs.Audit.{finished-alone, figures-few}
 use Rattle.window.specs.declared.Record.{Record}
+use Rattle.window.specs.declared.Pushed.{Pushed}
 use Rattle.window.specs.Figures.{finishedIn, Shows}
-use Rattle.window.specs.Push.{empty, series, Fit}
-use Rattle.window.specs.Series.{series-shows}
-use Rattle.raxdov.specs.Numbers.{handedOf}
+use Rattle.window.specs.Push.{Handed, empty, pushed, series, Fit, pushedNumber, pushedOf, ringOut}
+use Rattle.window.specs.Series.{series-shows, series-snoc}
+use Rattle.window.specs.PushLaws.{pushes-any, now-is, ring-on}
+use Rattle.raxdov.specs.Numbers.{windowOf, handedOf, recordOf, windowInto}
 
 -- a word that an accepted run of some code finished, whatever run it was
 pub record Finished-word : Type 0 where
@@ -67,3 +69,16 @@ window-alone w some few fs ring room =
 -- of a window as numbers, five zeros are the empty one
 pub zeros-empty : (ring : List ℕ) → handedOf (0 ∷ 0 ∷ 0 ∷ 0 ∷ 0 ∷ []) ring ≡ empty ring
 zeros-empty ring = refl
+
+-- a chain of calls of `raxdov_window_push` that are not refused is a series: what one leaves, by its promises of window and ring, is what the next one's `afresh`
+-- asks for
+pub numbers-on : (w : ℕ) (window window′ numbers ring ring′ : List ℕ) → pushedNumber (pushedOf w (handedOf window ring) (recordOf numbers)) ≡ 0
+    → window′ ≡ windowInto (pushedOf w (handedOf window ring) (recordOf numbers)) window → ring′ ≡ ringOut w (handedOf window ring) (recordOf numbers)
+    → (rs : List Record) (ring₀ : List ℕ) → handedOf window ring ≡ series w (empty ring₀) rs → handedOf window′ ring′ ≡ series w (empty ring₀) (rs ++ recordOf numbers ∷ [])
+numbers-on w window window′ numbers ring ring′ none left ring-left rs ring₀ so =
+    let W = windowOf window in
+    let r = recordOf numbers in
+    let P = pushes-any w W r ring in
+    let now = now-is w W r ring _ _ P none in
+    (λ i. record { window = ap windowOf (left ∙ ap (λ (p : Pushed). windowInto p window) now) i; ring = (ring-left ∙ ring-on w W r ring _ _ P none) i })
+    ∙ ap (λ (h : Handed). pushed w h r) so ∙ sym (series-snoc w (empty ring₀) rs r)

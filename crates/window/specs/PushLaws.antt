@@ -106,6 +106,18 @@ module _ (w : ℕ) (W : Window) (r : Record) (ring : List ℕ) where
       (λ i. record { window = (eW ∙ ap₂ (λ (k : ℕ) (o : Record). moved w W k o r) es whole) i; ring = (er ∙ ap (λ (k : ℕ). written ring k r) es) i })
       ∙ sym (ap (λ (b : Bool). cond b (taken w H r) H) e)
 
+  -- the promise can be had for every window, record and ring
+  pub pushes-any : Pushes w W r ring (ringOut w H r) (pushedOf w H r)
+  pushes-any = at (ℕ-discrete F 0)
+    where
+      at : Dec (F ≡ 0) → Pushes w W r ring (ringOut w H r) (pushedOf w H r)
+      at (yes e) =
+          let P = accepts e (pushed w H r) refl in
+          subst (Pushes w W r ring (ringOut w H r)) (P .answer) (subst (λ (l : List ℕ). Pushes w W r ring l (Now (pushed w H r .window))) (P .ring-is) P)
+      at (no ne) =
+          let P = refuses F ne refl in
+          subst (Pushes w W r ring (ringOut w H r)) (P .answer) (subst (λ (l : List ℕ). Pushes w W r ring l (Refused F)) (P .ring-is) P)
+
   -- ---- what an answer that is no refusal says
   module _ (ring′ : List ℕ) (p : Pushed) (P : Pushes w W r ring ring′ p) (none : pushedNumber p ≡ 0) where
     accepted-so : eqb F 0 ≡ true
