@@ -43,7 +43,7 @@ flips_length w (edge p m ∷ es) x = flips_length w es _ ∙ one (eqb (get_or w 
 sums_length : (b : ℕ) (x : List ℕ) → length (sums b x) ≡ length x
 unfolding sums
 sums_length b [] = refl
-sums_length b (a ∷ x) = ap suc (sums_length _ x)
+sums_length b (a ∷ x) = ap suc (sums_length (bit_xor b a) x)
 
 -- ---- every number is a bit
 abbrev pub Bits : List ℕ → Type 0
@@ -111,7 +111,7 @@ sums_next : (b : ℕ) (x : List ℕ) (c : ℕ) → suc c < length x → get_or (
 unfolding sums
 sums_next b [] c h = absurd (omega arith)
 sums_next b (a ∷ x) zero h = sums_first _ x (omega arith)
-sums_next b (a ∷ x) (suc c) h = sums_next _ x c (omega arith)
+sums_next b (a ∷ x) (suc c) h = sums_next (bit_xor b a) x c (omega arith)
 
 -- ---- v is the information
 module _ (n : ℕ) (lens addrs v : List ℕ) (some : 0 < p_of n lens) where
