@@ -5,12 +5,8 @@ use Rattle.laws.specs.Tests.{below}
 use Rattle.bch_locator.specs.Syndromes.{first_part}
 use Rattle.bch_locator.proofs.Raised.{powers_by}
 use native.Mathlib.Omega.{arith}
-use Rattle.bch_locator.proofs.first_powers.Statement.{statement}
-use Rattle.bch_locator.proofs.first_powers.Tie as tie
+use Rattle.bch_locator.proofs.first_powers.Goals as goal
 
-returns : tie.Need-returns
+pub returns : goal.returns
 unfolding below first_part
 returns c = powers_by _ first_part refl (λ i h. omega arith) tt tt
-
-pub first-powers-spec : {M : Type 1} → statement M
-first-powers-spec = tie.close (tie.spec returns)

@@ -4,12 +4,8 @@ use mathlib.Core.Path.{refl}
 use Prim.Native.Nat.{suc}
 use Rattle.laws.specs.Tests.{below}
 use Rattle.bch_locator.proofs.Raised.{powers_by}
-use Rattle.bch_locator.proofs.place_powers.Statement.{statement}
-use Rattle.bch_locator.proofs.place_powers.Tie as tie
+use Rattle.bch_locator.proofs.place_powers.Goals as goal
 
-returns : tie.Need-returns
+pub returns : goal.returns
 unfolding below
 returns c = powers_by _ suc refl (λ i h. h) tt tt
-
-pub place-powers-spec : {M : Type 1} → statement M
-place-powers-spec = tie.close (tie.spec returns)
