@@ -59,7 +59,7 @@ pub fn encode(message: &[u8], out: &mut [u8]) -> Encoded
     if out.len() < k + 192 {
         return Encoded::Refused(13);
     }
-    bytes::copy(message, out);
+    out[..k].copy_from_slice(message);
     let r = bch_remainder::parity_register(message);
     bch_remainder::write_parity(r, &mut out[k..]);
     Encoded::Done

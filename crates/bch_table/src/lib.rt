@@ -846,7 +846,7 @@ pub fn word_at(table: &[u64], t: usize, w: usize) -> u64
 }
 
 // The 192-bit remainder, the highest word first.
-#[derive(Drop)]
+#[derive(Clone, Copy)]
 pub struct Reg {
     pub hi: u64,
     pub mid: u64,
