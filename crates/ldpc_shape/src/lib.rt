@@ -12,7 +12,7 @@ pub const GROUP_U32: u32 = GROUP as u32;
 pub const MAX_Q: usize = 120;
 
 // The numbers of a code: its length, information bits, checks, P / 374 and edges.
-#[derive(Drop)]
+#[derive(Clone, Copy)]
 pub struct Sizes {
     pub n: usize,
     pub k: usize,
