@@ -19,7 +19,7 @@ use Rattle.iteration.specs.Once.{shared_in, Once}
 use Rattle.ldpc_shape.specs.Shape.{k_of, p_of, q_of, rows_of, total, count_mod}
 use Rattle.ldpc_shape.specs.Accepted.{Accepted, p_is, p_pos, q_pos, n_is}
 use Rattle.ldpc_edges.specs.Code.{only, meets, of_rows, stairs, check, edge_lists}
-use Rattle.ldpc_edges.specs.Degree.{met_by}
+use Rattle.ldpc_edges.proofs.Degree.{met_by}
 use Rattle.iteration.specs.ListsLaws.{start_in, degree_in}
 use Rattle.iteration.specs.Lists.{Lists, edges_in, code_in}
 use Rattle.iteration.specs.CodeLaws.{lists_in, laid_in}

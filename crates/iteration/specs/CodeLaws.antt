@@ -12,8 +12,9 @@ use Rattle.std.proofs.Math.Seq.{take_at, drop_at}
 use Rattle.ldpc_shape.specs.Shape.{p_of, e_of}
 use Rattle.ldpc_shape.specs.Accepted.{Accepted, p_is, q_pos}
 use Rattle.ldpc_edges.specs.Code.{check, joined, row_start, rows, edge_lists}
-use Rattle.ldpc_edges.specs.Count.{check_below}
-use Rattle.ldpc_edges.specs.Layout.{Laid, laid, start_length, rows_length, lists_length}
+use Rattle.ldpc_edges.proofs.Count.{check_below}
+use Rattle.ldpc_edges.specs.Layout.{Laid}
+use Rattle.ldpc_edges.proofs.Lists.{laid, start_length, rows_length, lists_length}
 use Rattle.iteration.specs.Lists.{Lists, rows_in, edges_in, code_in}
 use Rattle.iteration.specs.Code.{code_of}
 

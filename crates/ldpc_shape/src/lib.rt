@@ -1,4 +1,6 @@
 // The shape of a code, lent as n, the rows' lengths and their addresses, and the refusals 2 to 6.
+#![tactic(auto)]
+
 ghost use Rattle.std.specs.Prelude.{◌≡◌, false, ◌%◌, ◌<◌, ◌≤◌, length};
 ghost use Rattle.ldpc_shape.specs.Shape.{sizes_of, total, any_over, bad_length, code_refusal};
 ghost use Rattle.ldpc_shape.specs.Counts.{CountsOf, tops};

@@ -7,7 +7,8 @@ use native.Mathlib.Omega.{arith}
 use borrow.Author.Tests.{lt-ltb, le-ltb}
 use borrow.Author.Rules.{rules}
 use Rattle.ldpc_shape.specs.Shape.{sizes_of, code_refusal}
-use Rattle.ldpc_shape.specs.Accepted.{Bounded, bounded}
+use Rattle.ldpc_shape.specs.Accepted.{Bounded}
+use Rattle.ldpc_shape.proofs.Accepted.{bounded}
 use Rattle.ldpc_shape.specs.declared.Sizes.{Sizes}
 use Rattle.decoder_refuse.specs.Accepted.{lanes_few, words_few, first_code, first_lanes, first_words, first_limit, first_step, first_part, first_short, first_none}
 use Rattle.decoder_refuse.specs.Refusal.{bad_lanes, bad_words, bad_limit, bad_step, bad_part, too_short, first_refusal}

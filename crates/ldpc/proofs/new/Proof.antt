@@ -1,5 +1,6 @@
 -- `ldpc::new` meets its contract. Assumes nothing.
-use Rattle.ldpc_shape.specs.Accepted.{Bounded, sizes_bounded}
+use Rattle.ldpc_shape.specs.Accepted.{Bounded}
+use Rattle.ldpc_shape.proofs.Accepted.{sizes_bounded}
 use Rattle.ldpc_shape.specs.Shape.{code_refusal}
 use Rattle.ldpc.proofs.Exits.{with_number, new_refused, new_short, new_ready, new_done}
 use lib.Seq.{length-take-le}

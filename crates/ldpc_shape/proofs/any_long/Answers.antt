@@ -1,8 +1,5 @@
 use native.Mathlib.Omega.{arith}
-use mathlib.Core.Path.{◌≡◌, refl}
-use Prim.Native.Nat.{◌≤◌, ◌-◌}
-use lib.ListN.{length, drop}
-use Rattle.ldpc_shape.specs.Shape.{any_over}
+use mathlib.Core.Path.{refl}
 use Rattle.ldpc_shape.proofs.Loops.{over_hit, over_miss, over_end}
 use borrow.Author.Rules.{rules}
 use Rattle.ldpc_shape.proofs.any_long.Goals as goal

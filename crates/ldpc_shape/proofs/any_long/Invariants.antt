@@ -1,11 +1,8 @@
 -- `ldpc_shape::any_long` meets its contract. Assumes nothing.
-use native.Mathlib.Omega.{arith}
-use mathlib.Core.Path.{◌≡◌, refl}
+use mathlib.Core.Path.{◌≡◌}
 use Prim.Native.Nat.{◌≤◌, ◌-◌}
 use lib.ListN.{length, drop}
 use Rattle.ldpc_shape.specs.Shape.{any_over}
-use Rattle.ldpc_shape.proofs.Loops.{over_hit, over_miss, over_end}
-use borrow.Author.Rules.{rules}
 use Rattle.ldpc_shape.proofs.any_long.Given as goal
 
 abbrev pub invariant-loop-i : goal.invariant-loop-i

@@ -1,8 +1,8 @@
 use Rattle.ldpc_shape.proofs.Loops.{tops_hit, tops_miss, tops_end}
 use Rattle.ldpc_shape.specs.Counts.{tops}
 use Rattle.ldpc_shape.specs.Shape.{any_over}
-use Prim.Native.Nat.{ℕ, ◌≤◌}
-use mathlib.Core.Path.{◌≡◌, ap, sym}
+use Prim.Native.Nat.{ℕ}
+use mathlib.Core.Path.{ap, sym}
 use borrow.Author.Rules.{rules}
 use native.Mathlib.Omega.{arith}
 use Rattle.ldpc_shape.proofs.any_many.Goals as goal

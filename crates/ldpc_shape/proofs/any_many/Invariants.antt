@@ -1,11 +1,8 @@
 -- `ldpc_shape::any_many` meets its contract. Assumes nothing.
-use Rattle.ldpc_shape.proofs.Loops.{tops_hit, tops_miss, tops_end}
 use Rattle.ldpc_shape.specs.Counts.{tops}
 use Rattle.ldpc_shape.specs.Shape.{any_over}
-use Prim.Native.Nat.{ℕ, ◌≤◌}
-use mathlib.Core.Path.{◌≡◌, ap, sym}
-use borrow.Author.Rules.{rules}
-use native.Mathlib.Omega.{arith}
+use Prim.Native.Nat.{◌≤◌}
+use mathlib.Core.Path.{◌≡◌}
 use Rattle.ldpc_shape.proofs.any_many.Given as goal
 
 abbrev pub invariant-loop-l : goal.invariant-loop-l

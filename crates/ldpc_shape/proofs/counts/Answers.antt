@@ -1,7 +1,5 @@
-use mathlib.Core.Path.{◌≡◌, refl, ◌∙◌}
-use Prim.Native.Nat.{◌≤◌, ◌-◌}
-use lib.ListN.{length, take, length-set}
-use Rattle.ldpc_shape.specs.Counts.{CountsOf}
+use mathlib.Core.Path.{refl, ◌∙◌}
+use lib.ListN.{length-set}
 use Rattle.ldpc_shape.proofs.Loops.{counted_start, counted_again, counted_room, counted_end}
 use borrow.Author.Rules.{rules}
 use native.Mathlib.Omega.{arith}

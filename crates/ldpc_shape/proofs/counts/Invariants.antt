@@ -1,11 +1,8 @@
 -- `ldpc_shape::counts` meets its contract. Assumes nothing.
-use mathlib.Core.Path.{◌≡◌, refl, ◌∙◌}
+use mathlib.Core.Path.{◌≡◌}
 use Prim.Native.Nat.{◌≤◌, ◌-◌}
-use lib.ListN.{length, take, length-set}
+use lib.ListN.{length, take}
 use Rattle.ldpc_shape.specs.Counts.{CountsOf}
-use Rattle.ldpc_shape.proofs.Loops.{counted_start, counted_again, counted_room, counted_end}
-use borrow.Author.Rules.{rules}
-use native.Mathlib.Omega.{arith}
 use Rattle.ldpc_shape.proofs.counts.Given as goal
 
 abbrev pub invariant-loop-i : goal.invariant-loop-i

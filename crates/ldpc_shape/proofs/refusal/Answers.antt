@@ -6,7 +6,6 @@ use mathlib.Core.Bool.{false}
 use Rattle.ldpc_shape.specs.Shape.{bad_length, any_over, total}
 use mathlib.Core.Path.{◌≡◌, refl, sym, ◌∙◌, subst}
 use native.Mathlib.Omega.{arith}
-use borrow.Author.Rules.{rules}
 use Rattle.ldpc_shape.proofs.refusal.Goals as goal
 
 pub returns-then-bad_length : goal.returns-then-bad_length

@@ -2,7 +2,6 @@
 use mathlib.Core.Path.{refl}
 use native.Mathlib.Nat.{mod-lt}
 use native.Mathlib.Omega.{arith}
-use borrow.Author.Rules.{rules}
 use Rattle.ldpc_shape.proofs.residue.Goals as goal
 
 pub overflow_cast-result-2 : goal.overflow_cast-result-2

@@ -2,10 +2,10 @@
 -- Assumes nothing.
 use Prim.Native.Nat.{◌+◌, ◌-◌, ◌*◌, ◌/◌, ◌<◌, ◌≤◌}
 use native.Mathlib.Omega.{arith}
-use borrow.Author.Rules.{rules}
 use lib.ListN.{length}
 use Rattle.ldpc_shape.specs.Shape.{k_of, p_of, q_of, e_of}
-use Rattle.ldpc_shape.specs.Accepted.{accepted, rows_le, addrs_le}
+use Rattle.ldpc_shape.specs.Accepted.{rows_le, addrs_le}
+use Rattle.ldpc_shape.proofs.Accepted.{accepted}
 use Rattle.ldpc_shape.proofs.sizes_of.Goals as goal
 
 pub overflow_mul-k : goal.overflow_mul-k

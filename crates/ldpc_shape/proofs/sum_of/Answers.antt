@@ -1,7 +1,7 @@
 use native.Mathlib.Omega.{arith}
-use mathlib.Core.Path.{◌≡◌, ap, ◌∙◌}
-use Prim.Native.Nat.{ℕ, ◌+◌, ◌≤◌, ◌-◌}
-use lib.ListN.{length, drop}
+use mathlib.Core.Path.{ap, ◌∙◌}
+use Prim.Native.Nat.{ℕ, ◌+◌}
+use lib.ListN.{drop}
 use Rattle.ldpc_shape.specs.Shape.{total}
 use Rattle.ldpc_shape.proofs.Loops.{sum_again, sum_room, sum_end}
 use borrow.Author.Rules.{rules}

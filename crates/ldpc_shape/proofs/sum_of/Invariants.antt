@@ -1,11 +1,8 @@
 -- `ldpc_shape::sum_of` meets its contract. Assumes nothing.
-use native.Mathlib.Omega.{arith}
-use mathlib.Core.Path.{◌≡◌, ap, ◌∙◌}
-use Prim.Native.Nat.{ℕ, ◌+◌, ◌≤◌, ◌-◌}
+use mathlib.Core.Path.{◌≡◌}
+use Prim.Native.Nat.{◌+◌, ◌≤◌, ◌-◌}
 use lib.ListN.{length, drop}
 use Rattle.ldpc_shape.specs.Shape.{total}
-use Rattle.ldpc_shape.proofs.Loops.{sum_again, sum_room, sum_end}
-use borrow.Author.Rules.{rules}
 use Rattle.ldpc_shape.proofs.sum_of.Given as goal
 
 abbrev pub invariant-loop-i : goal.invariant-loop-i

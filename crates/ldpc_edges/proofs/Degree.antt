@@ -6,8 +6,9 @@ use Rattle.std.proofs.Math.ListN.{length, length-append}
 use Rattle.ldpc_shape.specs.Shape.{k_of, p_of, q_of, rows_of, total, count_mod}
 use Rattle.ldpc_shape.specs.Accepted.{Accepted, p_is, q_pos, few}
 use Rattle.ldpc_edges.specs.Code.{of_bits, of_rows, meets, only, stairs, check, met}
-use Rattle.ldpc_edges.specs.Inside.{only_append, only_length}
-use Rattle.ldpc_edges.specs.Insert.{insert, insert_length, place, row_cons, Rising, bits_rising}
+use Rattle.ldpc_edges.proofs.Inside.{only_append, only_length}
+use Rattle.ldpc_edges.specs.Insert.{insert, place, Rising}
+use Rattle.ldpc_edges.proofs.Insert.{insert_length, row_cons, bits_rising}
 
 pub bits_none : (P q c d m j : ℕ) → only c (of_bits P q d m j []) ≡ []
 unfolding only of_bits met
