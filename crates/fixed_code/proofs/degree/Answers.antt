@@ -5,7 +5,13 @@ use Prim.Native.Nat.{◌≤◌}
 use Rattle.fixed_code.proofs.degree.Goals as goal
 
 pub overflow_sub-result : goal.overflow_sub-result
-overflow_sub-result c = (let h1 : c.start-2.result ≤ c.start.result = omega (arith, c.start-2.ensures, c.start.ensures, c.requires.0.ascend c.args.c c.requires.1) in h1)
+overflow_sub-result c =
+    let ascend : c.start-2.result ≤ c.start.result =
+    omega (arith, c.start-2.ensures, c.start.ensures, c.requires.0.ascend c.args.c c.requires.1) in
+    ascend
 
 pub returns : goal.returns
-returns c = omega (arith, (let h2 : c.start-2.result ≤ c.start.result = omega (arith, c.start-2.ensures, c.start.ensures, c.requires.0.ascend c.args.c c.requires.1) in h2), c.start-2.ensures, c.start.ensures)
+returns c =
+    let ascend : c.start-2.result ≤ c.start.result =
+    omega (arith, c.start-2.ensures, c.start.ensures, c.requires.0.ascend c.args.c c.requires.1) in
+    omega (arith, ascend, c.start-2.ensures, c.start.ensures)

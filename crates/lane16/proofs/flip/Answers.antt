@@ -15,7 +15,18 @@ pub loop-i-init : goal.loop-i-init
 loop-i-init c = (search rules, (refl, λ k q. absurd (omega (arith, q))))
 
 pub loop-i-preserved : goal.loop-i-preserved
-loop-i-preserved c = (search rules, (simp length-set (omega arith), grown (pos 0) (λ (k : ℕ) (y : ℤ). negative y ≡ times (negative (int_at c.args.g k)) (negative (int_at c.args.x k))) c.loop-i.v c.loop-i.i _ (omega arith) c.loop-i.invariant.1.1 (ap negative (plain c.flip.result (sfits_of c.flip.type_inv)) ∙ c.flip.ensures ∙ (λ j. times (negative (plain (int_at c.args.g c.loop-i.i) (sfits_of c.flip-arg-1.given) j)) (negative (plain (int_at c.args.x c.loop-i.i) (sfits_of c.flip-arg-in-loop-i-1.given) j))))))
+loop-i-preserved c = (
+  search rules,
+  (
+    simp length-set (omega arith),
+    grown (pos 0) (λ (k : ℕ) (y : ℤ). negative y ≡ times (negative (int_at c.args.g k)) (negative (int_at c.args.x k)))
+        c.loop-i.v c.loop-i.i _ (omega arith) c.loop-i.invariant.1.1
+        (ap negative (plain c.flip.result (sfits_of c.flip.type_inv))
+        ∙ c.flip.ensures
+        ∙ (λ j. times (negative (plain (int_at c.args.g c.loop-i.i) (sfits_of c.flip-arg-1.given) j))
+        (negative (plain (int_at c.args.x c.loop-i.i) (sfits_of c.flip-arg-in-loop-i-1.given) j)))),
+  ),
+)
 
 pub returns : goal.returns
 returns c = record { is = λ k q. c.loop-i.invariant.1.1 k (omega (arith, q)) }

@@ -16,7 +16,16 @@ pub loop-i-init : goal.loop-i-init
 loop-i-init c = (search rules, (refl, λ k q. absurd (omega (arith, q))))
 
 pub loop-i-preserved : goal.loop-i-preserved
-loop-i-preserved c = (search rules, (simp length-set (omega arith), grown (pos 0) (λ (k : ℕ) (y : ℤ). y ≡ column c.args.lanes c.args.work.now (c.args.at + k) c.args.u) c.loop-i.x c.loop-i.i _ (omega arith) c.loop-i.invariant.1.1 (plain (get_or c.args.work.now (c.args.u * c.args.lanes + c.args.at + c.loop-i.i) (pos 0)) (sfits_of c.x-1.given) ∙ column_at c.args.lanes c.args.work.now c.args.u c.args.at c.loop-i.i)))
+loop-i-preserved c = (
+  search rules,
+  (
+    simp length-set (omega arith),
+    grown (pos 0) (λ (k : ℕ) (y : ℤ). y ≡ column c.args.lanes c.args.work.now (c.args.at + k) c.args.u) c.loop-i.x c.loop-i.i _
+        (omega arith) c.loop-i.invariant.1.1
+        (plain (get_or c.args.work.now (c.args.u * c.args.lanes + c.args.at + c.loop-i.i) (pos 0)) (sfits_of c.x-1.given)
+        ∙ column_at c.args.lanes c.args.work.now c.args.u c.args.at c.loop-i.i),
+  ),
+)
 
 pub returns : goal.returns
 returns c = λ k q. c.loop-i.invariant.1.1 k (omega (arith, q))

@@ -17,6 +17,7 @@ use Rattle.lane16.specs.Lanes.{int_at, nat_at, readied_to}
 use Rattle.laws.specs.Stores.{grown}
 use Rattle.lane16.proofs.prepare.Given as goal
 
+-- the first i lanes are ready
 pub record Going (o : ℤ) (a b : List ℕ) (s : List ℤ) (least : List ℕ) (m1 m2 : List ℤ) (i : ℕ) : Type 0 where
   pub in_range : i ≤ 16
   pub long : (length least ≡ 16) × (length m1 ≡ 16) × (length m2 ≡ 16)

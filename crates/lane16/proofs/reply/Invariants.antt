@@ -16,6 +16,7 @@ use Rattle.lane16.specs.Lanes.{int_at, nat_at}
 use Rattle.laws.specs.Stores.{grown}
 use Rattle.lane16.proofs.reply.Given as goal
 
+-- the first i lanes are done
 pub record Going (t : List ℤ) (a : List ℕ) (m1 m2 m L : List ℤ) (i : ℕ) : Type 0 where
   pub in_range : i ≤ 16
   pub long : (length m ≡ 16) × (length L ≡ 16)

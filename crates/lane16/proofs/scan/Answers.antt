@@ -16,10 +16,79 @@ use Rattle.laws.specs.Stores.{grown, kept}
 use Rattle.lane16.proofs.scan.Goals as goal
 
 pub loop-i-init : goal.loop-i-init
-loop-i-init c = record { in_range = search rules; long = (search rules, search rules, search rules, refl); t_is = λ k q. absurd (omega (arith, q)); min1_is = λ k q. absurd (omega (arith, q)); min2_is = λ k q. absurd (omega (arith, q)); sign_is = λ k q. absurd (omega (arith, q)); min1_kept = λ k q. refl; min2_kept = λ k q. refl; sign_kept = λ k q. refl }
+loop-i-init c =
+    record {
+      in_range = search rules;
+      long = (search rules, search rules, search rules, refl);
+      t_is = λ k q. absurd (omega (arith, q));
+      min1_is = λ k q. absurd (omega (arith, q));
+      min2_is = λ k q. absurd (omega (arith, q));
+      sign_is = λ k q. absurd (omega (arith, q));
+      min1_kept = λ k q. refl;
+      min2_kept = λ k q. refl;
+      sign_kept = λ k q. refl;
+    }
 
 pub loop-i-preserved : goal.loop-i-preserved
-loop-i-preserved c = record { in_range = search rules; long = (simp length-set (omega arith), simp length-set (omega arith), simp length-set (omega arith), simp length-set (omega arith)); t_is = grown (pos 0) (λ (k : ℕ) (x : ℤ). x ≡ sat_z (int_at c.args.lv k -ℤ int_at c.args.rv k)) c.loop-i.t c.loop-i.i _ (omega arith) c.loop-i.invariant.t_is ((let h2 : to_z w8 (of_z w8 c.sat_sub-x.result) ≡ (let h1 : ℤ = sat_z (int_at c.args.lv c.loop-i.i -ℤ int_at c.args.rv c.loop-i.i) in h1) = plain c.sat_sub-x.result (sfits_of c.sat_sub-x.type_inv) ∙ c.sat_sub-x.ensures ∙ (λ i. sat_z (plain (int_at c.args.lv c.loop-i.i) (sfits_of c.sat_sub-arg-1.given) i -ℤ plain (int_at c.args.rv c.loop-i.i) (sfits_of c.sat_sub-arg-in-loop-i-1.given) i)) in h2)); min1_is = grown 0 (λ (k : ℕ) (x : ℕ). x ≡ min (nat_at c.args.st.min1 k) (nat_abs (sat_z (int_at c.args.lv k -ℤ int_at c.args.rv k)))) c.loop-i.min1 c.loop-i.i _ (omega arith) c.loop-i.invariant.min1_is ((let h9 : (c.minu-in-loop-i.result ≡ min ((let h7 : ℕ = nat_at c.args.st.min1 c.loop-i.i in h7)) (nat_abs ((let h8 : ℤ = sat_z (int_at c.args.lv c.loop-i.i -ℤ int_at c.args.rv c.loop-i.i) in h8)))) = c.minu-in-loop-i.ensures ∙ (λ j. min (c.loop-i.invariant.min1_kept c.loop-i.i (omega arith) j) ((let h6 : c.mag-a.result ≡ nat_abs ((let h5 : ℤ = sat_z (int_at c.args.lv c.loop-i.i -ℤ int_at c.args.rv c.loop-i.i) in h5)) = c.mag-a.ensures ∙ ap nat_abs ((let h4 : to_z w8 (of_z w8 c.sat_sub-x.result) ≡ (let h3 : ℤ = sat_z (int_at c.args.lv c.loop-i.i -ℤ int_at c.args.rv c.loop-i.i) in h3) = plain c.sat_sub-x.result (sfits_of c.sat_sub-x.type_inv) ∙ c.sat_sub-x.ensures ∙ (λ i. sat_z (plain (int_at c.args.lv c.loop-i.i) (sfits_of c.sat_sub-arg-1.given) i -ℤ plain (int_at c.args.rv c.loop-i.i) (sfits_of c.sat_sub-arg-in-loop-i-1.given) i)) in h4)) in h6) j)) in h9)); min2_is = grown 0 (λ (k : ℕ) (x : ℕ). x ≡ max (nat_at c.args.st.min1 k) (min (nat_at c.args.st.min2 k) (nat_abs (sat_z (int_at c.args.lv k -ℤ int_at c.args.rv k))))) c.loop-i.min2 c.loop-i.i _ (omega arith) c.loop-i.invariant.min2_is ((let h17 : (c.maxu.result ≡ max ((let h14 : ℕ = nat_at c.args.st.min1 c.loop-i.i in h14)) (min ((let h15 : ℕ = nat_at c.args.st.min2 c.loop-i.i in h15)) (nat_abs ((let h16 : ℤ = sat_z (int_at c.args.lv c.loop-i.i -ℤ int_at c.args.rv c.loop-i.i) in h16))))) = c.maxu.ensures ∙ (λ i. max (c.loop-i.invariant.min1_kept c.loop-i.i (omega arith) i) ((c.minu.ensures ∙ (λ j. min (c.loop-i.invariant.min2_kept c.loop-i.i (omega arith) j) ((let h13 : c.mag-a.result ≡ nat_abs ((let h12 : ℤ = sat_z (int_at c.args.lv c.loop-i.i -ℤ int_at c.args.rv c.loop-i.i) in h12)) = c.mag-a.ensures ∙ ap nat_abs ((let h11 : to_z w8 (of_z w8 c.sat_sub-x.result) ≡ (let h10 : ℤ = sat_z (int_at c.args.lv c.loop-i.i -ℤ int_at c.args.rv c.loop-i.i) in h10) = plain c.sat_sub-x.result (sfits_of c.sat_sub-x.type_inv) ∙ c.sat_sub-x.ensures ∙ (λ i. sat_z (plain (int_at c.args.lv c.loop-i.i) (sfits_of c.sat_sub-arg-1.given) i -ℤ plain (int_at c.args.rv c.loop-i.i) (sfits_of c.sat_sub-arg-in-loop-i-1.given) i)) in h11)) in h13) j))) i)) in h17)); sign_is = grown (pos 0) (λ (k : ℕ) (x : ℤ). negative x ≡ times (negative (int_at c.args.st.sign k)) (negative (sat_z (int_at c.args.lv k -ℤ int_at c.args.rv k)))) c.loop-i.sign c.loop-i.i _ (omega arith) c.loop-i.invariant.sign_is ((let h21 : (negative (to_z w8 (of_z w8 c.flip.result)) ≡ times (negative (int_at c.args.st.sign c.loop-i.i)) (negative ((let h20 : ℤ = sat_z (int_at c.args.lv c.loop-i.i -ℤ int_at c.args.rv c.loop-i.i) in h20)))) = ap negative (plain c.flip.result (sfits_of c.flip.type_inv)) ∙ c.flip.ensures ∙ (λ i. times (negative ((plain (int_at c.loop-i.sign c.loop-i.i) (sfits_of c.flip-arg-1.given) ∙ c.loop-i.invariant.sign_kept c.loop-i.i (omega arith)) i)) (negative ((let h19 : to_z w8 (of_z w8 c.sat_sub-x.result) ≡ (let h18 : ℤ = sat_z (int_at c.args.lv c.loop-i.i -ℤ int_at c.args.rv c.loop-i.i) in h18) = plain c.sat_sub-x.result (sfits_of c.sat_sub-x.type_inv) ∙ c.sat_sub-x.ensures ∙ (λ i. sat_z (plain (int_at c.args.lv c.loop-i.i) (sfits_of c.sat_sub-arg-1.given) i -ℤ plain (int_at c.args.rv c.loop-i.i) (sfits_of c.sat_sub-arg-in-loop-i-1.given) i)) in h19) i))) in h21)); min1_kept = kept 0 c.loop-i.min1 c.args.st.min1 c.loop-i.i _ c.loop-i.invariant.min1_kept; min2_kept = kept 0 c.loop-i.min2 c.args.st.min2 c.loop-i.i _ c.loop-i.invariant.min2_kept; sign_kept = kept (pos 0) c.loop-i.sign c.args.st.sign c.loop-i.i _ c.loop-i.invariant.sign_kept }
+loop-i-preserved c =
+    let tZ : ℤ = sat_z (int_at c.args.lv c.loop-i.i -ℤ int_at c.args.rv c.loop-i.i) in
+    let x_is : to_z w8 (of_z w8 c.sat_sub-x.result) ≡ tZ =
+    plain c.sat_sub-x.result (sfits_of c.sat_sub-x.type_inv)
+    ∙ c.sat_sub-x.ensures
+    ∙ (λ i. sat_z
+    (plain (int_at c.args.lv c.loop-i.i) (sfits_of c.sat_sub-arg-1.given) i -ℤ plain (int_at c.args.rv c.loop-i.i)
+    (sfits_of c.sat_sub-arg-in-loop-i-1.given) i)) in
+    let a_is : c.mag-a.result ≡ nat_abs tZ = c.mag-a.ensures ∙ ap nat_abs x_is in
+    let m1 : ℕ = nat_at c.args.st.min1 c.loop-i.i in
+    let min1_step : (c.minu-in-loop-i.result ≡ min m1 (nat_abs tZ)) =
+    c.minu-in-loop-i.ensures ∙ (λ j. min (c.loop-i.invariant.min1_kept c.loop-i.i (omega arith) j) (a_is j)) in
+    let m2 : ℕ = nat_at c.args.st.min2 c.loop-i.i in
+    let min2_step : (c.maxu.result ≡ max m1 (min m2 (nat_abs tZ))) =
+    c.maxu.ensures
+    ∙ (λ i. max (c.loop-i.invariant.min1_kept c.loop-i.i (omega arith) i)
+    ((c.minu.ensures ∙ (λ j. min (c.loop-i.invariant.min2_kept c.loop-i.i (omega arith) j) (a_is j))) i)) in
+    let sign_step : (negative (to_z w8 (of_z w8 c.flip.result)) ≡ times (negative (int_at c.args.st.sign c.loop-i.i)) (negative tZ)) =
+    ap negative (plain c.flip.result (sfits_of c.flip.type_inv))
+    ∙ c.flip.ensures
+    ∙ (λ i. times
+    (negative
+    ((plain (int_at c.loop-i.sign c.loop-i.i) (sfits_of c.flip-arg-1.given)
+    ∙ c.loop-i.invariant.sign_kept c.loop-i.i (omega arith)) i)) (negative (x_is i))) in
+    record {
+      in_range = search rules;
+      long = (
+        simp length-set (omega arith),
+        simp length-set (omega arith),
+        simp length-set (omega arith),
+        simp length-set (omega arith),
+      );
+      t_is =
+          grown (pos 0) (λ (k : ℕ) (x : ℤ). x ≡ sat_z (int_at c.args.lv k -ℤ int_at c.args.rv k)) c.loop-i.t c.loop-i.i _
+          (omega arith) c.loop-i.invariant.t_is x_is;
+      min1_is =
+          grown 0
+          (λ (k : ℕ) (x : ℕ). x ≡ min (nat_at c.args.st.min1 k) (nat_abs (sat_z (int_at c.args.lv k -ℤ int_at c.args.rv k))))
+          c.loop-i.min1 c.loop-i.i _ (omega arith) c.loop-i.invariant.min1_is min1_step;
+      min2_is =
+          grown 0
+          (λ (k : ℕ) (x : ℕ).
+          x ≡ max (nat_at c.args.st.min1 k) (min (nat_at c.args.st.min2 k) (nat_abs (sat_z (int_at c.args.lv k -ℤ int_at c.args.rv k)))))
+          c.loop-i.min2 c.loop-i.i _ (omega arith) c.loop-i.invariant.min2_is min2_step;
+      sign_is =
+          grown (pos 0)
+          (λ (k : ℕ) (x : ℤ).
+          negative x ≡ times (negative (int_at c.args.st.sign k)) (negative (sat_z (int_at c.args.lv k -ℤ int_at c.args.rv k))))
+          c.loop-i.sign c.loop-i.i _ (omega arith) c.loop-i.invariant.sign_is sign_step;
+      min1_kept = kept 0 c.loop-i.min1 c.args.st.min1 c.loop-i.i _ c.loop-i.invariant.min1_kept;
+      min2_kept = kept 0 c.loop-i.min2 c.args.st.min2 c.loop-i.i _ c.loop-i.invariant.min2_kept;
+      sign_kept = kept (pos 0) c.loop-i.sign c.args.st.sign c.loop-i.i _ c.loop-i.invariant.sign_kept;
+    }
 
 pub returns : goal.returns
-returns c = record { t_is = λ k q. c.loop-i.invariant.t_is k (omega (arith, q)); min1_is = λ k q. c.loop-i.invariant.min1_is k (omega (arith, q)); min2_is = λ k q. c.loop-i.invariant.min2_is k (omega (arith, q)); sign_is = λ k q. c.loop-i.invariant.sign_is k (omega (arith, q)) }
+returns c =
+    record {
+      t_is = λ k q. c.loop-i.invariant.t_is k (omega (arith, q));
+      min1_is = λ k q. c.loop-i.invariant.min1_is k (omega (arith, q));
+      min2_is = λ k q. c.loop-i.invariant.min2_is k (omega (arith, q));
+      sign_is = λ k q. c.loop-i.invariant.sign_is k (omega (arith, q));
+    }

@@ -16,6 +16,7 @@ use Rattle.lane16.specs.Lanes.{int_at, nat_at}
 use Rattle.laws.specs.Stores.{grown, kept}
 use Rattle.lane16.proofs.scan.Given as goal
 
+-- the first i lanes are done, and the others as they were
 pub record Going (L r : List ℤ) (a b : List ℕ) (s : List ℤ) (a' b' : List ℕ) (s' t : List ℤ) (i : ℕ) : Type 0 where
   pub in_range : i ≤ 16
   pub long : (length a' ≡ 16) × (length b' ≡ 16) × (length s' ≡ 16) × (length t ≡ 16)

@@ -13,7 +13,11 @@ pub loop-i-init : goal.loop-i-init
 loop-i-init c = (search rules, storing_start (c.args.u * c.args.lanes + c.args.at) c.args.x c.args.work.now)
 
 pub loop-i-preserved : goal.loop-i-preserved
-loop-i-preserved c = (search rules, storing_again _ c.loop-i.invariant.1 (omega arith) (simp length-set) refl (plain (int_at c.args.x c.loop-i.i) (sfits_of c.work-1.given)))
+loop-i-preserved c = (
+  search rules,
+  storing_again _ c.loop-i.invariant.1 (omega arith) (simp length-set) refl
+      (plain (int_at c.args.x c.loop-i.i) (sfits_of c.work-1.given)),
+)
 
 pub returns : goal.returns
 returns c = storing_end c.loop-i.invariant.1 (omega arith) (omega arith)

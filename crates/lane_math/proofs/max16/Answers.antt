@@ -7,7 +7,11 @@ use Rattle.laws.specs.Signed.{lt_plain}
 use Rattle.lane_math.proofs.max16.Goals as goal
 
 pub returns-then-a-b : goal.returns-then-a-b
-returns-then-a-b c = to_z-of_z w16 c.args.b c.ranges.b ∙ sym (ap (λ (t : Bool). cond t c.args.b c.args.a) (lt_plain w16 c.ranges.a c.ranges.b c.if-a-b.true))
+returns-then-a-b c =
+    to_z-of_z w16 c.args.b c.ranges.b
+    ∙ sym (ap (λ (t : Bool). cond t c.args.b c.args.a) (lt_plain w16 c.ranges.a c.ranges.b c.if-a-b.true))
 
 pub returns-else-a-b : goal.returns-else-a-b
-returns-else-a-b c = to_z-of_z w16 c.args.a c.ranges.a ∙ sym (ap (λ (t : Bool). cond t c.args.b c.args.a) (lt_plain w16 c.ranges.a c.ranges.b c.if-a-b.false))
+returns-else-a-b c =
+    to_z-of_z w16 c.args.a c.ranges.a
+    ∙ sym (ap (λ (t : Bool). cond t c.args.b c.args.a) (lt_plain w16 c.ranges.a c.ranges.b c.if-a-b.false))
