@@ -5,8 +5,8 @@ use mathlib.Core.Path.{◌≡◌, ap}
 use Prim.Native.Nat.{ℕ, suc, ◌+◌, ◌-◌, ◌≤◌, ◌<◌}
 use lib.ListN.{length, drop, length-take, length-drop, get_or-replicate}
 use Rattle.ldpc_shape.specs.Shape.{q_of}
-use Rattle.ldpc_shape.specs.Accepted.{Accepted, rows_le, addrs_le, q_pos, q_le}
 use Rattle.ldpc_shape.proofs.Accepted.{accepted}
+use Rattle.ldpc_shape.specs.Accepted.{Accepted, rows_le, addrs_le, q_pos, q_le}
 use Rattle.fixed_conflicts.specs.Conflicts.{total_within, total_next}
 use Rattle.fixed_conflicts.specs.Marks.{Begun, begun_start, begun_again, begun_few, begun_small, begun_end}
 use Rattle.fixed_conflicts.proofs.spans.Given as goal
