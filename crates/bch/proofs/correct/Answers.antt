@@ -1,11 +1,7 @@
 -- `bch::correct` meets its contract: the syndromes are the remainder's, the register is a shortest one, and the places are its roots.
 -- Assumes nothing.
-use mathlib.Core.Path.{◌≡◌, ◌∙◌}
-use Prim.Native.Nat.{ℕ, ◌<◌, ◌≤◌}
+use mathlib.Core.Path.{◌∙◌}
 use native.Mathlib.Omega.{arith}
-use borrow.Author.Rules.{rules}
-use Rattle.bch_locator.specs.Element.{poly}
-use Rattle.bch.specs.Decode.{syndrome}
 use Rattle.bch_table.specs.Step.{value_of}
 use Rattle.bch.specs.DecodeLaws.{located_to}
 use Rattle.bch.proofs.Locate.{of_remainder, too_long, all_found, some_missing}

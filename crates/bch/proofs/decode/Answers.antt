@@ -1,6 +1,5 @@
 -- `bch::decode` meets its contract: refused, clean, or located. Assumes nothing.
 use mathlib.Core.Path.{sym, ◌∙◌}
-use borrow.Author.Rules.{rules}
 use borrow.Author.Tests.{eqb-true, eqb-false}
 use Rattle.bch_table.specs.Step.{value_of}
 use Rattle.bch.specs.AnswersLaws.{short_word, long_word, decodes_refused, decodes_clean, decodes_located}

@@ -1,6 +1,5 @@
-use borrow.Author.Rules.{rules}
 use mathlib.Core.Path.{◌≡◌, refl, sym, ap, ◌∙◌}
-use Prim.Native.Nat.{◌-◌, ◌<◌, ◌≤◌}
+use Prim.Native.Nat.{◌<◌}
 use lib.ListN.{length, get_or, length-set}
 use Rattle.laws.specs.Definitions.{◌⊕◌}
 use Rattle.bch.specs.Places.{flip_all}

@@ -1,12 +1,8 @@
 -- `bch::flip` meets its contract. The loop: the first i listed powers are turned. Assumes nothing.
-use borrow.Author.Rules.{rules}
-use mathlib.Core.Path.{◌≡◌, refl, sym, ap, ◌∙◌}
-use Prim.Native.Nat.{◌-◌, ◌<◌, ◌≤◌}
-use lib.ListN.{length, get_or, length-set}
-use Rattle.laws.specs.Definitions.{◌⊕◌}
+use mathlib.Core.Path.{◌≡◌}
+use Prim.Native.Nat.{◌-◌, ◌≤◌}
+use lib.ListN.{length, get_or}
 use Rattle.bch.specs.Places.{flip_all}
-use Rattle.bch.proofs.FlipLoop.{flip_all_none, flip_again}
-use native.Mathlib.Omega.{arith}
 use Rattle.bch.proofs.flip.Given as goal
 
 abbrev pub invariant-loop-i : goal.invariant-loop-i

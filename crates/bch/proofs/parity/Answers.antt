@@ -2,7 +2,6 @@
 use mathlib.Core.Path.{sym, ap, ◌∙◌}
 use mathlib.Core.List.{◌++◌}
 use Prim.Native.Nat.{ℕ}
-use borrow.Author.Rules.{rules}
 use lib.ListN.{length, drop}
 use Rattle.bch_remainder.specs.Word.{parity_of, parity_bits}
 use Rattle.bch.specs.Answers.{parity_out}

@@ -1,6 +1,5 @@
-use Prim.Native.Nat.{◌-◌}
-use Rattle.bch_locator.proofs.Filling.{Filling, filling_start, filling_again, zero_lanes}
-use Rattle.bch_locator.proofs.Horner.{Plus, plus_fits, plus_is, added_end}
+use Rattle.bch_locator.proofs.Filling.{filling_start, filling_again, zero_lanes}
+use Rattle.bch_locator.proofs.Horner.{plus_fits, plus_is, added_end}
 use borrow.Author.Rules.{rules}
 use Rattle.bch_locator.proofs.add_bit.Goals as goal
 

@@ -1,9 +1,8 @@
 -- `bch_locator::add_bit` meets its contract.
 -- Assumes nothing.
 use Prim.Native.Nat.{◌-◌}
-use Rattle.bch_locator.proofs.Filling.{Filling, filling_start, filling_again, zero_lanes}
-use Rattle.bch_locator.proofs.Horner.{Plus, plus_fits, plus_is, added_end}
-use borrow.Author.Rules.{rules}
+use Rattle.bch_locator.proofs.Filling.{Filling}
+use Rattle.bch_locator.proofs.Horner.{Plus}
 use Rattle.bch_locator.proofs.add_bit.Given as goal
 
 abbrev pub invariant-loop-i : goal.invariant-loop-i

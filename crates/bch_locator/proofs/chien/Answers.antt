@@ -1,7 +1,6 @@
 -- `bch_locator::chien` meets its contract.
 -- Assumes nothing.
 use Rattle.bch_locator.proofs.Search.{places_length}
-use borrow.Author.Rules.{rules}
 use Rattle.bch_locator.proofs.chien.Goals as goal
 
 pub returns-then-len-eq1 : goal.returns-then-len-eq1

@@ -3,10 +3,7 @@
 use Prim.Native.Nat.{◌-◌}
 use Rattle.bch_locator.specs.Lanes.{PowersOf}
 use Rattle.bch_locator.specs.Syndromes.{first_part, second_part}
-use Rattle.bch_locator.proofs.Raised.{powers_small}
-use Rattle.bch_locator.proofs.Horner.{Partial, partial_start, partial_again, partial_end, digit_lt}
-use borrow.Author.Rules.{rules}
-use native.Mathlib.Omega.{arith}
+use Rattle.bch_locator.proofs.Horner.{Partial}
 use Rattle.bch_locator.proofs.digits.Given as goal
 
 abbrev pub invariant-loop-k : goal.invariant-loop-k

@@ -1,9 +1,7 @@
 use mathlib.Core.Path.{◌≡◌, ap, ◌∙◌}
-use Prim.Native.Nat.{◌≤◌, ◌-◌, ◌+◌}
-use Rattle.bch_locator.specs.Element.{to_el}
+use Prim.Native.Nat.{◌+◌}
 use Rattle.bch_locator.specs.Register.{total}
 use Rattle.bch_locator.proofs.Steps.{total_none, total_more}
-use borrow.Author.Rules.{rules}
 use native.Mathlib.Omega.{arith}
 use Rattle.bch_locator.proofs.discrepancy.Goals as goal
 

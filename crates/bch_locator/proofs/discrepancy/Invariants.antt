@@ -1,12 +1,9 @@
 -- `bch_locator::discrepancy` meets its contract.
 -- Assumes nothing.
-use mathlib.Core.Path.{◌≡◌, ap, ◌∙◌}
+use mathlib.Core.Path.{◌≡◌}
 use Prim.Native.Nat.{◌≤◌, ◌-◌, ◌+◌}
 use Rattle.bch_locator.specs.Element.{to_el}
 use Rattle.bch_locator.specs.Register.{total}
-use Rattle.bch_locator.proofs.Steps.{total_none, total_more}
-use borrow.Author.Rules.{rules}
-use native.Mathlib.Omega.{arith}
 use Rattle.bch_locator.proofs.discrepancy.Given as goal
 
 abbrev pub invariant-loop-i : goal.invariant-loop-i

@@ -4,7 +4,6 @@ use mathlib.Core.Path.{refl}
 use native.Mathlib.Nat.{lt_of_le_of_lt}
 use lib.Bits.{and_le_r}
 use lib.Dec.{lit<}
-use borrow.Author.Rules.{rules}
 use Rattle.laws.specs.Definitions.{◌⊕◌}
 use Rattle.bch_locator.proofs.AtAlpha.{quotient, high, fold_is}
 use Rattle.bch_locator.proofs.fold.Goals as goal

@@ -1,8 +1,3 @@
-use mathlib.Core.Path.{◌≡◌}
-use Prim.Native.Nat.{◌≤◌, ◌-◌}
-use Rattle.gf16.specs.Field16.{R16, gf16}
-use Rattle.algebra.specs.RingLaws.{ones_power}
-use Rattle.bch_locator.specs.Element.{to_el}
 use Rattle.bch_locator.proofs.Powers.{inverse_start, inverse_again, inverse_end}
 use borrow.Author.Rules.{rules}
 use native.Mathlib.Omega.{arith}

@@ -1,10 +1,5 @@
 use mathlib.Core.Path.{◌≡◌}
-use Prim.Native.Nat.{◌-◌, ◌≤◌}
-use Rattle.algebra.specs.SeriesLaws.{sum}
-use Rattle.gf16.specs.Field16.{R16}
-use Rattle.bch_locator.specs.Element.{to_el, poly}
 use Rattle.bch_locator.proofs.Search.{lanes_none, lanes_more, lanes_end}
-use borrow.Author.Rules.{rules}
 use native.Mathlib.Omega.{arith}
 use Rattle.bch_locator.proofs.lane_sum.Goals as goal
 

@@ -1,7 +1,5 @@
-use mathlib.Core.Path.{◌≡◌}
-use lib.ListN.{length, length-set}
-use Prim.Native.Nat.{◌≤◌, ◌-◌}
-use Rattle.bch_locator.proofs.Steps.{Mending, mending_start, mending_again, mending_end}
+use lib.ListN.{length-set}
+use Rattle.bch_locator.proofs.Steps.{mending_start, mending_again, mending_end}
 use borrow.Author.Rules.{rules}
 use native.Mathlib.Omega.{arith}
 use Rattle.bch_locator.proofs.mend.Goals as goal

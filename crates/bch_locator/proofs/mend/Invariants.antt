@@ -1,11 +1,9 @@
 -- `bch_locator::mend` meets its contract.
 -- Assumes nothing.
 use mathlib.Core.Path.{◌≡◌}
-use lib.ListN.{length, length-set}
+use lib.ListN.{length}
 use Prim.Native.Nat.{◌≤◌, ◌-◌}
-use Rattle.bch_locator.proofs.Steps.{Mending, mending_start, mending_again, mending_end}
-use borrow.Author.Rules.{rules}
-use native.Mathlib.Omega.{arith}
+use Rattle.bch_locator.proofs.Steps.{Mending}
 use Rattle.bch_locator.proofs.mend.Given as goal
 
 abbrev pub invariant-loop-i : goal.invariant-loop-i

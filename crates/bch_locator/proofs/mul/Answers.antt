@@ -1,7 +1,7 @@
-use Prim.Native.Nat.{◌-◌, ◌/◌, ◌<◌}
+use Prim.Native.Nat.{◌/◌, ◌<◌}
 use native.Mathlib.Omega.{arith}
 use borrow.Author.Rules.{rules}
-use Rattle.bch_locator.proofs.Product.{Taken, taken_start, taken_again, taken_end, taken_fits, top_lt, product_lt}
+use Rattle.bch_locator.proofs.Product.{taken_start, taken_again, taken_end, taken_fits, top_lt, product_lt}
 use Rattle.bch_locator.proofs.mul.Goals as goal
 
 pub loop-i-init : goal.loop-i-init

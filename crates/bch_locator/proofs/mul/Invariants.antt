@@ -1,9 +1,7 @@
 -- `bch_locator::mul` meets its contract.
 -- Assumes nothing.
-use Prim.Native.Nat.{◌-◌, ◌/◌, ◌<◌}
-use native.Mathlib.Omega.{arith}
-use borrow.Author.Rules.{rules}
-use Rattle.bch_locator.proofs.Product.{Taken, taken_start, taken_again, taken_end, taken_fits, top_lt, product_lt}
+use Prim.Native.Nat.{◌-◌}
+use Rattle.bch_locator.proofs.Product.{Taken}
 use Rattle.bch_locator.proofs.mul.Given as goal
 
 abbrev pub invariant-loop-i : goal.invariant-loop-i

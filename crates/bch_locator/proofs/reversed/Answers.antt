@@ -1,5 +1,4 @@
-use Prim.Native.Nat.{◌-◌}
-use Rattle.bch_locator.proofs.Search.{Reversing, reversing_start, reversing_again, reversing_end}
+use Rattle.bch_locator.proofs.Search.{reversing_start, reversing_again, reversing_end}
 use borrow.Author.Rules.{rules}
 use Rattle.bch_locator.proofs.reversed.Goals as goal
 

@@ -1,8 +1,7 @@
 -- `bch_locator::reversed` meets its contract.
 -- Assumes nothing.
 use Prim.Native.Nat.{◌-◌}
-use Rattle.bch_locator.proofs.Search.{Reversing, reversing_start, reversing_again, reversing_end}
-use borrow.Author.Rules.{rules}
+use Rattle.bch_locator.proofs.Search.{Reversing}
 use Rattle.bch_locator.proofs.reversed.Given as goal
 
 abbrev pub invariant-loop-i : goal.invariant-loop-i

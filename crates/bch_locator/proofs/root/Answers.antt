@@ -1,9 +1,5 @@
 use mathlib.Core.Path.{◌≡◌, refl}
-use Prim.Native.Nat.{◌+◌, ◌-◌, ◌≤◌, ◌<◌}
-use Rattle.algebra.specs.Series.{pow}
-use Rattle.gf16.specs.Field16.{R16, α}
-use Rattle.bch_locator.specs.Element.{to_el}
-use Rattle.bch_locator.specs.Places.{PlacesOf}
+use Prim.Native.Nat.{◌+◌}
 use Rattle.bch_locator.proofs.Search.{one_hit, one_miss, power_start, power_again, places_start, places_miss, places_hit, places_full, places_end}
 use Rattle.laws.specs.Lists.{zeros_at}
 use borrow.Author.Rules.{rules}

@@ -1,6 +1,5 @@
 use mathlib.Core.Path.{refl}
-use Prim.Native.Nat.{◌-◌}
-use Rattle.bch_locator.proofs.Steps.{State, state_zero, state_keep, state_grow, state_fail, state_end, state_start, state_move, one_first}
+use Rattle.bch_locator.proofs.Steps.{state_zero, state_keep, state_grow, state_fail, state_end, state_start, state_move, one_first}
 use Rattle.laws.specs.Lists.{zeros_at}
 use borrow.Author.Rules.{rules}
 use Rattle.bch_locator.proofs.shortest.Goals as goal

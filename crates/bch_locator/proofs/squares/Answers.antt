@@ -1,6 +1,5 @@
 use mathlib.Core.Path.{refl}
-use Prim.Native.Nat.{◌-◌}
-use Rattle.bch_locator.proofs.Horner.{Squaring, squaring_start, squaring_again, squaring_end}
+use Rattle.bch_locator.proofs.Horner.{squaring_start, squaring_again, squaring_end}
 use borrow.Author.Rules.{rules}
 use Rattle.bch_locator.proofs.squares.Goals as goal
 

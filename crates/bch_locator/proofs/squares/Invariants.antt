@@ -1,9 +1,7 @@
 -- `bch_locator::squares` meets its contract.
 -- Assumes nothing.
-use mathlib.Core.Path.{refl}
 use Prim.Native.Nat.{◌-◌}
-use Rattle.bch_locator.proofs.Horner.{Squaring, squaring_start, squaring_again, squaring_end}
-use borrow.Author.Rules.{rules}
+use Rattle.bch_locator.proofs.Horner.{Squaring}
 use Rattle.bch_locator.proofs.squares.Given as goal
 
 abbrev pub invariant-loop-k : goal.invariant-loop-k

@@ -1,6 +1,5 @@
 -- `bch_locator::syndromes` meets its contract.
 -- Assumes nothing.
-use borrow.Author.Rules.{rules}
 use Rattle.bch_locator.proofs.Filling.{zero_lanes}
 use Rattle.bch_locator.proofs.Horner.{joined_values, all_powers}
 use Rattle.bch_locator.proofs.syndromes.Goals as goal

@@ -1,6 +1,6 @@
-use Prim.Native.Nat.{◌-◌, ◌*◌, ◌<◌}
+use Prim.Native.Nat.{◌*◌, ◌<◌}
 use lib.ListN.{get_or}
-use Rattle.bch_locator.proofs.Filling.{Filling, At, filling_start, filling_again, zero_lanes, product_fits, products_end}
+use Rattle.bch_locator.proofs.Filling.{filling_start, filling_again, zero_lanes, product_fits, products_end}
 use borrow.Author.Rules.{rules}
 use native.Mathlib.Omega.{arith}
 use Rattle.bch_locator.proofs.times.Goals as goal
