@@ -1,5 +1,7 @@
 // The lists of all checks in one lent slice: row_start (P + 1 numbers), then rows (E bits).
 // The slice is filled from the lists' ends: each start is first its list's end and goes down by one for each bit.
+#![tactic(auto)]
+
 ghost use Rattle.std.specs.Prelude.{◌≡◌, cond, suc, ◌+◌, ◌*◌, ◌%◌, ◌<◌, ◌≤◌, eqb, length, get_or};
 ghost use Rattle.ldpc_shape.specs.Shape.{sizes_of, rows_of, total, code_refusal};
 ghost use Rattle.ldpc_edges.specs.Code.{met, of_bits, of_rows, stairs, edge_lists};

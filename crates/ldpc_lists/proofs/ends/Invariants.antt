@@ -1,0 +1,16 @@
+-- `ldpc_lists::ends` meets its contract. Assumes nothing.
+use Rattle.ldpc_lists.specs.Ends.{EndsSet, ending, ending_le, ending_next, ends_again, ends_last, ends_start, ending_start}
+use lib.Seq.{get_or-set_same}
+use lib.ListN.{length, get_or, length-set}
+use native.Mathlib.Nat.{mod-lt}
+use Prim.Native.Nat.{◌≤◌, ◌<◌, ◌+◌, ◌-◌, ◌*◌, ◌%◌}
+use mathlib.Core.Path.{◌≡◌, refl, ap, ◌∙◌, subst}
+use borrow.Author.Rules.{rules}
+use native.Mathlib.Omega.{arith}
+use Rattle.ldpc_lists.proofs.ends.Given as goal
+
+abbrev pub invariant-loop-i : goal.invariant-loop-i
+invariant-loop-i l = (l.i ≤ l.checks) × (length l.lists ≡ length l.initial.lists) × (l.e ≡ ending l.counts l.q l.i) × EndsSet l.counts l.q l.lists l.i
+
+abbrev pub decreases-loop-i : goal.decreases-loop-i
+decreases-loop-i l = l.checks - l.i
