@@ -1,0 +1,16 @@
+-- `fixed_lanes::clear_part` meets its contract. Assumes nothing.
+use borrow.Author.Rules.{rules}
+use native.Mathlib.Omega.{arith}
+use native.Mathlib.Nat.{mul-le-mul_right}
+use mathlib.Core.Path.{◌≡◌, refl}
+use Prim.Native.Nat.{◌+◌, ◌*◌, ◌-◌, ◌≤◌}
+use lib.ListN.{length}
+use Rattle.lane16.specs.ColumnLaws.{row_ends}
+use Rattle.fixed_lanes.specs.Part.{PartMasked, part_start, part_again, part_end}
+use Rattle.fixed_lanes.proofs.clear_part.Given as goal
+
+abbrev pub invariant-loop-k : goal.invariant-loop-k
+invariant-loop-k l = (l.k ≤ l.m) × ((length l.work ≡ length l.initial.work) × PartMasked l.u l.lanes l.at l.w l.q l.initial.work l.k l.work)
+
+abbrev pub decreases-loop-k : goal.decreases-loop-k
+decreases-loop-k l = l.m - l.k

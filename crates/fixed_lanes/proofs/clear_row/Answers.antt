@@ -1,0 +1,35 @@
+use borrow.Author.Rules.{rules}
+use native.Mathlib.Omega.{arith}
+use mathlib.Core.Path.{◌≡◌, refl, ap, ◌∙◌}
+use mathlib.Core.Bool.{cond}
+use Prim.Native.Nat.{◌-◌, ◌≤◌}
+use lib.ListN.{length}
+use lib.IntN.{ℤ, pos}
+use Rattle.laws.specs.Signed.{plain}
+use Rattle.fixed_lanes.specs.Clear.{RowCleared, on, row_start_lem, row_again, row_end}
+use Rattle.fixed_lanes.proofs.clear_row.Goals as goal
+
+pub loop-i-init : goal.loop-i-init
+loop-i-init c = (search rules, (refl, row_start_lem c.args.lanes c.args.u c.args.fresh.now c.args.work.now))
+
+pub value-x-requires : goal.value-x-requires
+value-x-requires c = omega (arith, c.requires.0, c.loop-i-test.true, c.loop-i.invariant.1.0)
+
+pub place-requires : goal.place-requires
+place-requires c = (omega (arith, c.requires.0, c.loop-i-test.true, c.loop-i.invariant.1.0), c.loop-i-test.true)
+
+pub loop-i-preserved : goal.loop-i-preserved
+loop-i-preserved c = (
+  search rules,
+  (
+    omega (arith, c.loop-i.invariant.1.0),
+    row_again c.loop-i.invariant.1.1 c.loop-i-test.true c.value-x.ensures
+        (plain c.pick-y.result (record { sfits = c.pick-y.type_inv })
+        ∙ c.pick-y.ensures
+        ∙ ap (λ (z : ℤ). cond (on c.args.fresh.now c.loop-i.i) (pos 0) z)
+        (plain c.value-x.result (record { sfits = c.value-x.type_inv }))) c.place.ensures,
+  ),
+)
+
+pub returns : goal.returns
+returns c = row_end (omega (arith, c.loop-i.invariant.0, c.loop-i-test.false)) c.loop-i.invariant.1.1
