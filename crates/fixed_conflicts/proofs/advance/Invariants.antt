@@ -1,10 +1,6 @@
 -- `fixed_conflicts::advance` meets its contract. Assumes nothing.
-use borrow.Author.Rules.{rules}
-use native.Mathlib.Omega.{arith}
-use mathlib.Core.Path.{ap}
-use Prim.Native.Nat.{ℕ, ◌+◌, ◌*◌, ◌-◌, ◌≤◌}
-use lib.ListN.{get_or}
-use Rattle.fixed_conflicts.specs.Marks.{NextRow, next_row_start, next_row_again, next_row_end}
+use Prim.Native.Nat.{◌-◌, ◌≤◌}
+use Rattle.fixed_conflicts.specs.Marks.{NextRow}
 use Rattle.fixed_conflicts.proofs.advance.Given as goal
 
 abbrev pub invariant-loop-l : goal.invariant-loop-l

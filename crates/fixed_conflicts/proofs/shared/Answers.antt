@@ -2,10 +2,10 @@ use borrow.Author.Rules.{rules}
 use native.Mathlib.Omega.{arith}
 use mathlib.Core.Path.{refl}
 use mathlib.Core.Bool.{false}
-use Prim.Native.Nat.{◌+◌, ◌-◌, ◌≤◌}
+use Prim.Native.Nat.{◌+◌}
 use lib.Dec.{ltb}
 use lib.ListN.{replicate, length-replicate}
-use Rattle.fixed_conflicts.specs.Table.{Flagged, flagged_start, flagged_again, flagged_end, zeros}
+use Rattle.fixed_conflicts.specs.Table.{flagged_start, flagged_again, flagged_end, zeros}
 use Rattle.fixed_conflicts.proofs.shared.Goals as goal
 
 pub loop-g-init : goal.loop-g-init

@@ -1,12 +1,6 @@
 -- `fixed_conflicts::shared` meets its contract. Assumes nothing.
-use borrow.Author.Rules.{rules}
-use native.Mathlib.Omega.{arith}
-use mathlib.Core.Path.{refl}
-use mathlib.Core.Bool.{false}
-use Prim.Native.Nat.{◌+◌, ◌-◌, ◌≤◌}
-use lib.Dec.{ltb}
-use lib.ListN.{replicate, length-replicate}
-use Rattle.fixed_conflicts.specs.Table.{Flagged, flagged_start, flagged_again, flagged_end, zeros}
+use Prim.Native.Nat.{◌-◌, ◌≤◌}
+use Rattle.fixed_conflicts.specs.Table.{Flagged}
 use Rattle.fixed_conflicts.proofs.shared.Given as goal
 
 abbrev pub invariant-loop-g : goal.invariant-loop-g

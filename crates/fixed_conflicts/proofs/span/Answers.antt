@@ -2,7 +2,6 @@
 use native.Mathlib.Omega.{arith}
 use Prim.Native.Nat.{◌+◌, ◌*◌}
 use mathlib.Core.Path.{refl}
-use borrow.Author.Rules.{rules}
 use Rattle.fixed_conflicts.proofs.span.Goals as goal
 
 pub overflow_cast-result : goal.overflow_cast-result
