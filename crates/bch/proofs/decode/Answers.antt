@@ -2,7 +2,8 @@
 use mathlib.Core.Path.{sym, ◌∙◌}
 use borrow.Author.Tests.{eqb-true, eqb-false}
 use Rattle.bch_table.specs.Step.{value_of}
-use Rattle.bch.specs.AnswersLaws.{short_word, long_word, decodes_refused, decodes_clean, decodes_located}
+use Rattle.bch.specs.AnswersLaws.{short_word, long_word}
+use Rattle.bch.proofs.Decodes.{decodes_refused, decodes_clean, decodes_located}
 use Rattle.bch.proofs.decode.Goals as goal
 
 pub returns-then-n-lt193 : goal.returns-then-n-lt193
