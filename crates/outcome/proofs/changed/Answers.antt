@@ -1,9 +1,7 @@
-use Prim.Native.Nat.{◌-◌, ◌≤◌}
 use native.Mathlib.Omega.{arith}
-use borrow.Author.Rules.{rules}
-use Rattle.outcome.specs.Outcome.{begin, bits_of}
+use Rattle.outcome.specs.Outcome.{begin}
 use Rattle.outcome.specs.Laws.{bits_length}
-use Rattle.outcome.specs.Changed.{changed_bits, Comparing, comparing_start, comparing_on, comparing_end}
+use Rattle.outcome.specs.Changed.{changed_bits, comparing_start, comparing_on, comparing_end}
 use Rattle.outcome.proofs.changed.Goals as goal
 
 pub loop-k-init : goal.loop-k-init

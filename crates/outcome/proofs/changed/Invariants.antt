@@ -1,11 +1,8 @@
 -- `outcome::changed` meets its contract, block by block. The loop's invariant: the positions before k are compared.
 -- Assumes nothing.
 use Prim.Native.Nat.{◌-◌, ◌≤◌}
-use native.Mathlib.Omega.{arith}
-use borrow.Author.Rules.{rules}
 use Rattle.outcome.specs.Outcome.{begin, bits_of}
-use Rattle.outcome.specs.Laws.{bits_length}
-use Rattle.outcome.specs.Changed.{changed_bits, Comparing, comparing_start, comparing_on, comparing_end}
+use Rattle.outcome.specs.Changed.{Comparing}
 use Rattle.outcome.proofs.changed.Given as goal
 
 abbrev pub invariant-loop-k : goal.invariant-loop-k

@@ -1,7 +1,6 @@
 -- `outcome::correct` meets its contract. Assumes nothing.
 use mathlib.Core.Path.{◌∙◌}
-use Rattle.outcome.specs.Laws.{result_whole, corrected_whole}
-use borrow.Author.Rules.{rules}
+use Rattle.outcome.proofs.Corrected.{result_whole, corrected_whole}
 use Rattle.outcome.proofs.correct.Goals as goal
 
 pub returns : goal.returns

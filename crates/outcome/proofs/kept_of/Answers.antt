@@ -2,7 +2,6 @@
 use mathlib.Core.Path.{sym, ◌∙◌}
 use borrow.Author.Tests.{eq-eqb, ne_eqb}
 use Rattle.outcome.specs.Outcome.{kept_of, is_lost, lost}
-use borrow.Author.Rules.{rules}
 use Rattle.outcome.proofs.kept_of.Goals as goal
 
 pub returns-then-bch-eq-LOST : goal.returns-then-bch-eq-LOST

@@ -1,7 +1,7 @@
 use borrow.Author.Rules.{sfits_of, rules}
 use Rattle.laws.specs.Signed.{plain}
 use mathlib.Core.Path.{◌≡◌, refl, ap, ◌∙◌}
-use Prim.Native.Nat.{ℕ, ◌+◌, ◌-◌, ◌≤◌}
+use Prim.Native.Nat.{ℕ, ◌+◌}
 use Rattle.iteration.specs.Lists.{var}
 use Rattle.iteration.specs.Iteration.{negatives, hard}
 use Rattle.outcome.specs.Soft.{values, negatives_le, negatives_again}

@@ -1,12 +1,9 @@
 -- `outcome::negative` meets its contract. Assumes nothing.
-use borrow.Author.Rules.{sfits_of, rules}
-use Rattle.laws.specs.Signed.{plain}
-use mathlib.Core.Path.{◌≡◌, refl, ap, ◌∙◌}
-use Prim.Native.Nat.{ℕ, ◌+◌, ◌-◌, ◌≤◌}
+use mathlib.Core.Path.{◌≡◌}
+use Prim.Native.Nat.{◌-◌, ◌≤◌}
 use Rattle.iteration.specs.Lists.{var}
-use Rattle.iteration.specs.Iteration.{negatives, hard}
-use Rattle.outcome.specs.Soft.{values, negatives_le, negatives_again}
-use native.Mathlib.Omega.{arith}
+use Rattle.iteration.specs.Iteration.{negatives}
+use Rattle.outcome.specs.Soft.{values}
 use Rattle.outcome.proofs.negative.Given as goal
 
 abbrev pub invariant-loop-k : goal.invariant-loop-k

@@ -4,7 +4,6 @@ use Prim.Native.Nat.{ℕ, ◌+◌}
 use lib.Dec.{eqb}
 use lib.ListN.{length, get_or}
 use Rattle.outcome.specs.Soft.{values, check_edges, unmet_of_lem}
-use borrow.Author.Rules.{rules}
 use Rattle.outcome.proofs.odd.Goals as goal
 
 pub negative-requires : goal.negative-requires

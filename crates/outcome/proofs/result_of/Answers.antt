@@ -1,7 +1,6 @@
 -- `outcome::result_of` meets its contract. Assumes nothing.
 use mathlib.Core.Path.{sym, ap}
 use Rattle.outcome.specs.Outcome.{bch_result, lost}
-use borrow.Author.Rules.{rules}
 use Rattle.outcome.proofs.result_of.Goals as goal
 
 pub returns-in-Corrected : goal.returns-in-Corrected

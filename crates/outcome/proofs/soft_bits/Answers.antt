@@ -4,10 +4,9 @@ use Rattle.laws.specs.Signed.{plain}
 use Rattle.iteration.specs.Iteration.{hard}
 use Rattle.outcome.specs.Soft.{begin_values}
 use Rattle.outcome.specs.Laws.{bits_start, bits_again, bits_end}
-use mathlib.Core.Path.{◌≡◌, sym, ap, ◌∙◌}
-use Prim.Native.Nat.{ℕ, ◌-◌, ◌≤◌, ◌<◌}
-use lib.ListN.{length, take}
-use Rattle.outcome.specs.Outcome.{begin, bits_of}
+use mathlib.Core.Path.{sym, ap, ◌∙◌}
+use Prim.Native.Nat.{ℕ, ◌<◌}
+use Rattle.outcome.specs.Outcome.{begin}
 use native.Mathlib.Omega.{arith}
 use Rattle.outcome.proofs.soft_bits.Goals as goal
 

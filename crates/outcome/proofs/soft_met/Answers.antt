@@ -1,11 +1,10 @@
 use Rattle.iteration.specs.Check.{Word}
 use Rattle.iteration.specs.Iteration.{Code}
-use mathlib.Core.Path.{◌≡◌, sym}
+use mathlib.Core.Path.{sym}
 use mathlib.Core.Bool.{true, false}
-use Prim.Native.Nat.{◌-◌, ◌≤◌}
 use lib.ListN.{length}
 use Rattle.iteration.specs.Lists.{code_in}
-use Rattle.outcome.specs.Outcome.{begin, unmet_of}
+use Rattle.outcome.specs.Outcome.{begin}
 use Rattle.outcome.specs.Soft.{odd_is}
 use Rattle.outcome.specs.Scan.{met_start, met_again, met_end, met_not}
 use borrow.Author.Rules.{rules}

@@ -1,16 +1,9 @@
 -- `outcome::soft_met` meets its contract. Assumes nothing.
-use Rattle.iteration.specs.Check.{Word}
-use Rattle.iteration.specs.Iteration.{Code}
-use mathlib.Core.Path.{◌≡◌, sym}
-use mathlib.Core.Bool.{true, false}
+use mathlib.Core.Path.{◌≡◌}
 use Prim.Native.Nat.{◌-◌, ◌≤◌}
 use lib.ListN.{length}
 use Rattle.iteration.specs.Lists.{code_in}
 use Rattle.outcome.specs.Outcome.{begin, unmet_of}
-use Rattle.outcome.specs.Soft.{odd_is}
-use Rattle.outcome.specs.Scan.{met_start, met_again, met_end, met_not}
-use borrow.Author.Rules.{rules}
-use native.Mathlib.Omega.{arith}
 use Rattle.outcome.proofs.soft_met.Given as goal
 
 abbrev pub invariant-loop-c : goal.invariant-loop-c

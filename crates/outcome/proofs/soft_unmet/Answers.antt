@@ -2,10 +2,9 @@ use Rattle.iteration.specs.Check.{Word}
 use Rattle.iteration.specs.Iteration.{Code}
 use mathlib.Core.Path.{refl}
 use mathlib.Core.Bool.{true, false}
-use Prim.Native.Nat.{◌-◌, ◌≤◌}
 use lib.ListN.{length}
 use Rattle.iteration.specs.Lists.{code_in}
-use Rattle.iteration.specs.CountLaws.{counted_start, UnmetCounted}
+use Rattle.iteration.specs.CountLaws.{counted_start}
 use Rattle.outcome.specs.Outcome.{begin}
 use Rattle.outcome.specs.Soft.{odd_is}
 use Rattle.outcome.specs.Scan.{counted_more, counted_same, counted_end, counted_le, named_le}
