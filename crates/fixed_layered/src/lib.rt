@@ -28,7 +28,7 @@ use ldpc_shape::{GROUP, MAX_Q, Sizes};
 pub const SUMS: usize = 64 * GROUP;
 
 // What an iteration goes by: n variables, p checks in q layers, the rows of addresses, the lanes, and how many checks a run has.
-#[derive(Drop)]
+#[derive(Clone, Copy)]
 struct Layering {
     n: usize,
     p: usize,
@@ -39,7 +39,7 @@ struct Layering {
 }
 
 // A run of layer l: the checks first + x * q, x below m. `shared` if variables can have several edges in it.
-#[derive(Drop)]
+#[derive(Clone, Copy)]
 struct CheckRun {
     l: usize,
     first: usize,
@@ -48,7 +48,7 @@ struct CheckRun {
 }
 
 // The row of the 374 variables from `base` on. In each check of the run its edges are those from `from` up to `upto`.
-#[derive(Drop)]
+#[derive(Clone, Copy)]
 struct RowSpan {
     base: usize,
     from: usize,
