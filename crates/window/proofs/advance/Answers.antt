@@ -1,5 +1,5 @@
 -- `window::advance` meets its contract. Assumes nothing.
-use Rattle.std.proofs.Common.{◌∙◌, ap₂, rules}
+use Rattle.std.proofs.Common.{◌∙◌, ap₂}
 use Rattle.window.specs.Figures.{lost_by, iterations_by}
 use Rattle.window.specs.Push.{slid, moved}
 use Rattle.window.proofs.advance.Goals as goal

@@ -1,5 +1,5 @@
 -- `window::next_at` meets its contract. Assumes nothing.
-use Rattle.std.proofs.Common.{sym, rules, eq-eqb, ne_eqb}
+use Rattle.std.proofs.Common.{sym, eq-eqb, ne_eqb}
 use Rattle.window.specs.Push.{next_at}
 use Rattle.window.proofs.next_at.Goals as goal
 

@@ -1,5 +1,5 @@
 -- `window::next_words` meets its contract. Assumes nothing.
-use Rattle.std.proofs.Common.{sym, rules, le-ltb, lt-ltb}
+use Rattle.std.proofs.Common.{sym, le-ltb, lt-ltb}
 use Rattle.window.specs.Push.{next_words}
 use Rattle.window.proofs.next_words.Goals as goal
 

@@ -1,5 +1,5 @@
 -- `window::oldest` meets its contract. Assumes nothing.
-use Rattle.std.proofs.Common.{sym, rules, le-ltb, lt-ltb}
+use Rattle.std.proofs.Common.{sym, le-ltb, lt-ltb}
 use Rattle.window.specs.Push.{leaving, record_in}
 use Rattle.window.proofs.oldest.Goals as goal
 

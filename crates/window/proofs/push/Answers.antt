@@ -1,5 +1,5 @@
 -- `window::push` meets its contract. Assumes nothing.
-use Rattle.std.proofs.Common.{◌≡◌, ◌<◌, length, sym, ◌∙◌, arith, rules}
+use Rattle.std.proofs.Common.{◌≡◌, ◌<◌, length, sym, ◌∙◌, arith}
 use Rattle.window.specs.Push.{push_refusal}
 use Rattle.window.specs.Ring.{slot_below}
 use Rattle.window.specs.Series.{passed_over}

@@ -1,5 +1,5 @@
 -- `window::put` meets its contract. Assumes nothing.
-use Rattle.std.proofs.Common.{◌+◌, ◌*◌, set, refl, arith, length-set, rules}
+use Rattle.std.proofs.Common.{◌+◌, ◌*◌, set, refl, arith, length-set}
 use Rattle.window.specs.Push.{written}
 use Rattle.window.proofs.put.Goals as goal
 

@@ -1,5 +1,5 @@
 -- `window::refusal` meets its contract. Assumes nothing.
-use Rattle.std.proofs.Common.{sym, rules}
+use Rattle.std.proofs.Common.{sym}
 use Rattle.window.specs.PushLaws.{zero_width, great_width, short_ring, fair}
 use Rattle.window.proofs.refusal.Goals as goal
 

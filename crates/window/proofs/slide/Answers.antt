@@ -1,5 +1,5 @@
 -- `window::slide` meets its contract. Assumes nothing.
-use Rattle.std.proofs.Common.{◌≡◌, ℕ, ◌+◌, ◌%◌, ◌^◌, ◌<◌, arith, rules}
+use Rattle.std.proofs.Common.{◌≡◌, ℕ, ◌+◌, ◌%◌, ◌^◌, ◌<◌, arith}
 use Rattle.window.specs.Push.{slid}
 use Rattle.window.proofs.slide.Goals as goal
 
