@@ -27,7 +27,7 @@ const ALTERED: [u64; 16] = [
 ];
 
 // Kind 0 goes on with the series before, 1 begins one; 2 begins with a window that was altered, and 3 goes on with it.
-#[derive(Drop)]
+#[derive(Clone, Copy)]
 struct Block {
     number: u64,
     kind: u64,
@@ -54,14 +54,14 @@ struct Step {
 }
 
 // How many were compared, and how many of them differ.
-#[derive(Drop)]
+#[derive(Clone, Copy)]
 struct Compared {
     all: u64,
     differ: u64,
 }
 
 // The window, the finished records since a series began, and the checksum since a block began.
-#[derive(Drop)]
+#[derive(Clone, Copy)]
 struct Progress {
     now: Window,
     done: usize,
