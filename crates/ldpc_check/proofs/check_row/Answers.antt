@@ -1,35 +1,36 @@
-use Rattle.ldpc_check.proofs.Loops.{found, row_start_lem, row_room, row_hit, row_miss, row_end, found_fits}
-use lib.ListN.{length, drop}
-use Prim.Native.Nat.{◌+◌, ◌≤◌, ◌<◌}
-use mathlib.Core.List.{◌++◌}
-use mathlib.Core.Path.{◌≡◌, refl, ap}
-use borrow.Author.Rules.{rules}
+use Rattle.ldpc_check.proofs.Loops.{row_start_lem, row_room, row_hit, row_miss, row_end}
+use lib.ListN.{length}
+use Prim.Native.Nat.{◌+◌}
+use mathlib.Core.Path.{refl, ap}
 use native.Mathlib.Omega.{arith}
 use Rattle.ldpc_check.proofs.check_row.Goals as goal
 
 pub loop-i-init : goal.loop-i-init
-loop-i-init c = let e = row_start_lem c.args.q c.args.c c.args.first c.args.row.now c.requires.0 c.requires.1 c.args.out.now (length c.args.row.now) refl in (omega arith, e.0, e.1)
-
-pub bit_of-requires : goal.bit_of-requires
-bit_of-requires c = (c.requires.0, c.requires.1, c.requires.2)
-
-pub overflow_add-first : goal.overflow_add-first
-overflow_add-first c = omega (arith, c.bit_of.ensures.1, c.requires.3)
+loop-i-init c =
+    let e = row_start_lem c.args.q c.args.c c.args.first c.args.row.now c.requires.0 c.requires.1 c.args.out.now (length c.args.row.now) refl in
+    (omega arith, e.0, e.1)
 
 pub insert_bit-requires : goal.insert_bit-requires
-insert_bit-requires c = (let h1 : c.loop-i.n < length c.loop-i.out = row_room c.args.q c.args.c c.args.first c.args.row.now c.requires.0 c.requires.1 c.loop-i.i (search rules) c.loop-i.invariant.0 c.residue.result c.wide-l.result c.residue.ensures.0 c.wide-l.ensures c.loop-i.out c.args.out.now c.loop-i.n c.loop-i.invariant.1 c.loop-i.invariant.2 c.requires.4 c.if-residue-l.true in h1)
-
-pub overflow_add-n : goal.overflow_add-n
-overflow_add-n c = omega (arith, (let h2 : c.loop-i.n < length c.loop-i.out = row_room c.args.q c.args.c c.args.first c.args.row.now c.requires.0 c.requires.1 c.loop-i.i (search rules) c.loop-i.invariant.0 c.residue.result c.wide-l.result c.residue.ensures.0 c.wide-l.ensures c.loop-i.out c.args.out.now c.loop-i.n c.loop-i.invariant.1 c.loop-i.invariant.2 c.requires.4 c.if-residue-l.true in h2), (let h3 : length c.loop-i.out ≡ length c.args.out.now = found_fits c.args.q c.args.c c.args.first c.args.row.now c.requires.0 c.requires.1 c.loop-i.out c.args.out.now c.loop-i.n c.loop-i.i c.loop-i.invariant.1 c.loop-i.invariant.2 c.requires.4 in h3))
+insert_bit-requires c =
+    row_room c.args.q c.args.c c.args.first c.args.row.now c.requires.0 c.requires.1 c.loop-i.i c.loop-i-test.true c.loop-i.invariant.0 c.residue.result c.wide-l.result c.residue.ensures.0 c.wide-l.ensures
+    c.loop-i.out c.args.out.now c.loop-i.n c.loop-i.invariant.1 c.loop-i.invariant.2 c.requires.4 c.if-residue-l.true
 
 pub loop-i-preserved-then-residue-l : goal.loop-i-preserved-then-residue-l
-loop-i-preserved-then-residue-l c = let r = row_hit c.args.q c.args.c c.args.first c.args.row.now c.requires.0 c.requires.1 c.loop-i.i (search rules) c.loop-i.invariant.0 c.residue.result c.wide-l.result c.residue.ensures.0 c.wide-l.ensures c.loop-i.out c.args.out.now c.loop-i.n c.loop-i.invariant.1 c.loop-i.invariant.2 c.requires.4 c.if-residue-l.true (c.args.first + c.bit_of.result) (c.loop-i.n + 1) c.insert_bit.new.out (ap (λ z. c.args.first + z) c.bit_of.ensures.0) c.insert_bit.ensures refl in (omega arith, r.0, r.1)
+loop-i-preserved-then-residue-l c =
+    let r =
+    row_hit c.args.q c.args.c c.args.first c.args.row.now c.requires.0 c.requires.1 c.loop-i.i c.loop-i-test.true c.loop-i.invariant.0 c.residue.result c.wide-l.result c.residue.ensures.0 c.wide-l.ensures
+    c.loop-i.out c.args.out.now c.loop-i.n c.loop-i.invariant.1 c.loop-i.invariant.2 c.requires.4 c.if-residue-l.true
+    (c.args.first + c.bit_of.result) (c.loop-i.n + 1) c.insert_bit.new.out (ap (λ z. c.args.first + z) c.bit_of.ensures.0) c.insert_bit.ensures refl
+    in
+    (omega arith, r.0, r.1)
 
 pub loop-i-preserved : goal.loop-i-preserved
-loop-i-preserved c = let r = row_miss c.args.q c.args.c c.args.first c.args.row.now c.requires.0 c.requires.1 c.loop-i.i (search rules) c.loop-i.invariant.0 c.residue.result c.wide-l.result c.residue.ensures.0 c.wide-l.ensures c.loop-i.out c.args.out.now c.loop-i.n c.loop-i.invariant.1 c.loop-i.invariant.2 c.requires.4 c.if-residue-l.false c.loop-i.n c.loop-i.out refl refl in (omega arith, r.0, r.1)
-
-pub shape_of-out : goal.shape_of-out
-shape_of-out c = (let h4 : length c.loop-i.out ≡ length c.args.out.now = found_fits c.args.q c.args.c c.args.first c.args.row.now c.requires.0 c.requires.1 c.loop-i.out c.args.out.now c.loop-i.n c.loop-i.i c.loop-i.invariant.1 c.loop-i.invariant.2 c.requires.4 in h4)
+loop-i-preserved c =
+    let r =
+    row_miss c.args.q c.args.c c.args.first c.args.row.now c.requires.0 c.requires.1 c.loop-i.i c.loop-i-test.true c.loop-i.invariant.0 c.residue.result c.wide-l.result c.residue.ensures.0 c.wide-l.ensures
+    c.loop-i.out c.args.out.now c.loop-i.n c.loop-i.invariant.1 c.loop-i.invariant.2 c.requires.4 c.if-residue-l.false c.loop-i.n c.loop-i.out refl refl
+    in
+    (omega arith, r.0, r.1)
 
 pub returns : goal.returns
-returns c = row_end c.args.q c.args.c c.args.first c.args.row.now c.requires.0 c.requires.1 c.loop-i.out c.args.out.now c.loop-i.n c.loop-i.i (search rules) c.loop-i.invariant.1 c.loop-i.invariant.2
+returns c = row_end c.args.q c.args.c c.args.first c.args.row.now c.requires.0 c.requires.1 c.loop-i.out c.args.out.now c.loop-i.n c.loop-i.i c.loop-i-test.false c.loop-i.invariant.1 c.loop-i.invariant.2

@@ -1,11 +1,9 @@
 -- `ldpc_check::check_row` meets its contract. Assumes nothing.
-use Rattle.ldpc_check.proofs.Loops.{found, row_start_lem, row_room, row_hit, row_miss, row_end, found_fits}
+use Rattle.ldpc_check.proofs.Loops.{found}
 use lib.ListN.{length, drop}
-use Prim.Native.Nat.{◌+◌, ◌≤◌, ◌<◌}
+use Prim.Native.Nat.{◌≤◌}
 use mathlib.Core.List.{◌++◌}
-use mathlib.Core.Path.{◌≡◌, refl, ap}
-use borrow.Author.Rules.{rules}
-use native.Mathlib.Omega.{arith}
+use mathlib.Core.Path.{◌≡◌}
 use Rattle.ldpc_check.proofs.check_row.Given as goal
 
 abbrev pub invariant-loop-i : goal.invariant-loop-i

@@ -1,26 +1,16 @@
 use Rattle.ldpc_shape.specs.Accepted.{rows_end_fits}
 use Rattle.ldpc_check.proofs.Loops.{all_of, rest_of, rest_start, rest_end, rest_next, list_fits, rows_on, rows_done}
 use Rattle.ldpc_edges.specs.Code.{only, of_bits}
-use Rattle.ldpc_shape.specs.Shape.{total}
-use lib.ListN.{length, take, drop}
-use Prim.Native.Nat.{ℕ, ◌+◌, ◌*◌, ◌≤◌, ◌<◌, ◌-◌}
+use lib.ListN.{take, drop}
+use Prim.Native.Nat.{ℕ, ◌+◌, ◌*◌, ◌-◌}
 use mathlib.Core.List.{List, ◌++◌}
-use mathlib.Core.Path.{◌≡◌, refl, ap, ◌∙◌}
-use borrow.Author.Rules.{rules}
+use mathlib.Core.Path.{refl, ap, ◌∙◌}
 use native.Mathlib.Omega.{arith}
 use Rattle.ldpc_check.proofs.check_rows.Goals as goal
-
--- the row is one of the list's, and its addresses end within the list
-pub overflow_add-end : goal.overflow_add-end
-overflow_add-end c =
-    omega (arith, (rows_end_fits c.args.lens.now c.args.addrs.now c.loop-g.g c.loop-g.from c.loop-g-test.true c.wide.result c.wide.ensures c.loop-g.invariant.2).0)
 
 pub slice_bounds-check_row-end-in-loop-g : goal.slice_bounds-check_row-end-in-loop-g
 slice_bounds-check_row-end-in-loop-g c =
     omega (arith, (rows_end_fits c.args.lens.now c.args.addrs.now c.loop-g.g c.loop-g.from c.loop-g-test.true c.wide.result c.wide.ensures c.loop-g.invariant.2).0)
-
-pub slice_bounds-check_row-count : goal.slice_bounds-check_row-count
-slice_bounds-check_row-count c = c.loop-g.invariant.4
 
 -- what is left: the row's bits, and those of the rows behind it
 pub check_row-d-requires : goal.check_row-d-requires
@@ -39,9 +29,6 @@ check_row-d-requires c =
           (c.loop-g.invariant.5 ∙ ap (λ (z : List ℕ). take c.loop-g.n c.loop-g.out ++ z) next)
           c.requires.5,
     )
-
-pub overflow_add-first : goal.overflow_add-first
-overflow_add-first c = omega (arith, c.loop-g.invariant.1, c.requires.3)
 
 pub loop-g-init : goal.loop-g-init
 loop-g-init c =
@@ -63,9 +50,6 @@ loop-g-preserved c =
     c.requires.5 c.check_row-d.new.out c.check_row-d.result c.check_row-d.ensures.0 c.check_row-d.ensures.1 c.loop-g.invariant.6
     in
     (omega arith, omega arith, ends.1, on.0, on.1, on.2, on.3)
-
-pub shape_of-out : goal.shape_of-out
-shape_of-out c = c.loop-g.invariant.3
 
 pub returns : goal.returns
 unfolding all_of

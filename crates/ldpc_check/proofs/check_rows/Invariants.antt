@@ -1,14 +1,10 @@
 -- `ldpc_check::check_rows` meets its contract. Assumes nothing.
-use Rattle.ldpc_shape.specs.Accepted.{rows_end_fits}
-use Rattle.ldpc_check.proofs.Loops.{all_of, rest_of, rest_start, rest_end, rest_next, list_fits, rows_on, rows_done}
-use Rattle.ldpc_edges.specs.Code.{only, of_bits}
+use Rattle.ldpc_check.proofs.Loops.{all_of, rest_of}
 use Rattle.ldpc_shape.specs.Shape.{total}
 use lib.ListN.{length, take, drop}
-use Prim.Native.Nat.{ℕ, ◌+◌, ◌*◌, ◌≤◌, ◌<◌, ◌-◌}
-use mathlib.Core.List.{List, ◌++◌}
-use mathlib.Core.Path.{◌≡◌, refl, ap, ◌∙◌}
-use borrow.Author.Rules.{rules}
-use native.Mathlib.Omega.{arith}
+use Prim.Native.Nat.{◌+◌, ◌*◌, ◌≤◌, ◌-◌}
+use mathlib.Core.List.{◌++◌}
+use mathlib.Core.Path.{◌≡◌}
 use Rattle.ldpc_check.proofs.check_rows.Given as goal
 
 abbrev pub invariant-loop-g : goal.invariant-loop-g

@@ -1,14 +1,10 @@
-use Rattle.ldpc_check.proofs.Loops.{Inserting, insert_start, insert_swap, insert_keep, insert_end}
+use Rattle.ldpc_check.proofs.Loops.{insert_swap, insert_keep, insert_end}
 use lib.ListN.{length, length-set}
-use Prim.Native.Nat.{◌≤◌, ◌<◌, ◌-◌}
-use mathlib.Core.Path.{◌≡◌, refl, ap, ◌∙◌}
-use borrow.Author.Rules.{rules}
+use Prim.Native.Nat.{◌<◌}
+use mathlib.Core.Path.{ap, ◌∙◌}
 use native.Mathlib.Omega.{arith}
 use Rattle.ldpc_check.proofs.insert_bit.Goals.{then-v-b, else-v-b}
 use Rattle.ldpc_check.proofs.insert_bit.Goals as goal
-
-pub loop-i-init : goal.loop-i-init
-loop-i-init c = (omega arith, refl, insert_start c.args.m c.args.n c.args.out.now)
 
 pub loop-i-preserved : goal.loop-i-preserved
 loop-i-preserved c =

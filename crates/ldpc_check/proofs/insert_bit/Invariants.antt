@@ -1,11 +1,8 @@
 -- `ldpc_check::insert_bit` meets its contract. Assumes nothing.
-use Rattle.ldpc_check.proofs.Loops.{Inserting, insert_start, insert_swap, insert_keep, insert_end}
-use lib.ListN.{length, length-set}
-use Prim.Native.Nat.{◌≤◌, ◌<◌, ◌-◌}
-use mathlib.Core.Logic.{⊎_elim}
-use mathlib.Core.Path.{◌≡◌, refl, ap, ◌∙◌}
-use borrow.Author.Rules.{rules}
-use native.Mathlib.Omega.{arith}
+use Rattle.ldpc_check.proofs.Loops.{Inserting}
+use lib.ListN.{length}
+use Prim.Native.Nat.{◌≤◌, ◌-◌}
+use mathlib.Core.Path.{◌≡◌}
 use Rattle.ldpc_check.proofs.insert_bit.Given as goal
 
 abbrev pub invariant-loop-i : goal.invariant-loop-i
