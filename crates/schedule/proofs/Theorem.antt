@@ -13,12 +13,16 @@ use Rattle.std.proofs.Math.ListN.{length, length-append}
 use Rattle.laws.specs.Choice.{by_cond, same_self, same}
 use Rattle.schedule.specs.Run.{counting, input_order}
 use Rattle.schedule.specs.Run.{Words, Lane, empty, holds, Left, State, Ending, finished, stopped, Result, held, run}
-use Rattle.schedule.specs.AloneLaws.{FirstMetOrLimit, ends_so}
+use Rattle.schedule.specs.AloneLaws.{FirstMetOrLimit}
+use Rattle.schedule.proofs.AloneLaws.{ends_so}
 use Rattle.schedule.specs.Status.{Status, waiting, holding, done, spent, lane_words, log_words, all_words, status, sum, largest}
 use Rattle.schedule.specs.WholeRun.{given, longest, times, count, case, Where, after_alone, ends_alone, Finished, AsAlone, WholeRun}
-use Rattle.schedule.specs.Sums.{in_lane, in-lanes, in-queue, in-log, in-stock, one, iterations_of, Held, AllLanes, AllLog, Some, held_one}
-use Rattle.schedule.specs.Rounds.{total, total_spent, spent_so_far, above, Running, Ended, Good, run_good}
-use Rattle.schedule.specs.Places.{sum_ext, largest_le, largest_sum, queue_sum, count_sum, weigh, times_weigh, sum_status, by_iterations, weigh_total, weigh_case, ByStatus, by_status, in-one-place}
+use Rattle.schedule.specs.Sums.{in_lane, in-lanes, in-queue, in-log, in-stock, one, iterations_of, Held, AllLanes, AllLog, Some}
+use Rattle.schedule.proofs.Sums.{held_one}
+use Rattle.schedule.specs.Rounds.{total, spent_so_far, above, Running, Ended, Good}
+use Rattle.schedule.proofs.Rounds.{total_spent, run_good}
+use Rattle.schedule.specs.Places.{weigh, by_iterations, ByStatus}
+use Rattle.schedule.proofs.Places.{sum_ext, largest_le, largest_sum, queue_sum, count_sum, times_weigh, sum_status, weigh_total, weigh_case, by_status, in-one-place}
 
 module _ {X : Type 0} where
   lanes_left : (words : Words X) (ls : List (Lane X)) → AllLanes (Held (Running words)) ls → in-lanes iterations_of ls + in-lanes one ls ≤ in-lanes (λ w i. ends_alone words w) ls
