@@ -1,4 +1,6 @@
 // What a run is asked for, and what it goes by.
+#![tactic(auto)]
+
 ghost use Rattle.std.specs.Prelude.{◌≡◌, ◌<◌};
 ghost use Rattle.decoder_plan.specs.Plan.{is_layered, step_of, plan_of};
 

@@ -1,7 +1,6 @@
 -- `decoder_refuse::bad_part` meets its contract: by its tests; the sum is one of usizes and does not wrap.
 -- Assumes nothing.
 use borrow.Author.Tests.{lt-ltb, le-ltb}
-use borrow.Author.Rules.{rules}
 use Rattle.decoder_refuse.specs.Refusal.{bad_part}
 use Rattle.decoder_refuse.proofs.bad_part.Goals as goal
 

@@ -1,7 +1,6 @@
 -- `decoder_refuse::bad_words` meets its contract: by its tests.
 -- Assumes nothing.
 use borrow.Author.Tests.{eq-eqb, ne_eqb}
-use borrow.Author.Rules.{rules}
 use Rattle.decoder_refuse.specs.Refusal.{bad_words}
 use Rattle.decoder_refuse.proofs.bad_words.Goals as goal
 

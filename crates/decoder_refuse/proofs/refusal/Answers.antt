@@ -5,7 +5,6 @@ use mathlib.Core.Bool.{false}
 use Prim.Native.Nat.{◌/◌, ◌≤◌}
 use native.Mathlib.Omega.{arith}
 use borrow.Author.Tests.{lt-ltb, le-ltb}
-use borrow.Author.Rules.{rules}
 use Rattle.ldpc_shape.specs.Shape.{sizes_of, code_refusal}
 use Rattle.ldpc_shape.specs.Accepted.{Bounded}
 use Rattle.ldpc_shape.proofs.Accepted.{bounded}

@@ -1,11 +1,9 @@
 -- `quantise::soft` meets its contract: past the first test the product is no NaN, and its bits give the sign and the size of its soft value.
 -- Assumes nothing.
 use mathlib.Core.Path.{◌≡◌, sym, ◌∙◌, ap₂}
-use mathlib.Core.Bool.{Bool, true, false}
-use borrow.Author.Rules.{rules}
+use mathlib.Core.Bool.{true, false}
 use borrow.Author.Tests.{le-leb, lt-leb}
-use lib.Dec.{leb}
-use lib.Ieee.{Float, binary32, mul, to_bits}
+use lib.Ieee.{binary32, mul}
 use lib.Ieee.Fits.{mul-fits}
 use Rattle.quantise.specs.Soft.{signed, soft_value}
 use Rattle.quantise.proofs.Floats.{bits_soft, not_nan, nan_soft, read_back, neg_fits, neg_back}

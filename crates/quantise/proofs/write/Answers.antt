@@ -1,13 +1,11 @@
-use mathlib.Core.Path.{◌≡◌, refl, ◌∙◌}
-use Prim.Native.Nat.{◌-◌, ◌≤◌}
+use mathlib.Core.Path.{refl, ◌∙◌}
 use native.Mathlib.Omega.{arith}
 use borrow.Author.Rules.{rules}
 use lib.Ieee.{nan}
-use lib.ListN.{length}
 use mir.Syntax.{w8}
 use mir.ValLaws.{to_z-of_z}
 use Rattle.quantise.specs.Soft.{soft_of}
-use Rattle.quantise.proofs.Writes.{upto, upto_again, upto_end}
+use Rattle.quantise.proofs.Writes.{upto_again, upto_end}
 use Rattle.quantise.proofs.write.Goals as goal
 
 pub loop-i-init : goal.loop-i-init

@@ -1,15 +1,11 @@
 -- `quantise::write` meets its contract. The loop's invariant: the first i values are written.
 -- Assumes nothing.
-use mathlib.Core.Path.{◌≡◌, refl, ◌∙◌}
+use mathlib.Core.Path.{◌≡◌}
 use Prim.Native.Nat.{◌-◌, ◌≤◌}
-use native.Mathlib.Omega.{arith}
-use borrow.Author.Rules.{rules}
 use lib.Ieee.{nan}
 use lib.ListN.{length}
-use mir.Syntax.{w8}
-use mir.ValLaws.{to_z-of_z}
 use Rattle.quantise.specs.Soft.{soft_of}
-use Rattle.quantise.proofs.Writes.{upto, upto_again, upto_end}
+use Rattle.quantise.proofs.Writes.{upto}
 use Rattle.quantise.proofs.write.Given as goal
 
 abbrev pub invariant-loop-i : goal.invariant-loop-i
