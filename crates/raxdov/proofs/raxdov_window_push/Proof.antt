@@ -4,7 +4,7 @@ use borrow.Author.Rules.{rules}
 use Rattle.decoder_words.specs.declared.Noted.{Noted}
 use Rattle.window.specs.declared.Pushed.{Pushed}
 use Rattle.window.specs.Push.{pushed_number, pushed_of, ring_out, Afresh, Pushes}
-use Rattle.window.specs.PushLaws.{now_is}
+use Rattle.window.proofs.PushLaws.{now_is}
 use Rattle.raxdov.specs.Numbers.{window_of, handed_of, record_of, window_into}
 use Rattle.raxdov.proofs.raxdov_window_push.Statement.{statement}
 use Rattle.raxdov.proofs.raxdov_window_push.Tie as tie

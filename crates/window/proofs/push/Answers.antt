@@ -3,7 +3,7 @@ use Rattle.std.proofs.Common.{◌≡◌, ◌<◌, length, sym, ◌∙◌, arith}
 use Rattle.window.specs.Push.{push_refusal}
 use Rattle.window.specs.Ring.{slot_below}
 use Rattle.window.specs.Series.{passed_over}
-use Rattle.window.specs.PushLaws.{Fair, accepted, refuses, accepts, takes}
+use Rattle.window.proofs.PushLaws.{Fair, accepted, refuses, accepts, takes}
 use Rattle.window.proofs.push.Goals as goal
 
 pub returns-then-number-ne0 : goal.returns-then-number-ne0

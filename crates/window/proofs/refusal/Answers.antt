@@ -1,6 +1,6 @@
 -- `window::refusal` meets its contract. Assumes nothing.
 use Rattle.std.proofs.Common.{sym}
-use Rattle.window.specs.PushLaws.{zero_width, great_width, short_ring, fair}
+use Rattle.window.proofs.PushLaws.{zero_width, great_width, short_ring, fair}
 use Rattle.window.proofs.refusal.Goals as goal
 
 pub returns-then-width-eq0 : goal.returns-then-width-eq0
