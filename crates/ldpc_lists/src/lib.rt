@@ -148,8 +148,8 @@ fn ends(lists: &mut [u32], counts: &[u32; MAX_Q], q: usize, checks: usize)
 
 // The lists of all checks of an accepted code, in a slice of E + P + 1 numbers.
 pub fn build(of: Sizes, lens: &[u32], addrs: &[u16], lists: &mut [u32])
-    requires addrs_value { (code_refusal of.n lens.now addrs.now ≡ 0) × (of ≡ sizes_of of.n lens.now addrs.now) }
-    requires lists_len { length lists.old ≡ suc of.p + of.e }
+    requires accepted { (code_refusal of.n lens.now addrs.now ≡ 0) × (of ≡ sizes_of of.n lens.now addrs.now) }
+    requires size { length lists.old ≡ suc of.p + of.e }
     ensures { lists.new ≡ edge_lists of.n lens.now addrs.now }
 {
     let n = of.n as u32;

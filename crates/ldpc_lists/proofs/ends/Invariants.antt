@@ -1,12 +1,8 @@
 -- `ldpc_lists::ends` meets its contract. Assumes nothing.
-use Rattle.ldpc_lists.specs.Ends.{EndsSet, ending, ending_le, ending_next, ends_again, ends_last, ends_start, ending_start}
-use lib.Seq.{get_or-set_same}
-use lib.ListN.{length, get_or, length-set}
-use native.Mathlib.Nat.{mod-lt}
-use Prim.Native.Nat.{◌≤◌, ◌<◌, ◌+◌, ◌-◌, ◌*◌, ◌%◌}
-use mathlib.Core.Path.{◌≡◌, refl, ap, ◌∙◌, subst}
-use borrow.Author.Rules.{rules}
-use native.Mathlib.Omega.{arith}
+use Rattle.ldpc_lists.specs.Ends.{EndsSet, ending}
+use lib.ListN.{length}
+use Prim.Native.Nat.{◌≤◌, ◌-◌}
+use mathlib.Core.Path.{◌≡◌}
 use Rattle.ldpc_lists.proofs.ends.Given as goal
 
 abbrev pub invariant-loop-i : goal.invariant-loop-i
