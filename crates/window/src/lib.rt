@@ -16,7 +16,7 @@ pub struct Record {
 }
 
 // The slot of the ring that the next record takes, how many records the window covers, and its figures over them. Zeros: an empty window.
-#[derive(Drop)]
+#[derive(Clone, Copy)]
 pub struct Window {
     pub at: u64,
     pub words: u64,
