@@ -2,6 +2,8 @@
 // checksum that a second model gives for it: of the refusal, words, lost, iterations and corrected after each record, and of what is left
 // in the ring. In a series, which begins with an empty window, the figures after each record are also compared with sums made afresh here
 // over the last finished records.
+#![tactic(auto)]
+
 ghost use Rattle.std.specs.Prelude.{◌<◌, ◌≤◌};
 
 use window::{Pushed, Record, Window};
