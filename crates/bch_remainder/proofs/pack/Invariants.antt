@@ -1,13 +1,9 @@
 -- `bch_remainder::pack` meets its contract. The loop: v is the number of the first i bits.
 -- Assumes nothing.
-use borrow.Author.Rules.{rules}
-use native.Mathlib.Omega.{arith}
-use mathlib.Core.Path.{◌≡◌, sym, ap, ◌∙◌}
-use Prim.Native.Nat.{ℕ, ◌+◌, ◌-◌, ◌*◌, ◌^◌, ◌<◌, ◌≤◌}
-use lib.Bits.{bit_and}
-use lib.ListN.{get_or, take, drop}
+use mathlib.Core.Path.{◌≡◌}
+use Prim.Native.Nat.{◌-◌, ◌≤◌}
+use lib.ListN.{take, drop}
 use Rattle.bch_remainder.specs.Word.{number}
-use Rattle.bch_remainder.proofs.Bits.{number_none, pack_room, pack_again}
 use Rattle.bch_remainder.proofs.pack.Given as goal
 
 abbrev pub invariant-loop-i : goal.invariant-loop-i

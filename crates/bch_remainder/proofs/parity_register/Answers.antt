@@ -1,13 +1,12 @@
-use borrow.Author.Rules.{rules}
 use native.Mathlib.Omega.{arith}
 use mathlib.Core.Path.{◌≡◌, sym, subst, ap, ◌∙◌}
-use Prim.Native.Nat.{ℕ, ◌-◌, ◌%◌, ◌^◌, ◌<◌}
+use Prim.Native.Nat.{ℕ, ◌%◌, ◌^◌, ◌<◌}
 use native.Mathlib.Nat.{le_refl}
 use lib.Dec.{lit≤}
 use lib.ListN.{length}
 use Rattle.bch_table.specs.Table.{table_length}
 use Rattle.bch_table.specs.Step.{value_of}
-use Rattle.bch_remainder.proofs.Parity.{Divided, packed_lt, divide_start, byte_left, divide_again, divide_end}
+use Rattle.bch_remainder.proofs.Parity.{packed_lt, divide_start, byte_left, divide_again, divide_end}
 use Rattle.bch_remainder.proofs.parity_register.Goals as goal
 
 pub slice_bounds-step-end : goal.slice_bounds-step-end

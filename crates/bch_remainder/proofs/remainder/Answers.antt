@@ -1,7 +1,6 @@
 -- `bch_remainder::remainder` meets its contract: the remainder of the part before the last 192 bits, and those bits added.
 -- Assumes nothing.
 use native.Mathlib.Omega.{arith}
-use borrow.Author.Rules.{rules}
 use mathlib.Core.Path.{◌≡◌, sym}
 use Prim.Native.Nat.{◌+◌, ◌-◌}
 use native.Mathlib.Nat.{sub-le}

@@ -1,6 +1,5 @@
 -- `bch_remainder::write_parity` meets its contract: three words, one after the other.
 -- Assumes nothing.
-use borrow.Author.Rules.{rules}
 use Prim.Native.Nat.{◌<◌, ◌^◌}
 use denote.Struct.Laws as LL
 use Rattle.bch_table.specs.contracts.Reg as T

@@ -1,12 +1,8 @@
 -- `bch_remainder::write_word` meets its contract. The loop: the first i bits are written.
 -- Assumes nothing.
-use borrow.Author.Rules.{rules}
-use native.Mathlib.Omega.{arith}
-use mathlib.Core.Path.{◌≡◌, ap, ◌∙◌}
+use mathlib.Core.Path.{◌≡◌}
 use Prim.Native.Nat.{◌-◌, ◌≤◌}
-use lib.ListN.{length}
-use lib.Seq.{paste, paste-zero}
-use Rattle.bch_remainder.proofs.Bits.{bit_fits, written_length, write_again}
+use lib.Seq.{paste}
 use Rattle.bch_remainder.specs.Word.{bits_of}
 use Rattle.bch_remainder.proofs.write_word.Given as goal
 

@@ -1,7 +1,6 @@
-use borrow.Author.Rules.{rules}
 use native.Mathlib.Omega.{arith}
 use Rattle.bch_table.specs.Generator.{masks}
-use Rattle.bch_table.proofs.Product.{Multiplying, generator_start, generator_long, generator_again, generator_end}
+use Rattle.bch_table.proofs.Product.{generator_start, generator_long, generator_again, generator_end}
 use Rattle.bch_table.proofs.generator.Goals as goal
 
 pub loop-i-init : goal.loop-i-init

@@ -1,8 +1,6 @@
-use borrow.Author.Rules.{rules}
-use Prim.Native.Nat.{◌-◌}
 use mathlib.Core.Path.{refl}
 use lib.ListN.{replicate}
-use Rattle.bch_table.proofs.Product.{Summed, sum_start, sum_again, sum_end}
+use Rattle.bch_table.proofs.Product.{sum_start, sum_again, sum_end}
 use Rattle.bch_table.proofs.next_digit.Goals as goal
 
 pub loop-i-init : goal.loop-i-init

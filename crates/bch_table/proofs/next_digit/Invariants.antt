@@ -1,10 +1,7 @@
 -- `bch_table::next_digit` meets its contract. The loop: after i turns the first i digits are those of the sum, and `below` is what comes into digit i.
 -- Assumes nothing.
-use borrow.Author.Rules.{rules}
 use Prim.Native.Nat.{◌-◌}
-use mathlib.Core.Path.{refl}
-use lib.ListN.{replicate}
-use Rattle.bch_table.proofs.Product.{Summed, sum_start, sum_again, sum_end}
+use Rattle.bch_table.proofs.Product.{Summed}
 use Rattle.bch_table.proofs.next_digit.Given as goal
 
 abbrev pub invariant-loop-i : goal.invariant-loop-i

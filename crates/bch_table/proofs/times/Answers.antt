@@ -1,4 +1,3 @@
-use borrow.Author.Rules.{rules}
 use native.Mathlib.Omega.{arith}
 use mathlib.Core.Path.{refl}
 use Prim.Native.Nat.{◌-◌, ◌/◌, ◌^◌}
@@ -6,7 +5,7 @@ use native.Mathlib.Nat.{lt_of_lt_of_le}
 use lib.Dec.{lit≤}
 use lib.ListN.{replicate}
 use Rattle.bch_table.specs.Digits.{bit_lt}
-use Rattle.bch_table.proofs.Product.{Multiplied, times_start, times_long, times_again, times_end}
+use Rattle.bch_table.proofs.Product.{times_start, times_long, times_again, times_end}
 use Rattle.bch_table.proofs.times.Goals as goal
 
 pub loop-j-init : goal.loop-j-init
