@@ -14,10 +14,18 @@ pub loop-p-init : goal.loop-p-init
 loop-p-init c = (omega arith, c.place_powers-powers.ensures, terms_start _ _ _ c.reversed-t.ensures, places_start _ _ _ refl (zeros_at 12))
 
 pub bounds-at-count : goal.bounds-at-count
-bounds-at-count c = let k = count_fits c.loop-p.at c.loop-p.count c.args.c c.args.len c.loop-p.p (omega arith) c.requires.2 c.loop-p.invariant.3 ((let h1 : value_at (poly c.args.c) c.args.len c.loop-p.p ≡ R16.𝟘 = sum_hit c.loop-p.t c.args.c c.args.len c.loop-p.p _ _ c.requires.0 c.loop-p.invariant.2 c.lane_sum.ensures c.entry.ensures c.if-lane_sum-entry.true in h1)) in omega (arith, k, c.requires.0)
+bounds-at-count c =
+    let h : value_at (poly c.args.c) c.args.len c.loop-p.p ≡ R16.𝟘 =
+    sum_hit c.loop-p.t c.args.c c.args.len c.loop-p.p _ _ c.requires.0 c.loop-p.invariant.2 c.lane_sum.ensures c.entry.ensures c.if-lane_sum-entry.true in
+    let k = count_fits c.loop-p.at c.loop-p.count c.args.c c.args.len c.loop-p.p (omega arith) c.requires.2 c.loop-p.invariant.3 h in
+    omega (arith, k, c.requires.0)
 
 pub returns-then-count-len : goal.returns-then-count-len
-returns-then-count-len c = places_full _ _ c.args.c c.args.len (c.loop-p.p + 1) c.args.n (omega arith) c.requires.1 c.requires.2 (omega arith) (places_hit c.loop-p.at c.loop-p.count c.args.c c.args.len c.loop-p.p c.requires.0 (omega arith) c.requires.2 c.loop-p.invariant.3 ((let h2 : value_at (poly c.args.c) c.args.len c.loop-p.p ≡ R16.𝟘 = sum_hit c.loop-p.t c.args.c c.args.len c.loop-p.p _ _ c.requires.0 c.loop-p.invariant.2 c.lane_sum.ensures c.entry.ensures c.if-lane_sum-entry.true in h2)))
+returns-then-count-len c =
+    let h : value_at (poly c.args.c) c.args.len c.loop-p.p ≡ R16.𝟘 =
+    sum_hit c.loop-p.t c.args.c c.args.len c.loop-p.p _ _ c.requires.0 c.loop-p.invariant.2 c.lane_sum.ensures c.entry.ensures c.if-lane_sum-entry.true in
+    places_full _ _ c.args.c c.args.len (c.loop-p.p + 1) c.args.n (omega arith) c.requires.1 c.requires.2 (omega arith)
+    (places_hit c.loop-p.at c.loop-p.count c.args.c c.args.len c.loop-p.p c.requires.0 (omega arith) c.requires.2 c.loop-p.invariant.3 h)
 
 pub times-next-requires : goal.times-next-requires
 times-next-requires c = (c.loop-p.invariant.2.lanes, powers_small _ suc c.loop-p.invariant.1)
