@@ -12,7 +12,7 @@ use Rattle.schedule.proofs.Lanes.{any_start, any_some, any_none}
 use Rattle.decoder_words.specs.Book.{book}
 use Rattle.decoder_words.specs.Written.{room_on}
 use Rattle.decoder_words.specs.Given.{code_by}
-use Rattle.decoder_assign.specs.Assign.{Takes, takes_start, takes_on, takes_quick, takes_hold, takes_end}
+use Rattle.decoder_assign.proofs.Taking.{Takes, takes_start, takes_on, takes_quick, takes_hold, takes_end}
 use Rattle.decoder_assign.proofs.assign.Given as goal
 
 abbrev pub invariant-loop-l : goal.invariant-loop-l

@@ -6,7 +6,8 @@ use native.Mathlib.Omega.{arith}
 use borrow.Author.Rules.{rules}
 use Rattle.decoder_words.specs.Book.{book}
 use Rattle.decoder_words.specs.Written.{room_on}
-use Rattle.decoder_correct.specs.Settle.{Settling, settling_start, settling_again, settling_end}
+use Rattle.decoder_correct.specs.Settle.{Settling}
+use Rattle.decoder_correct.proofs.Settled.{settling_start, settling_again, settling_end}
 use Rattle.decoder_correct.proofs.correct.Given as goal
 
 abbrev pub invariant-loop-w : goal.invariant-loop-w

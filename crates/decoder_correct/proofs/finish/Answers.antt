@@ -3,7 +3,7 @@
 use mathlib.Core.Path.{◌∙◌}
 use native.Mathlib.Omega.{arith}
 use borrow.Author.Rules.{rules}
-use Rattle.decoder_correct.specs.Settle.{bch_kept, bch_over, bits_kept, bits_over}
+use Rattle.decoder_correct.proofs.Settled.{bch_kept, bch_over, bits_kept, bits_over}
 use Rattle.decoder_correct.proofs.finish.Goals as goal
 
 pub returns-then-was-lt2 : goal.returns-then-was-lt2

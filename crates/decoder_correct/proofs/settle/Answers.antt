@@ -15,7 +15,8 @@ use Rattle.decoder_words.specs.Book.{Book, book, seen}
 use Rattle.decoder_words.specs.Part.{word_ends, own, middle, back, written_view, written_only}
 use Rattle.decoder_words.specs.Given.{all_le}
 use Rattle.decoder_words.specs.declared.Noted.{Noted}
-use Rattle.decoder_correct.specs.Settle.{bch_by, bits_by, bits_by_length, only_none, waits_so, settled_so}
+use Rattle.decoder_correct.specs.Settle.{bch_by, bits_by}
+use Rattle.decoder_correct.proofs.Settled.{bits_by_length, only_none, waits_so, settled_so}
 use Rattle.decoder_correct.proofs.settle.Goals as goal
 
 pub read-was-requires : goal.read-was-requires
