@@ -1,12 +1,8 @@
 -- `ldpc::check` meets its contract. Assumes nothing.
 use Rattle.ldpc_shape.specs.declared.Sizes.{Sizes}
-use Rattle.ldpc.proofs.Exits.{check_refused, check_beyond, check_below, check_small, check_short, check_done}
-use lib.ListN.{length}
-use Prim.Native.Nat.{ℕ, ◌<◌, ◌≤◌}
-use Rattle.ldpc_shape.specs.Shape.{p_of, code_refusal}
-use mathlib.Core.Path.{◌≡◌, sym, ap, ◌∙◌, subst}
+use Rattle.ldpc.proofs.Exits.{check_refused, check_beyond, check_small, check_short, check_done}
+use mathlib.Core.Path.{sym, ap, ◌∙◌}
 use native.Mathlib.Omega.{arith}
-use borrow.Author.Rules.{rules}
 use Rattle.ldpc.specs.Answers.{counted_number}
 use Rattle.ldpc.specs.AnswersLaws.{check_number}
 use Rattle.ldpc.proofs.check.Goals as goal
@@ -16,29 +12,36 @@ returns-then-r-ne0 c =
     let e = check_refused c.args.n c.args.lens.now c.args.addrs.now c.args.c c.args.out.now c.refusal-r.result c.refusal-r.ensures c.if-r-ne0.true in
     record { answer = e; number = ap counted_number e.0 ∙ check_number _ _ _ _ _ }
 
-pub sizes_of-sizes-requires : goal.sizes_of-sizes-requires
-sizes_of-sizes-requires c = sym c.refusal-r.ensures ∙ c.if-r-ne0.false
-
 pub returns-then-sizes-wide : goal.returns-then-sizes-wide
 returns-then-sizes-wide c =
-    let e = check_beyond c.args.n c.args.lens.now c.args.addrs.now c.args.c c.args.out.now (sym c.refusal-r.ensures ∙ c.if-r-ne0.false) _ _ (ap (λ (z : Sizes). z.p) c.sizes_of-sizes.ensures) c.wide.ensures c.if-sizes-wide.true in
+    let e =
+    check_beyond c.args.n c.args.lens.now c.args.addrs.now c.args.c c.args.out.now (sym c.refusal-r.ensures ∙ c.if-r-ne0.false) _ _
+    (ap (λ (z : Sizes). z.p) c.sizes_of-sizes.ensures) c.wide.ensures c.if-sizes-wide.true
+    in
     record { answer = e; number = ap counted_number e.0 ∙ check_number _ _ _ _ _ }
-
-pub degree_of-requires : goal.degree_of-requires
-degree_of-requires c = ((sym c.refusal-r.ensures ∙ c.if-r-ne0.false), check_below c.args.n c.args.lens.now c.args.addrs.now c.args.c c.args.out.now (sym c.refusal-r.ensures ∙ c.if-r-ne0.false) _ _ (ap (λ (z : Sizes). z.p) c.sizes_of-sizes.ensures) c.wide.ensures c.if-sizes-wide.false)
 
 pub returns-then-out-degree_of : goal.returns-then-out-degree_of
 returns-then-out-degree_of c =
-    let e = check_short c.args.n c.args.lens.now c.args.addrs.now c.args.c c.args.out.now (sym c.refusal-r.ensures ∙ c.if-r-ne0.false) _ _ (ap (λ (z : Sizes). z.p) c.sizes_of-sizes.ensures) c.wide.ensures c.if-sizes-wide.false c.degree_of.result c.degree_of.ensures c.if-out-degree_of.true in
+    let e =
+    check_short c.args.n c.args.lens.now c.args.addrs.now c.args.c c.args.out.now (sym c.refusal-r.ensures ∙ c.if-r-ne0.false) _ _
+    (ap (λ (z : Sizes). z.p) c.sizes_of-sizes.ensures) c.wide.ensures c.if-sizes-wide.false c.degree_of.result c.degree_of.ensures c.if-out-degree_of.true
+    in
     record { answer = e; number = ap counted_number e.0 ∙ check_number _ _ _ _ _ }
 
-pub check_of-d-requires : goal.check_of-d-requires
-check_of-d-requires c = ((sym c.refusal-r.ensures ∙ c.if-r-ne0.false), check_below c.args.n c.args.lens.now c.args.addrs.now c.args.c c.args.out.now (sym c.refusal-r.ensures ∙ c.if-r-ne0.false) _ _ (ap (λ (z : Sizes). z.p) c.sizes_of-sizes.ensures) c.wide.ensures c.if-sizes-wide.false, subst (λ (z : ℕ). z ≤ length c.args.out.now) c.degree_of.ensures c.if-out-degree_of.false)
-
 pub overflow_cast-result : goal.overflow_cast-result
-overflow_cast-result c = omega (arith, c.check_of-d.ensures.0, check_small c.args.n c.args.lens.now c.args.addrs.now c.args.c c.args.out.now (sym c.refusal-r.ensures ∙ c.if-r-ne0.false) _ _ (ap (λ (z : Sizes). z.p) c.sizes_of-sizes.ensures) c.wide.ensures c.if-sizes-wide.false)
+overflow_cast-result c =
+    omega (
+      arith,
+      c.check_of-d.ensures.0,
+      check_small c.args.n c.args.lens.now c.args.addrs.now c.args.c c.args.out.now (sym c.refusal-r.ensures ∙ c.if-r-ne0.false) _ _
+          (ap (λ (z : Sizes). z.p) c.sizes_of-sizes.ensures) c.wide.ensures c.if-sizes-wide.false,
+    )
 
 pub returns : goal.returns
 returns c =
-    let e = check_done c.args.n c.args.lens.now c.args.addrs.now c.args.c c.args.out.now (sym c.refusal-r.ensures ∙ c.if-r-ne0.false) _ _ (ap (λ (z : Sizes). z.p) c.sizes_of-sizes.ensures) c.wide.ensures c.if-sizes-wide.false c.degree_of.result c.check_of-d.result c.degree_of.ensures c.if-out-degree_of.false c.check_of-d.ensures.0 _ c.check_of-d.ensures.1 in
+    let e =
+    check_done c.args.n c.args.lens.now c.args.addrs.now c.args.c c.args.out.now (sym c.refusal-r.ensures ∙ c.if-r-ne0.false) _ _
+    (ap (λ (z : Sizes). z.p) c.sizes_of-sizes.ensures) c.wide.ensures c.if-sizes-wide.false c.degree_of.result c.check_of-d.result c.degree_of.ensures
+    c.if-out-degree_of.false c.check_of-d.ensures.0 _ c.check_of-d.ensures.1
+    in
     record { answer = e; number = ap counted_number e.0 ∙ check_number _ _ _ _ _ }

@@ -1,12 +1,8 @@
 -- `ldpc::new` meets its contract. Assumes nothing.
-use Rattle.ldpc_shape.specs.Accepted.{Bounded}
 use Rattle.ldpc_shape.proofs.Accepted.{sizes_bounded}
-use Rattle.ldpc_shape.specs.Shape.{code_refusal}
-use Rattle.ldpc.proofs.Exits.{new_refused, new_short, new_ready, new_done}
-use lib.Seq.{length-take-le}
-use mathlib.Core.Path.{◌≡◌, sym, ap, ◌∙◌}
+use Rattle.ldpc.proofs.Exits.{new_refused, new_short, new_done}
+use mathlib.Core.Path.{sym, ap, ◌∙◌}
 use native.Mathlib.Omega.{arith}
-use borrow.Author.Rules.{rules}
 use Rattle.ldpc.specs.Answers.{made_number}
 use Rattle.ldpc.specs.AnswersLaws.{new_number}
 use Rattle.ldpc.proofs.new.Goals as goal
@@ -16,9 +12,6 @@ returns-then-r-ne0 c =
     let e = new_refused c.args.n c.args.lens.now c.args.addrs.now c.args.lists.now c.refusal-r.result c.refusal-r.ensures c.if-r-ne0.true in
     record { answer = e; number = ap made_number e.0 ∙ new_number _ _ _ _ }
 
-pub sizes_of-sizes-requires : goal.sizes_of-sizes-requires
-sizes_of-sizes-requires c = sym c.refusal-r.ensures ∙ c.if-r-ne0.false
-
 pub overflow_add-size : goal.overflow_add-size
 overflow_add-size c = omega (arith, sizes_bounded _ _ _ _ c.sizes_of-sizes.ensures (sym c.refusal-r.ensures ∙ c.if-r-ne0.false))
 
@@ -27,11 +20,11 @@ overflow_add-size-2 c = omega (arith, sizes_bounded _ _ _ _ c.sizes_of-sizes.ens
 
 pub returns-then-lists-size : goal.returns-then-lists-size
 returns-then-lists-size c =
-    let e = new_short c.args.n c.args.lens.now c.args.addrs.now c.args.lists.now (sym c.refusal-r.ensures ∙ c.if-r-ne0.false) c.sizes_of-sizes.result c.sizes_of-sizes.ensures c.if-lists-size.true in
+    let e =
+    new_short c.args.n c.args.lens.now c.args.addrs.now c.args.lists.now (sym c.refusal-r.ensures ∙ c.if-r-ne0.false) c.sizes_of-sizes.result
+    c.sizes_of-sizes.ensures c.if-lists-size.true
+    in
     record { answer = e; number = ap made_number e.0 ∙ new_number _ _ _ _ }
-
-pub slice_bounds-build-end-2 : goal.slice_bounds-build-end-2
-slice_bounds-build-end-2 c = sym (length-take-le _ c.args.lists.now c.if-lists-size.false)
 
 pub overflow_cast-result : goal.overflow_cast-result
 overflow_cast-result c = omega (arith, sizes_bounded _ _ _ _ c.sizes_of-sizes.ensures (sym c.refusal-r.ensures ∙ c.if-r-ne0.false))
@@ -47,5 +40,8 @@ overflow_cast-result-4 c = omega (arith, sizes_bounded _ _ _ _ c.sizes_of-sizes.
 
 pub returns : goal.returns
 returns c =
-    let e = new_done c.args.n c.args.lens.now c.args.addrs.now c.args.lists.now (sym c.refusal-r.ensures ∙ c.if-r-ne0.false) c.sizes_of-sizes.result c.sizes_of-sizes.ensures c.if-lists-size.false _ c.build.ensures in
+    let e =
+    new_done c.args.n c.args.lens.now c.args.addrs.now c.args.lists.now (sym c.refusal-r.ensures ∙ c.if-r-ne0.false) c.sizes_of-sizes.result
+    c.sizes_of-sizes.ensures c.if-lists-size.false _ c.build.ensures
+    in
     record { answer = e; number = ap made_number e.0 ∙ new_number _ _ _ _ }

@@ -1,20 +1,12 @@
 use Rattle.ldpc_encode.specs.Sums.{AddedToSums, turned_bit}
 use mathlib.Core.Path.{subst}
-use Rattle.ldpc_encode.proofs.Bits.{Left, row_hit, row_miss, row_end}
-use Rattle.ldpc_encode.specs.Sums.{row_bit}
-use lib.ListN.{length, drop}
-use Prim.Native.Nat.{◌≤◌, ◌-◌}
-use mathlib.Core.Path.{◌≡◌, refl, sym, ap, ◌∙◌}
+use Rattle.ldpc_encode.proofs.Bits.{row_hit, row_miss, row_end}
+use lib.ListN.{length}
+use mathlib.Core.Path.{sym, ap, ◌∙◌}
 use borrow.Author.Rules.{rules}
 use native.Mathlib.Omega.{arith}
 use Rattle.ldpc_encode.proofs.add_row.Goals.{then-residue-l, else-residue-l}
 use Rattle.ldpc_encode.proofs.add_row.Goals as goal
-
-pub loop-i-init : goal.loop-i-init
-loop-i-init c = (omega arith, c.requires.0, λ j h. refl)
-
-pub add_turned-requires : goal.add_turned-requires
-add_turned-requires c = (c.loop-i.invariant.1, c.requires.1, c.turn.ensures.1)
 
 pub loop-i-preserved : goal.loop-i-preserved
 loop-i-preserved c =
@@ -32,9 +24,6 @@ loop-i-preserved c =
             c.loop-i.invariant.2,
       )
     ]
-
-pub shape_of-x : goal.shape_of-x
-shape_of-x c = c.loop-i.invariant.1 ∙ sym c.requires.0
 
 pub returns : goal.returns
 returns c = row_end c.args.q c.args.l c.args.w.now c.args.row.now c.loop-i.i c.loop-i.x c.args.x.now c.loop-i.invariant.1 (search rules) c.loop-i.invariant.2

@@ -1,14 +1,9 @@
 -- `ldpc_encode::add_row` meets its contract. Assumes nothing.
-use Rattle.ldpc_encode.specs.Sums.{AddedToSums, turned_bit}
-use mathlib.Core.Path.{subst}
-use Rattle.ldpc_encode.proofs.Bits.{Left, row_hit, row_miss, row_end}
+use Rattle.ldpc_encode.proofs.Bits.{Left}
 use Rattle.ldpc_encode.specs.Sums.{row_bit}
 use lib.ListN.{length, drop}
 use Prim.Native.Nat.{◌≤◌, ◌-◌}
-use mathlib.Core.Logic.{⊎_elim}
-use mathlib.Core.Path.{◌≡◌, refl, sym, ap, ◌∙◌}
-use borrow.Author.Rules.{rules}
-use native.Mathlib.Omega.{arith}
+use mathlib.Core.Path.{◌≡◌}
 use Rattle.ldpc_encode.proofs.add_row.Given as goal
 
 abbrev pub invariant-loop-i : goal.invariant-loop-i

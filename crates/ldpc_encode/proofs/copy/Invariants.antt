@@ -1,10 +1,7 @@
 -- `ldpc_encode::copy` meets its contract. Assumes nothing.
-use Rattle.ldpc_encode.proofs.Bytes.{copied, copied_rest, copied_all}
-use lib.ListN.{length, take, drop, length-set}
+use lib.ListN.{length, take, drop}
 use Prim.Native.Nat.{◌≤◌, ◌-◌}
-use mathlib.Core.Path.{◌≡◌, refl, ◌∙◌}
-use borrow.Author.Rules.{rules}
-use native.Mathlib.Omega.{arith}
+use mathlib.Core.Path.{◌≡◌}
 use Rattle.ldpc_encode.proofs.copy.Given as goal
 
 abbrev pub invariant-loop-i : goal.invariant-loop-i

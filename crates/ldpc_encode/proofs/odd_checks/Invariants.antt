@@ -1,11 +1,8 @@
 -- `ldpc_encode::odd_checks` meets its contract. Assumes nothing.
-use Rattle.ldpc_encode.proofs.Residue.{at_next, at_fits, count_next}
 use Rattle.ldpc_encode.specs.Sums.{unmet_at}
-use Rattle.laws.specs.Modulo.{sum_to, sum_none}
-use Prim.Native.Nat.{ℕ, ◌+◌, ◌*◌, ◌≤◌, ◌<◌, ◌-◌}
-use mathlib.Core.Path.{◌≡◌, ap, ◌∙◌}
-use borrow.Author.Rules.{rules}
-use native.Mathlib.Omega.{arith}
+use Rattle.laws.specs.Modulo.{sum_to}
+use Prim.Native.Nat.{◌+◌, ◌*◌, ◌≤◌, ◌-◌}
+use mathlib.Core.Path.{◌≡◌}
 use Rattle.ldpc_encode.proofs.odd_checks.Given as goal
 
 abbrev pub invariant-loop-i : goal.invariant-loop-i

@@ -1,12 +1,8 @@
 -- `ldpc_encode::parity_of` meets its contract. Assumes nothing.
-use Rattle.ldpc_shape.specs.declared.Sizes.{Sizes}
-use Rattle.ldpc_encode.proofs.Residue.{Done, info_ones, adds, k_fits, s_fits, info_is, done_start, done_again, parity_done}
+use Rattle.ldpc_encode.proofs.Residue.{Done, info_ones}
 use lib.ListN.{length}
-use Prim.Native.Nat.{ℕ, ◌≤◌, ◌-◌, ◌*◌, ◌%◌}
-use Rattle.ldpc_shape.specs.Shape.{p_of, q_of}
-use mathlib.Core.Path.{◌≡◌, refl, ap, ◌∙◌}
-use borrow.Author.Rules.{rules}
-use native.Mathlib.Omega.{arith}
+use Prim.Native.Nat.{◌≤◌, ◌-◌}
+use mathlib.Core.Path.{◌≡◌}
 use Rattle.ldpc_encode.proofs.parity_of.Given as goal
 
 abbrev pub invariant-loop-l : goal.invariant-loop-l

@@ -1,10 +1,7 @@
 -- `ldpc_encode::scatter` meets its contract. Assumes nothing.
-use Rattle.ldpc_encode.proofs.Residue.{at_next, at_fits, scatter_start, scatter_again, scatter_end}
 use Rattle.ldpc_encode.specs.Sums.{Scattered}
-use Prim.Native.Nat.{◌+◌, ◌*◌, ◌≤◌, ◌<◌, ◌-◌}
+use Prim.Native.Nat.{◌+◌, ◌*◌, ◌≤◌, ◌-◌}
 use mathlib.Core.Path.{◌≡◌}
-use borrow.Author.Rules.{rules}
-use native.Mathlib.Omega.{arith}
 use Rattle.ldpc_encode.proofs.scatter.Given as goal
 
 abbrev pub invariant-loop-i : goal.invariant-loop-i

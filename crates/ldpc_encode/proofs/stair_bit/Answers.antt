@@ -1,6 +1,5 @@
 -- `ldpc_encode::stair_bit` meets its contract. Assumes nothing.
 use Rattle.ldpc_encode.proofs.Bits.{stair_first, stair_later}
-use borrow.Author.Rules.{rules}
 use Rattle.ldpc_encode.proofs.stair_bit.Goals as goal
 
 pub returns-then-c-eq0 : goal.returns-then-c-eq0

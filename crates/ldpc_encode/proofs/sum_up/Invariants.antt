@@ -1,12 +1,9 @@
 -- `ldpc_encode::sum_up` meets its contract. Assumes nothing.
-use Rattle.ldpc_encode.proofs.Bytes.{sums_again, sums_end}
 use Rattle.ldpc_edges.specs.Code.{sums}
-use lib.ListN.{length, take, drop, length-set}
+use lib.ListN.{length, take, drop}
 use Prim.Native.Nat.{◌≤◌, ◌-◌}
 use mathlib.Core.List.{◌++◌}
-use mathlib.Core.Path.{◌≡◌, refl, ◌∙◌}
-use borrow.Author.Rules.{rules}
-use native.Mathlib.Omega.{arith}
+use mathlib.Core.Path.{◌≡◌}
 use Rattle.ldpc_encode.proofs.sum_up.Given as goal
 
 abbrev pub invariant-loop-c : goal.invariant-loop-c

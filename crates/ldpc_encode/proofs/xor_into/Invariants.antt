@@ -1,12 +1,9 @@
 -- `ldpc_encode::xor_into` meets its contract. Assumes nothing.
-use Rattle.ldpc_encode.proofs.Bytes.{xors_again, xors_end}
 use Rattle.ldpc_encode.specs.Sums.{xors}
-use lib.ListN.{length, take, drop, length-set}
+use lib.ListN.{length, take, drop}
 use Prim.Native.Nat.{◌≤◌, ◌-◌}
 use mathlib.Core.List.{◌++◌}
-use mathlib.Core.Path.{◌≡◌, refl, ◌∙◌}
-use borrow.Author.Rules.{rules}
-use native.Mathlib.Omega.{arith}
+use mathlib.Core.Path.{◌≡◌}
 use Rattle.ldpc_encode.proofs.xor_into.Given as goal
 
 abbrev pub invariant-loop-i : goal.invariant-loop-i

@@ -1,7 +1,6 @@
 -- `params::data_bits` meets its contract. Assumes nothing.
 use mathlib.Core.Path.{ap}
 use Prim.Native.Nat.{ℕ, ◌-◌}
-use borrow.Author.Rules.{rules}
 use Rattle.params.proofs.data_bits.Goals as goal
 
 pub returns : goal.returns

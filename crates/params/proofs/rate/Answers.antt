@@ -1,6 +1,5 @@
 -- `params::rate` meets its contract. Assumes nothing.
 use mathlib.Core.Path.{sym}
-use borrow.Author.Rules.{rules}
 use lib.ListN.{get_or-eq_default}
 use Rattle.params.specs.Lengths.{rates}
 use Rattle.params.proofs.rate.Goals as goal
