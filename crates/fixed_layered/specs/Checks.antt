@@ -64,7 +64,7 @@ module _ {sh : ℕ → Bool} {n p lanes : ℕ} {o : ℤ} {lists : List ℕ} {fir
         rest = λ i b u r. k.rest i b u r ∙ v.rest i b u r;
       })
     where
-      S : s ≡ (code_in p lists).row_start_lem (stepped first q x)
+      S : s ≡ (code_in p lists).row_start (stepped first q x)
       S = e ∙ sym (start_in p lists (stepped first q x) (omega arith))
 
       D : d ≡ degree (code_in p lists) (stepped first q x)

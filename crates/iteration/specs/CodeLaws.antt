@@ -33,7 +33,7 @@ module _ (n : ℕ) (lens addrs lists : List ℕ) (is : lists ≡ edge_lists n le
 
   pub code_in_is : code_in (p_of n lens) lists ≡ code_of n lens addrs
   unfolding code_of
-  code_in_is = λ i. record { rows = λ e. get_or (rows_are i) e 0; row_start_lem = λ c. get_or (starts_are i) c 0 }
+  code_in_is = λ i. record { rows = λ e. get_or (rows_are i) e 0; row_start = λ c. get_or (starts_are i) c 0 }
 
 big : (n : ℕ) (lens addrs : List ℕ) → Accepted n lens addrs → 747 ≤ e_of n lens addrs
 unfolding e_of

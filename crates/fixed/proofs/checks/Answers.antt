@@ -2,14 +2,14 @@ use borrow.Author.Rules.{rules}
 use native.Mathlib.Omega.{arith}
 use mathlib.Core.Path.{◌≡◌, refl, sym, subst}
 use mathlib.Core.List.{List}
-use Prim.Native.Nat.{ℕ, ◌+◌, ◌-◌, ◌≤◌, ◌<◌}
-use lib.ListN.{length, get_or}
+use Prim.Native.Nat.{ℕ, ◌+◌, ◌<◌}
+use lib.ListN.{get_or}
 use mir.Syntax.{w8}
 use mir.Val.{to_z, of_z}
 use Rattle.laws.specs.Signed.{plain}
 use Rattle.lane16.specs.Memory.{CheckMemory, memory_to, check_memory}
 use Rattle.simd.specs.Words.{CheckNode}
-use Rattle.fixed.specs.Sequential.{InTurn, turn_start, turn_again, turn_end}
+use Rattle.fixed.specs.Sequential.{turn_start, turn_again, turn_end}
 use Rattle.iteration.specs.Once.{stepped}
 use Rattle.fixed.proofs.checks.Goals as goal
 
@@ -28,27 +28,27 @@ loop-x-init c = (
 
 pub overflow_mul-c : goal.overflow_mul-c
 overflow_mul-c c =
-    let inside : (stepped c.args.first c.args.q c.loop-x.x < c.args.p) = c.requires.by_index c.loop-x.x c.loop-x-test.true in
+    let inside : (stepped c.args.first c.args.q c.loop-x.x < c.args.p) = c.requires.inside c.loop-x.x c.loop-x-test.true in
     record { fits = omega (arith, inside, c.ranges.p.fits) }
 
 pub overflow_add-c : goal.overflow_add-c
 overflow_add-c c =
-    let inside : (stepped c.args.first c.args.q c.loop-x.x < c.args.p) = c.requires.by_index c.loop-x.x c.loop-x-test.true in
+    let inside : (stepped c.args.first c.args.q c.loop-x.x < c.args.p) = c.requires.inside c.loop-x.x c.loop-x-test.true in
     record { fits = omega (arith, inside, c.ranges.p.fits) }
 
 pub start-s-requires : goal.start-s-requires
 start-s-requires c =
-    let inside : (stepped c.args.first c.args.q c.loop-x.x < c.args.p) = c.requires.by_index c.loop-x.x c.loop-x-test.true in
+    let inside : (stepped c.args.first c.args.q c.loop-x.x < c.args.p) = c.requires.inside c.loop-x.x c.loop-x-test.true in
     omega (arith, inside, c.requires.memory.0.lists_right.long)
 
 pub degree-d-requires : goal.degree-d-requires
 degree-d-requires c =
-    let inside : (stepped c.args.first c.args.q c.loop-x.x < c.args.p) = c.requires.by_index c.loop-x.x c.loop-x-test.true in
+    let inside : (stepped c.args.first c.args.q c.loop-x.x < c.args.p) = c.requires.inside c.loop-x.x c.loop-x-test.true in
     (c.requires.memory.0.lists_right, inside)
 
 pub check_node-requires : goal.check_node-requires
 check_node-requires c =
-    let inside : (stepped c.args.first c.args.q c.loop-x.x < c.args.p) = c.requires.by_index c.loop-x.x c.loop-x-test.true in
+    let inside : (stepped c.args.first c.args.q c.loop-x.x < c.args.p) = c.requires.inside c.loop-x.x c.loop-x-test.true in
     let ends : (c.start-s.result + c.degree-d.result ≡ get_or c.args.lists.now (stepped c.args.first c.args.q c.loop-x.x + 1) 0) =
     omega (arith, c.start-s.ensures, c.degree-d.ensures) in
     record {
@@ -65,7 +65,7 @@ check_node-requires c =
 
 pub loop-x-preserved : goal.loop-x-preserved
 loop-x-preserved c =
-    let inside : (stepped c.args.first c.args.q c.loop-x.x < c.args.p) = c.requires.by_index c.loop-x.x c.loop-x-test.true in
+    let inside : (stepped c.args.first c.args.q c.loop-x.x < c.args.p) = c.requires.inside c.loop-x.x c.loop-x-test.true in
     let ends : (c.start-s.result + c.degree-d.result ≡ get_or c.args.lists.now (stepped c.args.first c.args.q c.loop-x.x + 1) 0) =
     omega (arith, c.start-s.ensures, c.degree-d.ensures) in (
       omega (arith, c.loop-x-test.true),

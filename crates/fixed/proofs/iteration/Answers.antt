@@ -1,6 +1,5 @@
 -- `fixed::iteration` meets its contract. Assumes nothing.
 use native.Mathlib.Omega.{arith}
-use borrow.Author.Rules.{rules}
 use Rattle.laws.specs.Signed.{plain}
 use Rattle.iteration.specs.ListsLaws.{rows_part}
 use Rattle.fixed.specs.Sequential.{iterated}
@@ -10,7 +9,7 @@ pub checks-requires : goal.checks-requires
 checks-requires c =
     record {
       memory = (c.requires, rows_part c.args.p c.args.lists.now);
-      by_index = λ x h. omega (arith, h);
+      inside = λ x h. omega (arith, h);
       in_bounds = (omega arith, omega arith);
     }
 

@@ -1,5 +1,4 @@
 -- `fixed_code::degree` meets its contract. Assumes nothing.
-use borrow.Author.Rules.{rules}
 use native.Mathlib.Omega.{arith}
 use Prim.Native.Nat.{◌≤◌}
 use Rattle.fixed_code.proofs.degree.Goals as goal

@@ -1,6 +1,5 @@
 -- `fixed_code::variable` meets its contract. Assumes nothing.
 use native.Mathlib.Omega.{arith}
-use borrow.Author.Rules.{rules}
 use Rattle.fixed_code.proofs.variable.Goals as goal
 
 pub overflow_cast-result : goal.overflow_cast-result

@@ -2,8 +2,8 @@ use borrow.Author.Rules.{rules, sfits_of}
 use native.Mathlib.Omega.{arith}
 use mathlib.Core.Path.{◌≡◌, refl, ◌∙◌}
 use mathlib.Core.Bool.{cond}
-use Prim.Native.Nat.{ℕ, ◌-◌, ◌≤◌, ◌<◌}
-use lib.ListN.{length, length-set}
+use Prim.Native.Nat.{ℕ}
+use lib.ListN.{length-set}
 use lib.IntN.{ℤ, pos}
 use Rattle.laws.specs.Signed.{plain}
 use Rattle.laws.specs.Definitions.{negative}

@@ -1,14 +1,10 @@
 -- `fixed_lanes::blank` meets its contract. Assumes nothing.
-use borrow.Author.Rules.{rules, sfits_of}
-use native.Mathlib.Omega.{arith}
-use mathlib.Core.Path.{◌≡◌, refl, ◌∙◌}
+use mathlib.Core.Path.{◌≡◌}
 use mathlib.Core.Bool.{cond}
 use Prim.Native.Nat.{ℕ, ◌-◌, ◌≤◌, ◌<◌}
-use lib.ListN.{length, length-set}
-use lib.IntN.{ℤ, pos}
-use Rattle.laws.specs.Signed.{plain}
+use lib.ListN.{length}
+use lib.IntN.{pos}
 use Rattle.laws.specs.Definitions.{negative}
-use Rattle.laws.specs.Stores.{grown}
 use Rattle.lane16.specs.Lanes.{int_at}
 use Rattle.fixed_lanes.proofs.blank.Given as goal
 

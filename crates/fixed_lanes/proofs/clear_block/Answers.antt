@@ -1,9 +1,7 @@
 use borrow.Author.Rules.{rules}
 use native.Mathlib.Omega.{arith}
-use mathlib.Core.Path.{◌≡◌, refl}
-use Prim.Native.Nat.{◌-◌, ◌≤◌}
-use lib.ListN.{length}
-use Rattle.fixed_lanes.specs.Part.{BlockCleared, block_start, block_again, block_end}
+use mathlib.Core.Path.{refl}
+use Rattle.fixed_lanes.specs.Part.{block_start, block_again, block_end}
 use Rattle.fixed_lanes.proofs.clear_block.Goals as goal
 
 pub loop-at-init : goal.loop-at-init

@@ -1,10 +1,8 @@
 -- `fixed_lanes::clear_block` meets its contract. Assumes nothing.
-use borrow.Author.Rules.{rules}
-use native.Mathlib.Omega.{arith}
-use mathlib.Core.Path.{◌≡◌, refl}
+use mathlib.Core.Path.{◌≡◌}
 use Prim.Native.Nat.{◌-◌, ◌≤◌}
 use lib.ListN.{length}
-use Rattle.fixed_lanes.specs.Part.{BlockCleared, block_start, block_again, block_end}
+use Rattle.fixed_lanes.specs.Part.{BlockCleared}
 use Rattle.fixed_lanes.proofs.clear_block.Given as goal
 
 abbrev pub invariant-loop-at : goal.invariant-loop-at

@@ -1,11 +1,7 @@
 -- `fixed_lanes::clear_chunk` meets its contract. Assumes nothing.
 use native.Mathlib.Omega.{arith}
-use borrow.Author.Rules.{rules}
-use borrow.Author.Tests.{not-true}
-use mathlib.Core.Path.{◌≡◌, sym}
-use Prim.Native.Nat.{ℕ, ◌+◌, ◌*◌, ◌≤◌, ◌<◌}
-use lib.ListN.{length}
-use Rattle.fixed_lanes.specs.Part.{Mask, part_none, part_kept}
+use mathlib.Core.Path.{sym}
+use Rattle.fixed_lanes.specs.Part.{part_kept}
 use Rattle.fixed_lanes.proofs.clear_chunk.Goals as goal
 
 pub mask-q-requires : goal.mask-q-requires

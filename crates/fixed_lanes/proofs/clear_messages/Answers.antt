@@ -1,11 +1,10 @@
 use borrow.Author.Rules.{rules}
-use borrow.Author.Tests.{not-true}
 use native.Mathlib.Omega.{arith}
-use mathlib.Core.Path.{◌≡◌, refl, sym, ◌∙◌}
+use mathlib.Core.Path.{refl, sym, ◌∙◌}
 use Prim.Native.Nat.{◌+◌, ◌*◌, ◌-◌, ◌≤◌}
 use lib.ListN.{length}
 use native.Mathlib.Nat.{mul-le-mul_right}
-use Rattle.fixed_lanes.specs.Clear.{Cleared, clear_start, clear_end, clear_none}
+use Rattle.fixed_lanes.specs.Clear.{clear_start, clear_end, clear_none}
 use Rattle.fixed_lanes.specs.Part.{clear_join}
 use Rattle.fixed_lanes.proofs.clear_messages.Goals as goal
 

@@ -1,12 +1,8 @@
 -- `fixed_lanes::clear_part` meets its contract. Assumes nothing.
-use borrow.Author.Rules.{rules}
-use native.Mathlib.Omega.{arith}
-use native.Mathlib.Nat.{mul-le-mul_right}
-use mathlib.Core.Path.{◌≡◌, refl}
-use Prim.Native.Nat.{◌+◌, ◌*◌, ◌-◌, ◌≤◌}
+use mathlib.Core.Path.{◌≡◌}
+use Prim.Native.Nat.{◌-◌, ◌≤◌}
 use lib.ListN.{length}
-use Rattle.lane16.specs.ColumnLaws.{row_ends}
-use Rattle.fixed_lanes.specs.Part.{PartMasked, part_start, part_again, part_end}
+use Rattle.fixed_lanes.specs.Part.{PartMasked}
 use Rattle.fixed_lanes.proofs.clear_part.Given as goal
 
 abbrev pub invariant-loop-k : goal.invariant-loop-k

@@ -1,16 +1,14 @@
 use borrow.Author.Rules.{rules}
 use native.Mathlib.Omega.{arith}
-use mathlib.Core.Path.{◌≡◌, refl, ap, ◌∙◌}
+use mathlib.Core.Path.{refl, ap, ◌∙◌}
 use mathlib.Core.Bool.{cond}
-use Prim.Native.Nat.{◌-◌, ◌≤◌}
-use lib.ListN.{length}
 use lib.IntN.{ℤ, pos}
 use Rattle.laws.specs.Signed.{plain}
-use Rattle.fixed_lanes.specs.Clear.{RowCleared, on, row_start_lem, row_again, row_end}
+use Rattle.fixed_lanes.specs.Clear.{on, row_start, row_again, row_end}
 use Rattle.fixed_lanes.proofs.clear_row.Goals as goal
 
 pub loop-i-init : goal.loop-i-init
-loop-i-init c = (search rules, (refl, row_start_lem c.args.lanes c.args.u c.args.fresh.now c.args.work.now))
+loop-i-init c = (search rules, (refl, row_start c.args.lanes c.args.u c.args.fresh.now c.args.work.now))
 
 pub value-x-requires : goal.value-x-requires
 value-x-requires c = omega (arith, c.requires.0, c.loop-i-test.true, c.loop-i.invariant.1.0)

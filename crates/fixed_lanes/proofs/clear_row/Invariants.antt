@@ -1,13 +1,8 @@
 -- `fixed_lanes::clear_row` meets its contract. Assumes nothing.
-use borrow.Author.Rules.{rules}
-use native.Mathlib.Omega.{arith}
-use mathlib.Core.Path.{◌≡◌, refl, ap, ◌∙◌}
-use mathlib.Core.Bool.{cond}
+use mathlib.Core.Path.{◌≡◌}
 use Prim.Native.Nat.{◌-◌, ◌≤◌}
 use lib.ListN.{length}
-use lib.IntN.{ℤ, pos}
-use Rattle.laws.specs.Signed.{plain}
-use Rattle.fixed_lanes.specs.Clear.{RowCleared, on, row_start_lem, row_again, row_end}
+use Rattle.fixed_lanes.specs.Clear.{RowCleared}
 use Rattle.fixed_lanes.proofs.clear_row.Given as goal
 
 abbrev pub invariant-loop-i : goal.invariant-loop-i

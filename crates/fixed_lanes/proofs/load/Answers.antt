@@ -1,13 +1,12 @@
 use borrow.Author.Rules.{rules}
 use native.Mathlib.Omega.{arith}
-use mathlib.Core.Path.{◌≡◌, refl}
-use Prim.Native.Nat.{◌-◌, ◌≤◌}
-use lib.ListN.{length, get_or}
+use mathlib.Core.Path.{refl}
+use lib.ListN.{get_or}
 use lib.IntN.{pos}
 use borrow.Author.Rules.{sfits_of}
 use Rattle.laws.specs.Signed.{plain}
 use Rattle.fixed_lanes.specs.Place.{inside_rows}
-use Rattle.fixed_lanes.specs.Load.{Loaded, load_start, load_again, load_end}
+use Rattle.fixed_lanes.specs.Load.{load_start, load_again, load_end}
 use Rattle.fixed_lanes.proofs.load.Goals as goal
 
 pub loop-u-init : goal.loop-u-init

@@ -1,14 +1,8 @@
 -- `fixed_lanes::load` meets its contract. Assumes nothing.
-use borrow.Author.Rules.{rules}
-use native.Mathlib.Omega.{arith}
-use mathlib.Core.Path.{◌≡◌, refl}
+use mathlib.Core.Path.{◌≡◌}
 use Prim.Native.Nat.{◌-◌, ◌≤◌}
-use lib.ListN.{length, get_or}
-use lib.IntN.{pos}
-use borrow.Author.Rules.{sfits_of}
-use Rattle.laws.specs.Signed.{plain}
-use Rattle.fixed_lanes.specs.Place.{inside_rows}
-use Rattle.fixed_lanes.specs.Load.{Loaded, load_start, load_again, load_end}
+use lib.ListN.{length}
+use Rattle.fixed_lanes.specs.Load.{Loaded}
 use Rattle.fixed_lanes.proofs.load.Given as goal
 
 abbrev pub invariant-loop-u : goal.invariant-loop-u

@@ -2,13 +2,11 @@ use borrow.Author.Rules.{rules, sfits_of}
 use native.Mathlib.Omega.{arith}
 use mathlib.Core.Path.{◌≡◌, refl, sym, subst, ◌∙◌}
 use mathlib.Core.Bool.{cond}
-use Prim.Native.Nat.{ℕ, ◌+◌, ◌-◌, ◌≤◌, ◌<◌}
-use lib.ListN.{length, length-set, get_or-replicate}
+use Prim.Native.Nat.{ℕ, ◌+◌, ◌<◌}
+use lib.ListN.{length-set, get_or-replicate}
 use lib.IntN.{ℤ, pos, negsuc}
 use Rattle.laws.specs.Signed.{plain}
-use Rattle.laws.specs.Definitions.{negative}
 use Rattle.laws.specs.Stores.{grown, set_each}
-use Rattle.lane16.specs.Lanes.{int_at}
 use Rattle.fixed_lanes.specs.Clear.{on}
 use Rattle.fixed_lanes.specs.Part.{pick_mask}
 use Rattle.fixed_lanes.proofs.mask.Invariants.{Masks}

@@ -1,17 +1,12 @@
 -- `fixed_lanes::mask` meets its contract. Assumes nothing.
-use borrow.Author.Rules.{rules, sfits_of}
-use native.Mathlib.Omega.{arith}
-use mathlib.Core.Path.{◌≡◌, refl, sym, subst, ◌∙◌}
+use mathlib.Core.Path.{◌≡◌}
 use mathlib.Core.Bool.{cond}
 use Prim.Native.Nat.{ℕ, ◌+◌, ◌-◌, ◌≤◌, ◌<◌}
-use lib.ListN.{length, length-set, get_or-replicate}
+use lib.ListN.{length}
 use lib.IntN.{ℤ, pos, negsuc}
-use Rattle.laws.specs.Signed.{plain}
 use Rattle.laws.specs.Definitions.{negative}
-use Rattle.laws.specs.Stores.{grown, set_each}
 use Rattle.lane16.specs.Lanes.{int_at}
 use Rattle.fixed_lanes.specs.Clear.{on}
-use Rattle.fixed_lanes.specs.Part.{pick_mask}
 use Rattle.fixed_lanes.proofs.mask.Given as goal
 
 -- 0 or -1

@@ -1,5 +1,4 @@
 -- `fixed_lanes::place` meets its contract. Assumes nothing.
-use borrow.Author.Rules.{rules}
 use mathlib.Core.Path.{sym, subst}
 use Prim.Native.Nat.{◌+◌, ◌*◌}
 use lib.ListN.{set}

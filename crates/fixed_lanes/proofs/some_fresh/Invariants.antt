@@ -1,10 +1,8 @@
 -- `fixed_lanes::some_fresh` meets its contract. The loop's invariant: none of the first i lanes is fresh.
-use mathlib.Core.Path.{◌≡◌, sym, ap, ◌∙◌}
+use mathlib.Core.Path.{◌≡◌}
 use mathlib.Core.Bool.{false}
 use Prim.Native.Nat.{◌-◌, ◌≤◌}
-use borrow.Author.Rules.{rules}
-use native.Mathlib.Omega.{arith}
-use Rattle.fixed_lanes.specs.Clear.{some_fresh, none_start, none_again, some_at}
+use Rattle.fixed_lanes.specs.Clear.{some_fresh}
 use Rattle.fixed_lanes.proofs.some_fresh.Given as goal
 
 abbrev pub invariant-loop-i : goal.invariant-loop-i

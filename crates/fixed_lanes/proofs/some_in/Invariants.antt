@@ -1,11 +1,7 @@
 -- `fixed_lanes::some_in` meets its contract. The loop's invariant: none of the first i lanes from `at` is fresh.
-use mathlib.Core.Path.{◌≡◌, subst}
+use mathlib.Core.Path.{◌≡◌}
 use mathlib.Core.Bool.{false}
 use Prim.Native.Nat.{ℕ, ◌+◌, ◌-◌, ◌≤◌, ◌<◌}
-use native.Mathlib.Omega.{arith}
-use borrow.Author.Rules.{rules}
-use borrow.Author.Count.{below_more}
-use lib.Dec.{T}
 use Rattle.fixed_lanes.specs.Clear.{on}
 use Rattle.fixed_lanes.proofs.some_in.Given as goal
 

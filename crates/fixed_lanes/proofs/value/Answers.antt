@@ -1,5 +1,4 @@
 -- `fixed_lanes::value` meets its contract. Assumes nothing.
-use borrow.Author.Rules.{rules}
 use Prim.Native.Nat.{◌+◌, ◌*◌}
 use lib.ListN.{get_or}
 use lib.IntN.{pos}

@@ -26,32 +26,32 @@ loop-i-init c = (
   search rules,
   (
     edge_start c.args.lanes c.args.at c.args.tu c.args.ru c.args.ou c.args.seen c.args.work.now c.args.sums.now,
-    growing_start c.requires.lanes_in_bounds_2.1.1,
+    growing_start c.requires.sums.1.1,
   ),
 )
 
 pub slice_copy_out-s : goal.slice_copy_out-s
 slice_copy_out-s c =
     let room : c.args.at + c.loop-i.i < length c.loop-i.sums =
-    omega (arith, c.requires.lanes_in_bounds_2.0, c.loop-i-test.true, c.loop-i.invariant.1.0.long) in
+    omega (arith, c.requires.sums.0, c.loop-i-test.true, c.loop-i.invariant.1.0.long) in
     omega (arith, room)
 
 pub gathered-requires : goal.gathered-requires
 gathered-requires c =
     rw (to_z-of_z w32 (int_at c.loop-i.sums (c.args.at + c.loop-i.i)) (sfits_of c.s-1.given))
     (λ b. omega
-    (arith, c.loop-i.invariant.1.1.still b c.loop-i.i (omega arith) c.loop-i-test.true, c.requires.lanes_in_bounds_2.1.0))
+    (arith, c.loop-i.invariant.1.1.still b c.loop-i.i (omega arith) c.loop-i-test.true, c.requires.sums.1.0))
 
 pub bounds-sums-at : goal.bounds-sums-at
 bounds-sums-at c =
     let room : c.args.at + c.loop-i.i < length c.loop-i.sums =
-    omega (arith, c.requires.lanes_in_bounds_2.0, c.loop-i-test.true, c.loop-i.invariant.1.0.long) in
+    omega (arith, c.requires.sums.0, c.loop-i-test.true, c.loop-i.invariant.1.0.long) in
     omega (arith, room)
 
 pub loop-i-preserved : goal.loop-i-preserved
 loop-i-preserved c =
     let room : c.args.at + c.loop-i.i < length c.loop-i.sums =
-    omega (arith, c.requires.lanes_in_bounds_2.0, c.loop-i-test.true, c.loop-i.invariant.1.0.long) in
+    omega (arith, c.requires.sums.0, c.loop-i-test.true, c.loop-i.invariant.1.0.long) in
     let f = column c.args.lanes c.args.work.now c.loop-i.i in
     let is : to_z w32 (of_z w32 c.gathered.result) ≡ plus c.args.seen f c.args.tu c.args.ru c.args.ou (int_at c.loop-i.sums (c.args.at + c.loop-i.i)) =
     to_z-of_z w32 c.gathered.result (sfits_of c.gathered.type_inv)

@@ -95,14 +95,14 @@ gather-requires c =
     let i = in_row.1 in
     let z : (j + 1) * c.args.lanes ≤ 374 * c.args.lanes = mul-le-mul_right c.args.lanes (omega (arith, i)) in
     record {
-      lanes_in_bounds = (
+      rows = (
         row_room c.requires.check_memory.0 (c.args.n + E + c.args.at) (omega (arith, c.requires.check_memory.1.0)),
         (
           row_room c.requires.check_memory.0 (c.args.n + c.args.e) (omega (arith, c.requires.check_memory.0.edges)),
           row_room c.requires.check_memory.0 (c.args.n + 2 * E + c.args.at) (omega (arith, c.requires.check_memory.1.0)),
         ),
       );
-      lanes_in_bounds_2 = (
+      sums = (
         omega (arith, c.requires.lanes_in_bounds.0),
         (omega (arith, c.requires.check_memory.1.0, c.requires.check_memory.1.1), λ e. c.requires.smalls j i e),
       );

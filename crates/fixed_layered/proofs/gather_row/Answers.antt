@@ -11,7 +11,7 @@ use Rattle.iteration.specs.Once.{stepped}
 use Rattle.fixed_layered.specs.Gather.{gather_at}
 use Rattle.fixed_layered.specs.RunMemory.{few_turns, place_first, place_next, place_room}
 use Rattle.fixed_layered.specs.Layers.{RowPart, row_part}
-use Rattle.fixed_layered.specs.Rows.{Gathers, sum_at, run_sum, row_start_lem, row_again, more}
+use Rattle.fixed_layered.specs.Rows.{Gathers, sum_at, run_sum, row_start, row_again, more}
 use Rattle.fixed_layered.proofs.gather_row.Goals as goal
 
 pub loop-x-init : goal.loop-x-init
@@ -23,7 +23,7 @@ loop-x-init c = (
       refl,
       (
         place_first c.args.of.p c.args.lists.now c.args.run.first c.args.of.q,
-        row_start_lem c.args.of.n (edges_in c.args.of.p c.args.lists.now) (code_in c.args.of.p c.args.lists.now)
+        row_start c.args.of.n (edges_in c.args.of.p c.args.lists.now) (code_in c.args.of.p c.args.lists.now)
             (stepped c.args.run.first c.args.of.q) c.args.row.base c.args.of.lanes c.args.work.now c.args.seen.now c.args.sums.now
             c.requires.lanes_in_bounds.1.1,
       ),

@@ -12,7 +12,7 @@ use Rattle.iteration.specs.Once.{stepped}
 use Rattle.fixed_layered.specs.Gather.{gather_at}
 use Rattle.fixed_layered.specs.RunMemory.{few_turns, place_first, place_next, place_room}
 use Rattle.fixed_layered.specs.Layers.{RowPart, row_part}
-use Rattle.fixed_layered.specs.Rows.{Gathers, sum_at, run_sum, row_start_lem, row_again, more}
+use Rattle.fixed_layered.specs.Rows.{Gathers, sum_at, run_sum, row_start, row_again, more}
 use Rattle.fixed_layered.proofs.gather_row.Given as goal
 
 abbrev pub invariant-loop-x : goal.invariant-loop-x

@@ -10,7 +10,7 @@ use Rattle.fixed_layered.proofs.layered_iteration.Goals as goal
 pub layers-requires : goal.layers-requires
 layers-requires c =
     record {
-      by_index = (
+      layers = (
         each_layer c.requires.prepared.0 c.requires.prepared.1 c.requires.lanes_in_bounds.1.0 c.requires.lanes_in_bounds.1.1,
         sharing c.requires.prepared.0,
       );

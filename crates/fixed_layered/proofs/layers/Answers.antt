@@ -25,8 +25,8 @@ loop-l-init c = (
 pub runs-requires : goal.runs-requires
 runs-requires c =
     record {
-      in_layer = in-layer-to c.loop-l.invariant.1.0 (c.requires.by_index.0 c.loop-l.l c.loop-l-test.true);
-      sharing = c.requires.by_index.1;
+      in_layer = in-layer-to c.loop-l.invariant.1.0 (c.requires.layers.0 c.loop-l.l c.loop-l-test.true);
+      sharing = c.requires.layers.1;
       in_bounds = (
         omega (arith, c.loop-l.invariant.1.1.0.0, c.requires.in_bounds.0),
         (
@@ -37,7 +37,7 @@ runs-requires c =
     }
 
 pub overflow_add-l : goal.overflow_add-l
-overflow_add-l c = record { fits = omega (arith, c.loop-l-test.true, c.requires.by_index.1.few_layers) }
+overflow_add-l c = record { fits = omega (arith, c.loop-l-test.true, c.requires.layers.1.few_layers) }
 
 pub loop-l-smaller : goal.loop-l-smaller
 loop-l-smaller c = omega (arith, c.loop-l-test.true)

@@ -65,7 +65,7 @@ run-requires c =
           ),
         ),
       );
-      false_value = c.shared-sharing.ensures.none;
+      unshared = c.shared-sharing.ensures.none;
       in_bounds = (
         omega (arith, c.loop-at.invariant.1.1.1.0.0, c.requires.in_bounds.0),
         (

@@ -126,4 +126,4 @@ loop-x-preserved c =
 pub returns : goal.returns
 returns c =
     checks_end (plain c.args.offset c.ranges.offset) (omega (arith, c.loop-x.invariant.0, c.loop-x-test.false))
-    c.requires.in_run.0 c.requires.by_index c.loop-x.invariant.1.1.1.1
+    c.requires.in_run.0 c.requires.once c.loop-x.invariant.1.1.1.1

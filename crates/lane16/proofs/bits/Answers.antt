@@ -1,12 +1,12 @@
 use borrow.Author.Rules.{rules}
 use native.Mathlib.Omega.{arith}
 use mathlib.Core.Path.{◌≡◌, refl, ap, ◌∙◌}
-use Prim.Native.Nat.{ℕ, ◌-◌, ◌≤◌, ◌<◌}
-use lib.ListN.{length, length-set}
+use Prim.Native.Nat.{ℕ}
+use lib.ListN.{length-set}
 use borrow.Author.Rules.{sfits_of}
 use Rattle.laws.specs.Signed.{plain}
 use Rattle.iteration.specs.Iteration.{hard}
-use Rattle.lane16.specs.Lanes.{int_at, nat_at}
+use Rattle.lane16.specs.Lanes.{int_at}
 use Rattle.laws.specs.Stores.{grown}
 use Rattle.lane16.proofs.bits.Goals as goal
 

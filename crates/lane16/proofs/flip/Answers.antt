@@ -1,8 +1,8 @@
 use borrow.Author.Rules.{rules}
 use native.Mathlib.Omega.{arith}
 use mathlib.Core.Path.{◌≡◌, refl, ap, ◌∙◌}
-use Prim.Native.Nat.{ℕ, ◌-◌, ◌≤◌, ◌<◌}
-use lib.ListN.{length, length-set}
+use Prim.Native.Nat.{ℕ}
+use lib.ListN.{length-set}
 use lib.IntN.{ℤ, pos}
 use borrow.Author.Rules.{sfits_of}
 use Rattle.laws.specs.Signed.{plain}

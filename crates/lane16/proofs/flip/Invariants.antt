@@ -1,15 +1,9 @@
 -- `lane16::flip` meets its contract. Assumes nothing.
-use borrow.Author.Rules.{rules}
-use native.Mathlib.Omega.{arith}
-use mathlib.Core.Path.{◌≡◌, refl, ap, ◌∙◌}
+use mathlib.Core.Path.{◌≡◌}
 use Prim.Native.Nat.{ℕ, ◌-◌, ◌≤◌, ◌<◌}
-use lib.ListN.{length, length-set}
-use lib.IntN.{ℤ, pos}
-use borrow.Author.Rules.{sfits_of}
-use Rattle.laws.specs.Signed.{plain}
+use lib.ListN.{length}
 use Rattle.laws.specs.Definitions.{negative, times}
 use Rattle.lane16.specs.Lanes.{int_at}
-use Rattle.laws.specs.Stores.{grown}
 use Rattle.lane16.proofs.flip.Given as goal
 
 abbrev pub invariant-loop-i : goal.invariant-loop-i

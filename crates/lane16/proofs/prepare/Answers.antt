@@ -2,9 +2,8 @@ use borrow.Author.Rules.{rules, sfits_of}
 use native.Mathlib.Omega.{arith}
 use mathlib.Core.Path.{◌≡◌, refl, sym, subst, ◌∙◌}
 use mathlib.Core.Bool.{false}
-use mathlib.Core.List.{List}
-use Prim.Native.Nat.{ℕ, ◌-◌, ◌≤◌, ◌<◌, min}
-use lib.ListN.{length, length-set}
+use Prim.Native.Nat.{ℕ, ◌<◌, min}
+use lib.ListN.{length-set}
 use lib.IntN.{ℤ, pos, nat_abs}
 use mir.Syntax.{w8}
 use mir.Val.{to_z, of_z}

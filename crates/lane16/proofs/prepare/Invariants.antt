@@ -1,20 +1,12 @@
 -- `lane16::prepare` meets its contract. Assumes nothing.
-use borrow.Author.Rules.{rules, sfits_of}
-use native.Mathlib.Omega.{arith}
-use mathlib.Core.Path.{◌≡◌, refl, sym, subst, ◌∙◌}
-use mathlib.Core.Bool.{false}
+use mathlib.Core.Path.{◌≡◌}
 use mathlib.Core.List.{List}
 use Prim.Native.Nat.{ℕ, ◌-◌, ◌≤◌, ◌<◌, min}
-use lib.ListN.{length, length-set}
-use lib.IntN.{ℤ, pos, nat_abs}
-use mir.Syntax.{w8}
-use mir.Val.{to_z, of_z}
-use Rattle.laws.specs.Signed.{plain}
+use lib.ListN.{length}
+use lib.IntN.{ℤ}
 use Rattle.laws.specs.Definitions.{negative}
 use Rattle.iteration.specs.Value.{reduced, signed}
-use Rattle.lane_math.specs.Laws.{reduced_small}
-use Rattle.lane16.specs.Lanes.{int_at, nat_at, readied_to}
-use Rattle.laws.specs.Stores.{grown}
+use Rattle.lane16.specs.Lanes.{int_at, nat_at}
 use Rattle.lane16.proofs.prepare.Given as goal
 
 -- the first i lanes are ready

@@ -1,9 +1,8 @@
 use borrow.Author.Rules.{rules}
 use native.Mathlib.Omega.{arith}
 use mathlib.Core.Path.{◌≡◌, refl, ◌∙◌}
-use mathlib.Core.List.{List}
-use Prim.Native.Nat.{ℕ, ◌-◌, ◌≤◌, ◌<◌}
-use lib.ListN.{length, length-set}
+use Prim.Native.Nat.{ℕ}
+use lib.ListN.{length-set}
 use lib.IntN.{ℤ, pos, ◌+ℤ◌}
 use mir.Syntax.{w8}
 use mir.Val.{to_z, of_z}

@@ -1,19 +1,12 @@
 -- `lane16::scan` meets its contract. Assumes nothing.
-use borrow.Author.Rules.{rules}
-use native.Mathlib.Omega.{arith}
-use mathlib.Core.Path.{◌≡◌, refl, ap, ◌∙◌}
+use mathlib.Core.Path.{◌≡◌}
 use mathlib.Core.List.{List}
 use Prim.Native.Nat.{ℕ, ◌-◌, ◌≤◌, ◌<◌, min, max}
-use lib.ListN.{length, length-set}
-use lib.IntN.{ℤ, pos, nat_abs, ◌-ℤ◌}
-use mir.Syntax.{w8}
-use mir.Val.{to_z, of_z}
-use borrow.Author.Rules.{sfits_of}
-use Rattle.laws.specs.Signed.{plain}
+use lib.ListN.{length}
+use lib.IntN.{ℤ, nat_abs, ◌-ℤ◌}
 use Rattle.laws.specs.Definitions.{negative, times}
 use Rattle.iteration.specs.Value.{sat_z}
 use Rattle.lane16.specs.Lanes.{int_at, nat_at}
-use Rattle.laws.specs.Stores.{grown, kept}
 use Rattle.lane16.proofs.scan.Given as goal
 
 -- the first i lanes are done, and the others as they were

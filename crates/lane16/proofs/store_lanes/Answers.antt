@@ -1,7 +1,5 @@
 -- `lane16::store_lanes` meets its contract. Assumes nothing.
-use native.Mathlib.Omega.{arith}
-use borrow.Author.Rules.{rules}
-use mathlib.Core.Path.{◌≡◌, sym}
+use mathlib.Core.Path.{sym}
 use Rattle.lane16.specs.ColumnLaws.{stored_width}
 use Rattle.lane16.proofs.store_lanes.Goals as goal
 

@@ -3,8 +3,6 @@ use mathlib.Core.Path.{◌≡◌, sym, ap, ◌∙◌}
 use mathlib.Core.Bool.{Bool, true, false, cond}
 use lib.IntN.{ℤ, pos}
 use lib.Signed.{lt_z}
-use mir.Syntax.{w8}
-use mir.Val.{to_z, of_z}
 use Rattle.laws.specs.Signed.{plain, sign_test}
 use Rattle.laws.specs.Definitions.{negative}
 use Rattle.lane_math.proofs.bit.Goals as goal

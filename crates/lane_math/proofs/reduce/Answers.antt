@@ -1,5 +1,5 @@
 -- `lane_math::reduce` meets its contract. Assumes nothing.
-use borrow.Author.Rules.{rules, sfits_of}
+use borrow.Author.Rules.{sfits_of}
 use mathlib.Core.Path.{◌≡◌, ap, ◌∙◌}
 use Prim.Native.Nat.{min}
 use native.Mathlib.Omega.{arith}

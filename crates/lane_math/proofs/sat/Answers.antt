@@ -1,5 +1,5 @@
 -- `lane_math::sat` meets its contract. Assumes nothing.
-use borrow.Author.Rules.{rules, sfits_of}
+use borrow.Author.Rules.{sfits_of}
 use mathlib.Core.Path.{◌≡◌, ap, ◌∙◌}
 use lib.IntN.{ℤ, pos, negsuc}
 use mir.Syntax.{w16}

@@ -1,11 +1,5 @@
 -- `lane_math::sat_add` meets its contract. Assumes nothing.
-use borrow.Author.Rules.{rules, sfits_of}
-use mathlib.Core.Path.{ap, ◌∙◌}
-use lib.IntN.{◌+ℤ◌}
-use mir.Syntax.{w16}
-use mir.ValLaws.{to_z-of_z}
 use Rattle.laws.specs.Signed.{plain, wide, widen, add_fits16}
-use Rattle.iteration.specs.Value.{sat_z}
 use Rattle.lane_math.proofs.sat_add.Goals as goal
 
 pub overflow_cast-a : goal.overflow_cast-a

@@ -1,12 +1,5 @@
 -- `lane_math::signed` meets its contract. Assumes nothing.
-use borrow.Author.Rules.{rules, sfits_of}
-use mathlib.Core.Path.{ap, ◌∙◌}
-use mathlib.Core.Bool.{cond}
-use lib.IntN.{ℤ, pos, neg_ℤ}
-use lib.Signed.{lt_z}
-use mir.Syntax.{w8}
-use mir.Val.{to_z, of_z}
-use Rattle.laws.specs.Signed.{plain, sub_neg, sign_test}
+use Rattle.laws.specs.Signed.{plain, sub_neg}
 use Rattle.lane_math.specs.Fits.{neg_small}
 use Rattle.lane_math.proofs.signed.Goals as goal
 

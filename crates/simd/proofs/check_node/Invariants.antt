@@ -1,19 +1,10 @@
 -- `simd::check_node` meets its contract. Assumes nothing.
-use borrow.Author.Rules.{rules}
-use native.Mathlib.Omega.{arith}
-use mathlib.Core.Path.{◌≡◌, refl, subst}
+use mathlib.Core.Path.{◌≡◌}
 use Prim.Native.Nat.{◌-◌, ◌≤◌}
 use lib.ListN.{length}
-use lib.IntN.{ℤ}
-use mir.Syntax.{w8}
-use mir.Val.{to_z, of_z}
-use Rattle.laws.specs.Signed.{plain}
-use Rattle.lane16.specs.ColumnLaws.{Upto, upto_start, upto_again, upto_end}
-use Rattle.lane16.specs.Memory.{check_memory_to}
+use Rattle.lane16.specs.ColumnLaws.{Upto}
 use Rattle.iteration.specs.Lists.{var}
 use Rattle.simd.specs.Pass.{check_column}
-use Rattle.simd.specs.Words.{CheckNode}
-use Rattle.simd.specs.WordsLaws.{check_node}
 use Rattle.simd.proofs.check_node.Given as goal
 
 abbrev pub invariant-loop-at : goal.invariant-loop-at

@@ -1,12 +1,9 @@
 -- `simd::reply` meets its contract. Assumes nothing.
-use borrow.Author.Rules.{rules}
-use native.Mathlib.Omega.{arith}
-use mathlib.Core.Path.{◌≡◌, refl}
-use Prim.Native.Nat.{◌+◌, ◌-◌, ◌≤◌, ◌<◌}
+use mathlib.Core.Path.{◌≡◌}
+use Prim.Native.Nat.{◌-◌, ◌≤◌}
 use lib.ListN.{length}
-use Rattle.lane16.specs.Memory.{row_room, value_row, row_fits}
 use Rattle.iteration.specs.Lists.{var}
-use Rattle.simd.specs.Pass.{Replied, replied_start, replied_again, replied_end}
+use Rattle.simd.specs.Pass.{Replied}
 use Rattle.simd.proofs.reply.Given as goal
 
 abbrev pub invariant-loop-k : goal.invariant-loop-k

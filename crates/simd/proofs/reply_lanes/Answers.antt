@@ -1,6 +1,5 @@
 -- `simd::reply_lanes` meets its contract. Assumes nothing.
 use native.Mathlib.Omega.{arith}
-use borrow.Author.Rules.{rules}
 use mathlib.Core.Path.{sym, subst}
 use Rattle.lane16.specs.Memory.{Width}
 use Rattle.simd.specs.Pass.{replied_width}

@@ -1,13 +1,9 @@
 -- `simd::scan` meets its contract. Assumes nothing.
-use borrow.Author.Rules.{rules}
-use native.Mathlib.Omega.{arith}
-use mathlib.Core.Path.{◌≡◌, refl}
-use Prim.Native.Nat.{◌+◌, ◌-◌, ◌≤◌, ◌<◌}
-use lib.ListN.{length, get_or-replicate}
-use lib.IntN.{pos}
-use Rattle.lane16.specs.Memory.{load_room, value_row, row_fits}
+use mathlib.Core.Path.{◌≡◌}
+use Prim.Native.Nat.{◌-◌, ◌≤◌}
+use lib.ListN.{length}
 use Rattle.iteration.specs.Lists.{var}
-use Rattle.simd.specs.Pass.{Scan, scan_start, scan_again, scan_end}
+use Rattle.simd.specs.Pass.{Scan}
 use Rattle.simd.proofs.scan.Given as goal
 
 abbrev pub invariant-loop-k : goal.invariant-loop-k

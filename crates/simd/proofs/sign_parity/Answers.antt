@@ -1,5 +1,4 @@
 -- `simd::sign_parity` meets its contract. Assumes nothing.
-use borrow.Author.Rules.{rules}
 use Rattle.simd.specs.WordsLaws.{sign_parities}
 use Rattle.simd.proofs.sign_parity.Goals as goal
 

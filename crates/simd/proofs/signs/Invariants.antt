@@ -1,12 +1,7 @@
 -- `simd::signs` meets its contract. Assumes nothing.
-use borrow.Author.Rules.{rules}
-use native.Mathlib.Omega.{arith}
-use Prim.Native.Nat.{◌-◌, ◌≤◌, ◌<◌}
-use lib.ListN.{get_or-replicate}
-use lib.IntN.{pos}
-use Rattle.lane16.specs.Memory.{load_room, value_row}
+use Prim.Native.Nat.{◌-◌, ◌≤◌}
 use Rattle.iteration.specs.Lists.{var}
-use Rattle.simd.specs.Pass.{Signs, signs_start, signs_again, signs_end}
+use Rattle.simd.specs.Pass.{Signs}
 use Rattle.simd.proofs.signs.Given as goal
 
 abbrev pub invariant-loop-k : goal.invariant-loop-k

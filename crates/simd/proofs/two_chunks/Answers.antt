@@ -1,6 +1,5 @@
 -- `simd::two_chunks` meets its contract. Assumes nothing.
 use native.Mathlib.Omega.{arith}
-use borrow.Author.Rules.{rules}
 use Rattle.laws.specs.Signed.{plain}
 use Rattle.lane16.specs.Lanes.{readied_to, reduced_all_small}
 use Rattle.simd.specs.Pass.{two_is}
