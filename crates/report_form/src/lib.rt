@@ -1,4 +1,6 @@
 // Reads the report's text: a description within the limits, or refusal 1.
+#![tactic(auto)]
+
 ghost use Rattle.std.specs.Prelude.{◌≡◌, true, ◌&&◌, ℕ, ◌+◌, ◌-◌, ◌≤◌, ◌<◌, negsuc, ltb, eqb, List, length, drop, get_or, replicate};
 ghost use Rattle.std.proofs.lemmas.List.Edits.{sets};
 ghost use Rattle.laws.specs.Decimal.{digit};

@@ -1,8 +1,5 @@
-use Prim.Native.Nat.{◌-◌, ◌≤◌}
 use native.Mathlib.Omega.{arith}
-use borrow.Author.Rules.{rules}
-use lib.ListN.{length}
-use Rattle.decoder_order.specs.Order.{FirstStored, stored_start, stored_again, numbered_end}
+use Rattle.decoder_order.specs.Order.{stored_start, stored_again, numbered_end}
 use Rattle.decoder_order.proofs.number.Goals as goal
 
 pub loop-k-init : goal.loop-k-init
@@ -15,10 +12,15 @@ pub loop-k-smaller : goal.loop-k-smaller
 loop-k-smaller c = omega (arith, c.loop-k.invariant.1.long)
 
 pub loop-k-preserved : goal.loop-k-preserved
-loop-k-preserved c = (omega (arith, c.loop-k-test.true, c.loop-k.invariant.1.long), stored_again _ _ _ c.loop-k.order c.loop-k.k (omega (arith, c.loop-k-test.true, c.loop-k.invariant.1.long)) c.loop-k.invariant.1)
+loop-k-preserved c = (
+  omega (arith, c.loop-k-test.true, c.loop-k.invariant.1.long),
+  stored_again _ _ _ c.loop-k.order c.loop-k.k (omega (arith, c.loop-k-test.true, c.loop-k.invariant.1.long)) c.loop-k.invariant.1,
+)
 
 pub shape_of-order : goal.shape_of-order
 shape_of-order c = c.loop-k.invariant.1.long
 
 pub returns : goal.returns
-returns c = numbered_end _ c.loop-k.order c.loop-k.k (omega (arith, c.loop-k-test.false, c.loop-k.invariant.1.long, c.loop-k.invariant.0)) c.loop-k.invariant.1
+returns c =
+    numbered_end _ c.loop-k.order c.loop-k.k (omega (arith, c.loop-k-test.false, c.loop-k.invariant.1.long, c.loop-k.invariant.0))
+    c.loop-k.invariant.1

@@ -1,10 +1,8 @@
 -- `decoder_order::number` meets its contract. The loop's invariant: the places below k hold their own numbers.
 -- Assumes nothing.
 use Prim.Native.Nat.{◌-◌, ◌≤◌}
-use native.Mathlib.Omega.{arith}
-use borrow.Author.Rules.{rules}
 use lib.ListN.{length}
-use Rattle.decoder_order.specs.Order.{FirstStored, stored_start, stored_again, numbered_end}
+use Rattle.decoder_order.specs.Order.{FirstStored}
 use Rattle.decoder_order.proofs.number.Given as goal
 
 abbrev pub invariant-loop-k : goal.invariant-loop-k

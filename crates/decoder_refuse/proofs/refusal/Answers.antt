@@ -40,7 +40,8 @@ returns-then-bad_words c =
     let code_so : code_refusal c.args.n c.args.lens.now c.args.addrs.now ≡ 0 = sym c.refusal-code.ensures ∙ c.if-code-ne0.false in
     let lanes_so : bad_lanes c.args.set.lanes ≡ false = sym c.bad_lanes.ensures ∙ c.if-bad_lanes.false in
     let sizes_so : c.sizes_of-of.result ≡ sizes_of c.args.n c.args.lens.now c.args.addrs.now = c.sizes_of-of.ensures in
-    first_words _ _ _ _ _ _ _ code_so lanes_so (sym (c.bad_words.ensures ∙ ap (λ (of : Sizes). bad_words of.n c.args.lent.soft) sizes_so) ∙ c.if-bad_words.true)
+    first_words _ _ _ _ _ _ _ code_so lanes_so
+    (sym (c.bad_words.ensures ∙ ap (λ (of : Sizes). bad_words of.n c.args.lent.soft) sizes_so) ∙ c.if-bad_words.true)
 
 pub returns-then-set-gt65535 : goal.returns-then-set-gt65535
 unfolding first_refusal bad_limit
@@ -48,7 +49,8 @@ returns-then-set-gt65535 c =
     let code_so : code_refusal c.args.n c.args.lens.now c.args.addrs.now ≡ 0 = sym c.refusal-code.ensures ∙ c.if-code-ne0.false in
     let lanes_so : bad_lanes c.args.set.lanes ≡ false = sym c.bad_lanes.ensures ∙ c.if-bad_lanes.false in
     let sizes_so : c.sizes_of-of.result ≡ sizes_of c.args.n c.args.lens.now c.args.addrs.now = c.sizes_of-of.ensures in
-    let words_so : bad_words c.args.n c.args.lent.soft ≡ false = sym (c.bad_words.ensures ∙ ap (λ (of : Sizes). bad_words of.n c.args.lent.soft) sizes_so) ∙ c.if-bad_words.false in
+    let words_so : bad_words c.args.n c.args.lent.soft ≡ false =
+    sym (c.bad_words.ensures ∙ ap (λ (of : Sizes). bad_words of.n c.args.lent.soft) sizes_so) ∙ c.if-bad_words.false in
     first_limit _ _ _ _ _ _ _ code_so lanes_so words_so (lt-ltb 65535 _ c.if-set-gt65535.true)
 
 pub returns-then-bad_step : goal.returns-then-bad_step
@@ -57,7 +59,8 @@ returns-then-bad_step c =
     let code_so : code_refusal c.args.n c.args.lens.now c.args.addrs.now ≡ 0 = sym c.refusal-code.ensures ∙ c.if-code-ne0.false in
     let lanes_so : bad_lanes c.args.set.lanes ≡ false = sym c.bad_lanes.ensures ∙ c.if-bad_lanes.false in
     let sizes_so : c.sizes_of-of.result ≡ sizes_of c.args.n c.args.lens.now c.args.addrs.now = c.sizes_of-of.ensures in
-    let words_so : bad_words c.args.n c.args.lent.soft ≡ false = sym (c.bad_words.ensures ∙ ap (λ (of : Sizes). bad_words of.n c.args.lent.soft) sizes_so) ∙ c.if-bad_words.false in
+    let words_so : bad_words c.args.n c.args.lent.soft ≡ false =
+    sym (c.bad_words.ensures ∙ ap (λ (of : Sizes). bad_words of.n c.args.lent.soft) sizes_so) ∙ c.if-bad_words.false in
     let limit_so : bad_limit c.args.set.limits.iterations ≡ false = le-ltb 65535 _ c.if-set-gt65535.false in
     first_step _ _ _ _ _ _ _ code_so lanes_so words_so limit_so (sym c.bad_step.ensures ∙ c.if-bad_step.true)
 
@@ -67,10 +70,12 @@ returns-then-bad_part c =
     let code_so : code_refusal c.args.n c.args.lens.now c.args.addrs.now ≡ 0 = sym c.refusal-code.ensures ∙ c.if-code-ne0.false in
     let lanes_so : bad_lanes c.args.set.lanes ≡ false = sym c.bad_lanes.ensures ∙ c.if-bad_lanes.false in
     let sizes_so : c.sizes_of-of.result ≡ sizes_of c.args.n c.args.lens.now c.args.addrs.now = c.sizes_of-of.ensures in
-    let words_so : bad_words c.args.n c.args.lent.soft ≡ false = sym (c.bad_words.ensures ∙ ap (λ (of : Sizes). bad_words of.n c.args.lent.soft) sizes_so) ∙ c.if-bad_words.false in
+    let words_so : bad_words c.args.n c.args.lent.soft ≡ false =
+    sym (c.bad_words.ensures ∙ ap (λ (of : Sizes). bad_words of.n c.args.lent.soft) sizes_so) ∙ c.if-bad_words.false in
     let limit_so : bad_limit c.args.set.limits.iterations ≡ false = le-ltb 65535 _ c.if-set-gt65535.false in
     let step_so : bad_step c.args.set.schedule ≡ false = sym c.bad_step.ensures ∙ c.if-bad_step.false in
-    first_part _ _ _ _ _ _ _ code_so lanes_so words_so limit_so step_so (sym (c.bad_part.ensures ∙ ap (λ (of : Sizes). bad_part of.n c.args.set.part) sizes_so) ∙ c.if-bad_part.true)
+    first_part _ _ _ _ _ _ _ code_so lanes_so words_so limit_so step_so
+    (sym (c.bad_part.ensures ∙ ap (λ (of : Sizes). bad_part of.n c.args.set.part) sizes_so) ∙ c.if-bad_part.true)
 
 pub too_short-requires : goal.too_short-requires
 unfolding bad_limit
@@ -78,12 +83,22 @@ too_short-requires c =
     let sizes_so : c.sizes_of-of.result ≡ sizes_of c.args.n c.args.lens.now c.args.addrs.now = c.sizes_of-of.ensures in
     let code_so : code_refusal c.args.n c.args.lens.now c.args.addrs.now ≡ 0 = sym c.refusal-code.ensures ∙ c.if-code-ne0.false in
     let lanes_so : bad_lanes c.args.set.lanes ≡ false = sym c.bad_lanes.ensures ∙ c.if-bad_lanes.false in
-    let words_so : bad_words c.args.n c.args.lent.soft ≡ false = sym (c.bad_words.ensures ∙ ap (λ (of : Sizes). bad_words of.n c.args.lent.soft) sizes_so) ∙ c.if-bad_words.false in
+    let words_so : bad_words c.args.n c.args.lent.soft ≡ false =
+    sym (c.bad_words.ensures ∙ ap (λ (of : Sizes). bad_words of.n c.args.lent.soft) sizes_so) ∙ c.if-bad_words.false in
     let limit_so : bad_limit c.args.set.limits.iterations ≡ false = le-ltb 65535 _ c.if-set-gt65535.false in
     let step_so : bad_step c.args.set.schedule ≡ false = sym c.bad_step.ensures ∙ c.if-bad_step.false in
-    let part_so : bad_part c.args.n c.args.set.part ≡ false = sym (c.bad_part.ensures ∙ ap (λ (of : Sizes). bad_part of.n c.args.set.part) sizes_so) ∙ c.if-bad_part.false in
-    let passed : (code_refusal c.args.n c.args.lens.now c.args.addrs.now ≡ 0) × (bad_lanes c.args.set.lanes ≡ false) × (bad_words c.args.n c.args.lent.soft ≡ false) × (bad_limit c.args.set.limits.iterations ≡ false) × (bad_step c.args.set.schedule ≡ false) × (bad_part c.args.n c.args.set.part ≡ false) = (code_so, lanes_so, words_so, limit_so, step_so, part_so) in
-    let is = sizes_so in let so = passed in (subst Bounded (sym is) (bounded _ _ _ so.0), omega (arith, lanes_few _ so.1, c.wide.ensures), subst (λ (of : Sizes). c.args.lent.soft / of.n ≤ 4096) (sym is) (words_few c.args.n _ so.2))
+    let part_so : bad_part c.args.n c.args.set.part ≡ false =
+    sym (c.bad_part.ensures ∙ ap (λ (of : Sizes). bad_part of.n c.args.set.part) sizes_so) ∙ c.if-bad_part.false in
+    let passed : (code_refusal c.args.n c.args.lens.now c.args.addrs.now ≡ 0) × (bad_lanes c.args.set.lanes ≡ false)
+    × (bad_words c.args.n c.args.lent.soft ≡ false) × (bad_limit c.args.set.limits.iterations ≡ false) × (bad_step c.args.set.schedule ≡ false)
+    × (bad_part c.args.n c.args.set.part ≡ false) =
+    (code_so, lanes_so, words_so, limit_so, step_so, part_so) in
+    let is = sizes_so in
+    let so = passed in (
+      subst Bounded (sym is) (bounded _ _ _ so.0),
+      omega (arith, lanes_few _ so.1, c.wide.ensures),
+      subst (λ (of : Sizes). c.args.lent.soft / of.n ≤ 4096) (sym is) (words_few c.args.n _ so.2),
+    )
 
 pub returns-then-too_short : goal.returns-then-too_short
 unfolding first_refusal bad_limit
@@ -91,12 +106,18 @@ returns-then-too_short c =
     let code_so : code_refusal c.args.n c.args.lens.now c.args.addrs.now ≡ 0 = sym c.refusal-code.ensures ∙ c.if-code-ne0.false in
     let lanes_so : bad_lanes c.args.set.lanes ≡ false = sym c.bad_lanes.ensures ∙ c.if-bad_lanes.false in
     let sizes_so : c.sizes_of-of.result ≡ sizes_of c.args.n c.args.lens.now c.args.addrs.now = c.sizes_of-of.ensures in
-    let words_so : bad_words c.args.n c.args.lent.soft ≡ false = sym (c.bad_words.ensures ∙ ap (λ (of : Sizes). bad_words of.n c.args.lent.soft) sizes_so) ∙ c.if-bad_words.false in
+    let words_so : bad_words c.args.n c.args.lent.soft ≡ false =
+    sym (c.bad_words.ensures ∙ ap (λ (of : Sizes). bad_words of.n c.args.lent.soft) sizes_so) ∙ c.if-bad_words.false in
     let limit_so : bad_limit c.args.set.limits.iterations ≡ false = le-ltb 65535 _ c.if-set-gt65535.false in
     let step_so : bad_step c.args.set.schedule ≡ false = sym c.bad_step.ensures ∙ c.if-bad_step.false in
-    let part_so : bad_part c.args.n c.args.set.part ≡ false = sym (c.bad_part.ensures ∙ ap (λ (of : Sizes). bad_part of.n c.args.set.part) sizes_so) ∙ c.if-bad_part.false in
-    let passed : (code_refusal c.args.n c.args.lens.now c.args.addrs.now ≡ 0) × (bad_lanes c.args.set.lanes ≡ false) × (bad_words c.args.n c.args.lent.soft ≡ false) × (bad_limit c.args.set.limits.iterations ≡ false) × (bad_step c.args.set.schedule ≡ false) × (bad_part c.args.n c.args.set.part ≡ false) = (code_so, lanes_so, words_so, limit_so, step_so, part_so) in
-    let short_is : c.too_short.result ≡ too_short (sizes_of c.args.n c.args.lens.now c.args.addrs.now) c.args.set.lanes c.args.lent = c.too_short.ensures ∙ (λ i. too_short (sizes_so i) (c.wide.ensures i) c.args.lent) in
+    let part_so : bad_part c.args.n c.args.set.part ≡ false =
+    sym (c.bad_part.ensures ∙ ap (λ (of : Sizes). bad_part of.n c.args.set.part) sizes_so) ∙ c.if-bad_part.false in
+    let passed : (code_refusal c.args.n c.args.lens.now c.args.addrs.now ≡ 0) × (bad_lanes c.args.set.lanes ≡ false)
+    × (bad_words c.args.n c.args.lent.soft ≡ false) × (bad_limit c.args.set.limits.iterations ≡ false) × (bad_step c.args.set.schedule ≡ false)
+    × (bad_part c.args.n c.args.set.part ≡ false) =
+    (code_so, lanes_so, words_so, limit_so, step_so, part_so) in
+    let short_is : c.too_short.result ≡ too_short (sizes_of c.args.n c.args.lens.now c.args.addrs.now) c.args.set.lanes c.args.lent =
+    c.too_short.ensures ∙ (λ i. too_short (sizes_so i) (c.wide.ensures i) c.args.lent) in
     let so = passed in first_short _ _ _ _ _ _ _ so.0 so.1 so.2 so.3 so.4 so.5 (sym short_is ∙ c.if-too_short.true)
 
 pub returns : goal.returns
@@ -105,10 +126,16 @@ returns c =
     let code_so : code_refusal c.args.n c.args.lens.now c.args.addrs.now ≡ 0 = sym c.refusal-code.ensures ∙ c.if-code-ne0.false in
     let lanes_so : bad_lanes c.args.set.lanes ≡ false = sym c.bad_lanes.ensures ∙ c.if-bad_lanes.false in
     let sizes_so : c.sizes_of-of.result ≡ sizes_of c.args.n c.args.lens.now c.args.addrs.now = c.sizes_of-of.ensures in
-    let words_so : bad_words c.args.n c.args.lent.soft ≡ false = sym (c.bad_words.ensures ∙ ap (λ (of : Sizes). bad_words of.n c.args.lent.soft) sizes_so) ∙ c.if-bad_words.false in
+    let words_so : bad_words c.args.n c.args.lent.soft ≡ false =
+    sym (c.bad_words.ensures ∙ ap (λ (of : Sizes). bad_words of.n c.args.lent.soft) sizes_so) ∙ c.if-bad_words.false in
     let limit_so : bad_limit c.args.set.limits.iterations ≡ false = le-ltb 65535 _ c.if-set-gt65535.false in
     let step_so : bad_step c.args.set.schedule ≡ false = sym c.bad_step.ensures ∙ c.if-bad_step.false in
-    let part_so : bad_part c.args.n c.args.set.part ≡ false = sym (c.bad_part.ensures ∙ ap (λ (of : Sizes). bad_part of.n c.args.set.part) sizes_so) ∙ c.if-bad_part.false in
-    let passed : (code_refusal c.args.n c.args.lens.now c.args.addrs.now ≡ 0) × (bad_lanes c.args.set.lanes ≡ false) × (bad_words c.args.n c.args.lent.soft ≡ false) × (bad_limit c.args.set.limits.iterations ≡ false) × (bad_step c.args.set.schedule ≡ false) × (bad_part c.args.n c.args.set.part ≡ false) = (code_so, lanes_so, words_so, limit_so, step_so, part_so) in
-    let short_is : c.too_short.result ≡ too_short (sizes_of c.args.n c.args.lens.now c.args.addrs.now) c.args.set.lanes c.args.lent = c.too_short.ensures ∙ (λ i. too_short (sizes_so i) (c.wide.ensures i) c.args.lent) in
+    let part_so : bad_part c.args.n c.args.set.part ≡ false =
+    sym (c.bad_part.ensures ∙ ap (λ (of : Sizes). bad_part of.n c.args.set.part) sizes_so) ∙ c.if-bad_part.false in
+    let passed : (code_refusal c.args.n c.args.lens.now c.args.addrs.now ≡ 0) × (bad_lanes c.args.set.lanes ≡ false)
+    × (bad_words c.args.n c.args.lent.soft ≡ false) × (bad_limit c.args.set.limits.iterations ≡ false) × (bad_step c.args.set.schedule ≡ false)
+    × (bad_part c.args.n c.args.set.part ≡ false) =
+    (code_so, lanes_so, words_so, limit_so, step_so, part_so) in
+    let short_is : c.too_short.result ≡ too_short (sizes_of c.args.n c.args.lens.now c.args.addrs.now) c.args.set.lanes c.args.lent =
+    c.too_short.ensures ∙ (λ i. too_short (sizes_so i) (c.wide.ensures i) c.args.lent) in
     let so = passed in first_none _ _ _ _ _ _ _ so.0 so.1 so.2 so.3 so.4 so.5 (sym short_is ∙ c.if-too_short.false)

@@ -12,7 +12,15 @@ pub returns-then-bits-gt1123942400 : goal.returns-then-bits-gt1123942400
 returns-then-bits-gt1123942400 c = (size_large c.args.bits (omega arith), lit< tt)
 
 pub overflow_add-result : goal.overflow_add-result
-overflow_add-result c = omega (arith, moved_le c.args.bits c.if-bits-lt1056964608.false c.if-bits-gt1123942400.false, moved_fits c.args.bits c.if-bits-lt1056964608.false c.if-bits-gt1123942400.false)
+overflow_add-result c =
+    omega (
+      arith,
+      moved_le c.args.bits c.if-bits-lt1056964608.false c.if-bits-gt1123942400.false,
+      moved_fits c.args.bits c.if-bits-lt1056964608.false c.if-bits-gt1123942400.false,
+    )
 
 pub returns : goal.returns
-returns c = (size_middle c.args.bits c.if-bits-lt1056964608.false c.if-bits-gt1123942400.false, size_below c.args.bits c.if-bits-lt1056964608.false c.if-bits-gt1123942400.false)
+returns c = (
+  size_middle c.args.bits c.if-bits-lt1056964608.false c.if-bits-gt1123942400.false,
+  size_below c.args.bits c.if-bits-lt1056964608.false c.if-bits-gt1123942400.false,
+)

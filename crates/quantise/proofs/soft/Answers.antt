@@ -19,7 +19,17 @@ pub overflow_sub-result : goal.overflow_sub-result
 overflow_sub-result c = neg_fits c.magnitude-n.result c.magnitude-n.ensures.1
 
 pub returns-then-bits-lt2147483648 : goal.returns-then-bits-lt2147483648
-returns-then-bits-lt2147483648 c = read_back c.magnitude-n.result c.magnitude-n.ensures.1 ∙ (let h5 : signed false c.magnitude-n.result ≡ soft_value (mul binary32 c.args.x c.args.scale) = ap₂ signed (sym ((lt-leb _ _ c.if-bits-lt2147483648.true))) c.magnitude-n.ensures.0 ∙ sym (bits_soft (mul binary32 c.args.x c.args.scale) (mul-fits binary32 c.args.x c.args.scale) (not_nan (mul binary32 c.args.x c.args.scale) c.if-product.false)) in h5)
+returns-then-bits-lt2147483648 c =
+    read_back c.magnitude-n.result c.magnitude-n.ensures.1
+    ∙ (let h5 : signed false c.magnitude-n.result ≡ soft_value (mul binary32 c.args.x c.args.scale) = ap₂ signed
+    (sym (lt-leb _ _ c.if-bits-lt2147483648.true)) c.magnitude-n.ensures.0
+    ∙ sym (bits_soft (mul binary32 c.args.x c.args.scale) (mul-fits binary32 c.args.x c.args.scale)
+    (not_nan (mul binary32 c.args.x c.args.scale) c.if-product.false)) in h5)
 
 pub returns-else-bits-lt2147483648 : goal.returns-else-bits-lt2147483648
-returns-else-bits-lt2147483648 c = neg_back c.magnitude-n.result c.magnitude-n.ensures.1 ∙ (let h8 : signed true c.magnitude-n.result ≡ soft_value (mul binary32 c.args.x c.args.scale) = ap₂ signed (sym ((le-leb _ _ c.if-bits-lt2147483648.false))) c.magnitude-n.ensures.0 ∙ sym (bits_soft (mul binary32 c.args.x c.args.scale) (mul-fits binary32 c.args.x c.args.scale) (not_nan (mul binary32 c.args.x c.args.scale) c.if-product.false)) in h8)
+returns-else-bits-lt2147483648 c =
+    neg_back c.magnitude-n.result c.magnitude-n.ensures.1
+    ∙ (let h8 : signed true c.magnitude-n.result ≡ soft_value (mul binary32 c.args.x c.args.scale) = ap₂ signed
+    (sym (le-leb _ _ c.if-bits-lt2147483648.false)) c.magnitude-n.ensures.0
+    ∙ sym (bits_soft (mul binary32 c.args.x c.args.scale) (mul-fits binary32 c.args.x c.args.scale)
+    (not_nan (mul binary32 c.args.x c.args.scale) c.if-product.false)) in h8)

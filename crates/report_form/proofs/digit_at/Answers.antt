@@ -1,7 +1,6 @@
 -- `report_form::digit_at` meets its contract.
 -- Assumes nothing.
 use mathlib.Core.Path.{sym, ap, ◌∙◌}
-use borrow.Author.Rules.{rules}
 use Rattle.laws.specs.Decimal.{digit}
 use Rattle.report_form.proofs.Bytes.{digit_low, digit_high}
 use Rattle.report_form.proofs.digit_at.Goals as goal

@@ -1,12 +1,8 @@
 -- `report_form::fill_words` meets its contract. The loop's invariant: the words that are left lead to what all of them lead to.
 -- Assumes nothing.
-use mathlib.Core.Path.{◌≡◌}
-use Prim.Native.Nat.{◌-◌, ◌<◌}
-use borrow.Author.Rules.{rules}
-use native.Mathlib.Omega.{arith}
-use lib.ListN.{drop, get_or}
-use Rattle.report_form.proofs.Lists.{goes_mark, goes_room, goes_end}
-use Rattle.report_form.proofs.Fill.{FillingWords, words_filling_start, words_filling_again, words_filling_here, no_word}
+use Prim.Native.Nat.{◌-◌}
+use lib.ListN.{drop}
+use Rattle.report_form.proofs.Fill.{FillingWords}
 use Rattle.report_form.proofs.fill_words.Given as goal
 
 abbrev pub invariant-loop-words : goal.invariant-loop-words

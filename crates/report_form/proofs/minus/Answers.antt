@@ -1,6 +1,5 @@
 -- `report_form::minus` meets its contract.
 -- Assumes nothing.
-use borrow.Author.Rules.{rules}
 use Rattle.report_form.proofs.Smalls.{wide_fits, small_fits, small_minus}
 use Rattle.report_form.proofs.minus.Goals as goal
 

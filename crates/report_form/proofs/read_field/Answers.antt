@@ -1,6 +1,5 @@
 -- `report_form::read_field` meets its contract.
 -- Assumes nothing.
-use borrow.Author.Rules.{rules}
 use Rattle.report_form.specs.Form.{lead_reads}
 use Rattle.report_form.specs.Forms.{numbers}
 use Rattle.report_form.proofs.read_field.Goals as goal

@@ -2,7 +2,6 @@
 -- Assumes nothing.
 use mathlib.Core.Path.{◌≡◌, sym, ap, ◌∙◌}
 use mathlib.Core.List.{◌∷◌}
-use borrow.Author.Rules.{rules}
 use Prim.Native.Nat.{◌+◌}
 use native.Mathlib.Omega.{arith}
 use lib.ListN.{drop}
@@ -17,13 +16,18 @@ overflow_add-next c = omega (arith, inside c.args.text.now c.args.at (omega (ari
 
 pub returns-then-digit_at : goal.returns-then-digit_at
 returns-then-digit_at c =
-    let lettered : drop c.args.at c.args.text.now ≡ 83 ∷ drop (c.args.at + 1) c.args.text.now = byte_here c.args.text.now c.args.at 83 (omega arith) (sym c.byte_at.ensures ∙ c.if-byte_at-eq83.true) in
+    let lettered : drop c.args.at c.args.text.now ≡ 83 ∷ drop (c.args.at + 1) c.args.text.now =
+    byte_here c.args.text.now c.args.at 83 (omega arith) (sym c.byte_at.ensures ∙ c.if-byte_at-eq83.true) in
     reads_none (s_missing _ _ lettered (ap digit (head_at c.args.text.now (c.args.at + 1)) ∙ sym c.digit_at.ensures ∙ c.if-digit_at.true))
 
 pub returns-then-byte_at-eq83 : goal.returns-then-byte_at-eq83
 returns-then-byte_at-eq83 c =
-    let lettered : drop c.args.at c.args.text.now ≡ 83 ∷ drop (c.args.at + 1) c.args.text.now = byte_here c.args.text.now c.args.at 83 (omega arith) (sym c.byte_at.ensures ∙ c.if-byte_at-eq83.true) in
+    let lettered : drop c.args.at c.args.text.now ≡ 83 ∷ drop (c.args.at + 1) c.args.text.now =
+    byte_here c.args.text.now c.args.at 83 (omega arith) (sym c.byte_at.ensures ∙ c.if-byte_at-eq83.true) in
     reads_one (s_found _ _ lettered (ap digit (head_at c.args.text.now (c.args.at + 1)) ∙ sym c.digit_at.ensures ∙ c.if-digit_at.false))
 
 pub returns : goal.returns
-returns c = reads_both c.read_number-step.ensures (step_found (drop c.args.at c.args.text.now) (drop c.read_number-step.result.next c.args.text.now) c.read_number-step.result.value) (step_missing (drop c.args.at c.args.text.now) (λ e. c.if-byte_at-eq83.false (c.byte_at.ensures ∙ sym (head_at c.args.text.now c.args.at) ∙ e)))
+returns c =
+    reads_both c.read_number-step.ensures
+    (step_found (drop c.args.at c.args.text.now) (drop c.read_number-step.result.next c.args.text.now) c.read_number-step.result.value)
+    (step_missing (drop c.args.at c.args.text.now) (λ e. c.if-byte_at-eq83.false (c.byte_at.ensures ∙ sym (head_at c.args.text.now c.args.at) ∙ e)))

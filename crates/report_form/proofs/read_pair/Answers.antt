@@ -9,4 +9,6 @@ use Rattle.report_form.specs.Forms.{pair_reads}
 use Rattle.report_form.proofs.read_pair.Goals as goal
 
 pub returns : goal.returns
-returns c = pair_reads c.read_field-position.ensures (reads_as c.read_small_field-value.ensures (sym (to_z-of_z w8 c.read_small_field-value.result.value (search rules))))
+returns c =
+    pair_reads c.read_field-position.ensures
+    (reads_as c.read_small_field-value.ensures (sym (to_z-of_z w8 c.read_small_field-value.result.value (search rules))))

@@ -1,14 +1,8 @@
 -- `report_form::read_pairs` meets its contract. The loop's invariant: the pairs so far, the least position that may come, and their number.
 -- Assumes nothing.
-use mathlib.Core.Path.{◌≡◌, refl}
-use mathlib.Core.Logic.{◌⊎◌, inl, inr}
-use Prim.Native.Nat.{◌-◌, ◌<◌, ◌≤◌}
-use borrow.Author.Rules.{rules}
-use borrow.Author.Tests.{not-true, not-false}
-use native.Mathlib.Omega.{arith}
-use lib.ListN.{drop, get_or}
-use Rattle.report_form.proofs.Lists.{goes_mark, goes_room, goes_end}
-use Rattle.report_form.proofs.Pairs.{PairsSoFar, NoPairs, pairs_start, pairs_again, pairs_none, pairs_wrong, pairs_hopeless, pairs_read}
+use Prim.Native.Nat.{◌-◌}
+use lib.ListN.{drop}
+use Rattle.report_form.proofs.Pairs.{PairsSoFar}
 use Rattle.report_form.proofs.read_pairs.Given as goal
 
 abbrev pub invariant-loop-p : goal.invariant-loop-p

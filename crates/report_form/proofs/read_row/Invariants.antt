@@ -1,13 +1,8 @@
 -- `report_form::read_row` meets its contract. The loop's invariant: the addresses so far, laid into the array.
 -- Assumes nothing.
-use mathlib.Core.Path.{refl}
-use Prim.Native.Nat.{◌+◌, ◌-◌, ◌<◌}
-use borrow.Author.Rules.{rules}
-use borrow.Author.Tests.{not-true, not-false}
-use native.Mathlib.Omega.{arith}
+use Prim.Native.Nat.{◌-◌}
 use lib.ListN.{drop}
-use Rattle.report_form.proofs.Lists.{goes_mark, goes_room, goes_end}
-use Rattle.report_form.proofs.RowLists.{RowSoFar, row_start_lem, row_again, row_none, row_read}
+use Rattle.report_form.proofs.RowLists.{RowSoFar}
 use Rattle.report_form.proofs.read_row.Given as goal
 
 abbrev pub invariant-loop-a : goal.invariant-loop-a

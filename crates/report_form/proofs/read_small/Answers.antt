@@ -4,7 +4,6 @@ use mathlib.Core.Path.{◌≡◌, sym, ◌∙◌, subst}
 use mathlib.Core.Bool.{true, false}
 use mathlib.Core.List.{List, ◌∷◌}
 use Prim.Native.Nat.{ℕ, ◌+◌, ◌≤◌}
-use borrow.Author.Rules.{rules}
 use native.Mathlib.Omega.{arith}
 use lib.IntN.{pos}
 use lib.ListN.{drop}
@@ -25,7 +24,9 @@ overflow_cast-result c =
 pub returns-then-v : goal.returns-then-v
 returns-then-v c =
     let plain : c.read_number-v.result.value ≤ 127 = let f = c.read_number-v.ensures.found c.if-v.true in omega (arith, f.within, f.says) in
-    reads_found c.read_number-v.ensures c.if-v.true (plus_found (drop c.args.at c.args.text.now) (drop c.read_number-v.result.next c.args.text.now) c.read_number-v.result.value _ (sym (to_z_pos w8 c.read_number-v.result.value (omega (arith, plain)))))
+    reads_found c.read_number-v.ensures c.if-v.true
+    (plus_found (drop c.args.at c.args.text.now) (drop c.read_number-v.result.next c.args.text.now) c.read_number-v.result.value _
+    (sym (to_z_pos w8 c.read_number-v.result.value (omega (arith, plain)))))
 
 pub overflow_add-at : goal.overflow_add-at
 overflow_add-at c = omega (arith, inside c.args.text.now c.args.at (omega (arith, c.byte_at.ensures, c.if-byte_at-ne45.false)))
@@ -35,18 +36,32 @@ minus-requires c = let f = c.read_number-m.ensures.found c.if-m.true in (omega (
 
 pub returns-then-value-ne0 : goal.returns-then-value-ne0
 returns-then-value-ne0 c =
-    let signed : 45 ∷ drop (c.args.at + 1) c.args.text.now ≡ drop c.args.at c.args.text.now = sym (byte_here c.args.text.now c.args.at 45 (omega arith) (sym c.byte_at.ensures ∙ c.if-byte_at-ne45.false)) in
-    subst (λ (t : List ℕ). Reads smalls (λ z. z ≡ to_z w8 (of_z w8 c.minus.result)) c.args.right true t (drop c.read_number-m.result.next c.args.text.now)) signed (reads_found c.read_number-m.ensures c.if-m.true (minus_found (drop (c.args.at + 1) c.args.text.now) (drop c.read_number-m.result.next c.args.text.now) c.read_number-m.result.value (to_z w8 (of_z w8 c.minus.result)) c.if-value-ne0.true (sym c.minus.ensures ∙ sym (to_z-of_z w8 c.minus.result (record { sfits = c.minus.type_inv })))))
+    let signed : 45 ∷ drop (c.args.at + 1) c.args.text.now ≡ drop c.args.at c.args.text.now =
+    sym (byte_here c.args.text.now c.args.at 45 (omega arith) (sym c.byte_at.ensures ∙ c.if-byte_at-ne45.false)) in
+    subst (λ (t : List ℕ). Reads smalls (λ z. z ≡ to_z w8 (of_z w8 c.minus.result)) c.args.right true t
+    (drop c.read_number-m.result.next c.args.text.now)) signed
+    (reads_found c.read_number-m.ensures c.if-m.true
+    (minus_found (drop (c.args.at + 1) c.args.text.now) (drop c.read_number-m.result.next c.args.text.now) c.read_number-m.result.value
+    (to_z w8 (of_z w8 c.minus.result)) c.if-value-ne0.true
+    (sym c.minus.ensures ∙ sym (to_z-of_z w8 c.minus.result (record { sfits = c.minus.type_inv })))))
 
 pub returns-else-v : goal.returns-else-v
-returns-else-v c = reads_missing c.read_number-v.ensures c.if-v.false (plus_missing (drop c.args.at c.args.text.now) (λ e. c.if-byte_at-ne45.true (c.byte_at.ensures ∙ sym (head_at c.args.text.now c.args.at) ∙ e)))
+returns-else-v c =
+    reads_missing c.read_number-v.ensures c.if-v.false
+    (plus_missing (drop c.args.at c.args.text.now) (λ e. c.if-byte_at-ne45.true (c.byte_at.ensures ∙ sym (head_at c.args.text.now c.args.at) ∙ e)))
 
 pub returns-else-value-ne0 : goal.returns-else-value-ne0
 returns-else-value-ne0 c =
-    let signed : 45 ∷ drop (c.args.at + 1) c.args.text.now ≡ drop c.args.at c.args.text.now = sym (byte_here c.args.text.now c.args.at 45 (omega arith) (sym c.byte_at.ensures ∙ c.if-byte_at-ne45.false)) in
-    subst (λ (t : List ℕ). Reads smalls (λ z. z ≡ pos 0) c.args.right false t c.args.text.now) signed (reads_spoiled c.read_number-m.ensures c.if-m.true (minus_zero (drop (c.args.at + 1) c.args.text.now) (drop c.read_number-m.result.next c.args.text.now) c.read_number-m.result.value c.if-value-ne0.false))
+    let signed : 45 ∷ drop (c.args.at + 1) c.args.text.now ≡ drop c.args.at c.args.text.now =
+    sym (byte_here c.args.text.now c.args.at 45 (omega arith) (sym c.byte_at.ensures ∙ c.if-byte_at-ne45.false)) in
+    subst (λ (t : List ℕ). Reads smalls (λ z. z ≡ pos 0) c.args.right false t c.args.text.now) signed
+    (reads_spoiled c.read_number-m.ensures c.if-m.true
+    (minus_zero (drop (c.args.at + 1) c.args.text.now) (drop c.read_number-m.result.next c.args.text.now) c.read_number-m.result.value
+    c.if-value-ne0.false))
 
 pub returns-else-m : goal.returns-else-m
 returns-else-m c =
-    let signed : 45 ∷ drop (c.args.at + 1) c.args.text.now ≡ drop c.args.at c.args.text.now = sym (byte_here c.args.text.now c.args.at 45 (omega arith) (sym c.byte_at.ensures ∙ c.if-byte_at-ne45.false)) in
-    subst (λ (t : List ℕ). Reads smalls (λ z. z ≡ pos 0) c.args.right false t c.args.text.now) signed (reads_missing c.read_number-m.ensures c.if-m.false (minus_missing (drop (c.args.at + 1) c.args.text.now)))
+    let signed : 45 ∷ drop (c.args.at + 1) c.args.text.now ≡ drop c.args.at c.args.text.now =
+    sym (byte_here c.args.text.now c.args.at 45 (omega arith) (sym c.byte_at.ensures ∙ c.if-byte_at-ne45.false)) in
+    subst (λ (t : List ℕ). Reads smalls (λ z. z ≡ pos 0) c.args.right false t c.args.text.now) signed
+    (reads_missing c.read_number-m.ensures c.if-m.false (minus_missing (drop (c.args.at + 1) c.args.text.now)))

@@ -1,6 +1,5 @@
 -- `report_form::read_word` meets its contract.
 -- Assumes nothing.
-use borrow.Author.Rules.{rules}
 use Rattle.report_form.specs.Forms.{word_reads}
 use Rattle.report_form.proofs.read_word.Goals as goal
 

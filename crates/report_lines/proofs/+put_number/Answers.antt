@@ -15,7 +15,8 @@ put_number-next-requires t c = (
 )
 
 pub put_byte-requires-2 : goal.put_byte-requires-2
-put_byte-requires-2 t c = omega (arith, c.requires, c.put_number-next.ensures.next, c.put_number-next.auto.out, more_length c.args.value c.if-value-lt10.false)
+put_byte-requires-2 t c =
+    omega (arith, c.requires, c.put_number-next.ensures.next, c.put_number-next.auto.out, more_length c.args.value c.if-value-lt10.false)
 
 pub returns : goal.returns
 returns t c = number_wrote c.args.value c.if-value-lt10.false c.put_number-next.ensures c.put_byte-2.ensures

@@ -1,8 +1,8 @@
 use mathlib.Core.Path.{◌≡◌}
-use Prim.Native.Nat.{◌+◌, ◌-◌, ◌<◌}
+use Prim.Native.Nat.{◌+◌, ◌<◌}
 use native.Mathlib.Omega.{arith}
 use lib.ListN.{length}
-use Rattle.report_lines.proofs.Numbers.{Copied, copied_start, copied_again, copied_length, copied_end}
+use Rattle.report_lines.proofs.Numbers.{copied_start, copied_again, copied_length, copied_end}
 use Rattle.report_lines.proofs.put_text.Goals as goal
 
 pub loop-i-init : goal.loop-i-init
@@ -18,7 +18,8 @@ overflow_add-out c =
 
 pub bounds-out-at : goal.bounds-out-at
 bounds-out-at c =
-    let long : length c.loop-i.out ≡ length c.args.out.now = copied_length c.args.text.now c.args.at c.args.out.now c.loop-i.out c.loop-i.i c.loop-i.invariant in
+    let long : length c.loop-i.out ≡ length c.args.out.now =
+    copied_length c.args.text.now c.args.at c.args.out.now c.loop-i.out c.loop-i.i c.loop-i.invariant in
     omega (arith, c.requires, long, c.loop-i-test.true)
 
 pub overflow_add-i : goal.overflow_add-i
@@ -39,7 +40,8 @@ overflow_add-result c =
 
 pub shape_of-out : goal.shape_of-out
 shape_of-out c =
-    let long : length c.loop-i.out ≡ length c.args.out.now = copied_length c.args.text.now c.args.at c.args.out.now c.loop-i.out c.loop-i.i c.loop-i.invariant in
+    let long : length c.loop-i.out ≡ length c.args.out.now =
+    copied_length c.args.text.now c.args.at c.args.out.now c.loop-i.out c.loop-i.i c.loop-i.invariant in
     long
 
 pub returns : goal.returns

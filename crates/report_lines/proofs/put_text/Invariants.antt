@@ -1,10 +1,8 @@
 -- `report_lines::put_text` meets its contract. The loop's invariant: the first bytes are stored.
 -- Assumes nothing.
-use mathlib.Core.Path.{◌≡◌}
-use Prim.Native.Nat.{◌+◌, ◌-◌, ◌<◌}
-use native.Mathlib.Omega.{arith}
+use Prim.Native.Nat.{◌-◌}
 use lib.ListN.{length}
-use Rattle.report_lines.proofs.Numbers.{Copied, copied_start, copied_again, copied_length, copied_end}
+use Rattle.report_lines.proofs.Numbers.{Copied}
 use Rattle.report_lines.proofs.put_text.Given as goal
 
 abbrev pub invariant-loop-i : goal.invariant-loop-i

@@ -4,7 +4,6 @@ use Rattle.report_lines.specs.Lines.{ending_text}
 use Rattle.report_lines.specs.Wrote.{wrote_line}
 use Rattle.report_lines.specs.Sizes.{ending_length}
 use native.Mathlib.Omega.{arith}
-use borrow.Author.Rules.{rules}
 use Rattle.report_lines.proofs.write_first.Goals as goal
 
 pub put_field-requires : goal.put_field-requires

@@ -2,7 +2,6 @@
 -- Assumes nothing.
 use Rattle.report_lines.specs.Wrote.{wrote_then}
 use native.Mathlib.Omega.{arith}
-use borrow.Author.Rules.{rules}
 use Rattle.report_lines.proofs.write_refused.Goals as goal
 
 pub put_field-requires : goal.put_field-requires
