@@ -9,7 +9,7 @@ use Rattle.iteration.specs.Iteration.{Code}
 use Rattle.schedule.specs.Run.{over}
 use Rattle.schedule.specs.Status.{Status, done}
 use Rattle.schedule.specs.Lanes.{any_held}
-use Rattle.schedule.specs.Refill.{Assigning, Assigned}
+use Rattle.schedule.specs.Refill.{Assigning}
 use Rattle.schedule.proofs.Refill.{assigning_start, assigning_on, assigning_quick, assigning_hold, assigning_end}
 use Rattle.outcome.specs.Outcome.{begin, met_of}
 use Rattle.decoder_words.specs.Fields.{own_part}
@@ -71,14 +71,10 @@ module _ (code : Code) (plan : Plan) (soft : List ℤ) (order : List ℕ) where
     abbrev X : Word
     X = begin plan.sizes.n (own_part plan.sizes.n W soft)
 
-    test : (iterate : Word → Word) → once ≡ over (words_of code iterate plan soft) X 0
-    unfolding over words_of
-    test iterate = is
-
     -- the word leaves at once
     pub takes_quick : (B' : Book) → once ≡ true → W < plan.words → Only plan.sizes.n W B B' → Over code plan.sizes.n plan.sizes.p X 0 (view plan.sizes.n B' W)
         → Takes held iters next B held iters (next + 1) B'
-    unfolding setup words_of
+    unfolding setup words_of over
     takes_quick B' y few o e =
         record {
           same = o.same;
@@ -90,14 +86,14 @@ module _ (code : Code) (plan : Plan) (soft : List ℤ) (order : List ℕ) where
           taking = λ iterate old memory t. (
             put memory W (done X 0),
             shown_put code plan.sizes.n plan.sizes.p old memory B B' W (done X 0) t o e,
-            assigning_quick (setup code iterate plan soft order) held iters next memory l in-lanes p none some (put memory W (done X 0)) (sym (test iterate) ∙ y)
+            assigning_quick (setup code iterate plan soft order) held iters next memory l in-lanes p none some (put memory W (done X 0)) (sym is ∙ y)
                 (put_same memory W (done X 0)) (put_other memory W (done X 0)),
           );
         }
 
     -- the lane takes the word
     pub takes_hold : once ≡ false → plan.lanes ≤ length held → plan.lanes ≤ length iters → Takes held iters next B (set held l (W + 1)) (set iters l 0) (next + 1) B
-    unfolding setup words_of
+    unfolding setup words_of over
     takes_hold z a b =
         record {
           same = same_refl B;
@@ -109,7 +105,7 @@ module _ (code : Code) (plan : Plan) (soft : List ℤ) (order : List ℕ) where
           taking = λ iterate old memory t. (
             memory,
             t,
-            assigning_hold (setup code iterate plan soft order) held iters next memory l in-lanes p none some a b (sym (test iterate) ∙ z),
+            assigning_hold (setup code iterate plan soft order) held iters next memory l in-lanes p none some a b (sym is ∙ z),
           );
         }
 

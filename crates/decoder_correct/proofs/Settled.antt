@@ -1,6 +1,6 @@
 -- What holds of settling: by the state; one word; all of them, one after the other; what memory then says (`settles_all`). Proofs, not specs, since
 -- a wrong definition shall be refused for what it means (must-fail/counted_after_bch.edit, first_words_soft_values.edit).
-use Rattle.std.specs.Prelude.{◌≡◌, ◌≢◌, Bool, List, ℕ, ◌+◌, ◌*◌, ◌≤◌, ◌<◌, ltb, eqb, ℤ, take, drop}
+use Rattle.std.specs.Prelude.{◌≡◌, ◌≢◌, Bool, List, ℕ, ◌+◌, ◌*◌, ◌≤◌, ◌<◌, ltb, ℤ, take}
 use Rattle.std.proofs.Math.Path.{refl, sym, ap, subst}
 use Rattle.std.proofs.Common.{◌∙◌, arith, ltb-true, ltb-false, lt-ltb, le-ltb, eq-eqb, ne_eqb, drop_of_length-le}
 use Rattle.std.proofs.Math.Bool.{true, false, cond}
@@ -14,9 +14,8 @@ use Rattle.outcome.specs.Changed.{changed_bits, changed_is}
 use Rattle.decoder_words.specs.Fields.{fields, entry, own_part, record_at}
 use Rattle.decoder_words.specs.Noting.{with_results}
 use Rattle.decoder_words.specs.Book.{Book, View, seen, view}
-use Rattle.decoder_words.specs.Written.{Same, same_refl, same_on, Only}
+use Rattle.decoder_words.specs.Written.{same_refl, same_on, Only}
 use Rattle.decoder_words.specs.Shows.{Over, Held, Shows}
-use Rattle.decoder_words.specs.Finish.{with_outcome}
 use Rattle.decoder_words.specs.Given.{ShownIn}
 use Rattle.decoder_plan.specs.declared.Part.{Part}
 use Rattle.decoder_plan.specs.declared.Plan.{Plan}

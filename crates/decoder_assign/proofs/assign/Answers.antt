@@ -1,16 +1,12 @@
 use mathlib.Core.Path.{◌≡◌, refl, ap, ◌∙◌}
-use mathlib.Core.Logic.{◌≢◌, ⊎_elim}
-use Prim.Native.Nat.{ℕ, ◌-◌, ◌≤◌, ◌<◌}
+use Prim.Native.Nat.{◌<◌}
 use native.Mathlib.Omega.{arith}
 use borrow.Author.Count.{below_more}
-use borrow.Author.Rules.{rules}
-use lib.ListN.{length, get_or}
+use lib.ListN.{get_or}
 use Rattle.schedule.specs.Lanes.{any_held}
 use Rattle.schedule.proofs.Lanes.{any_start, any_some, any_none}
-use Rattle.decoder_words.specs.Book.{book}
 use Rattle.decoder_words.specs.Written.{room_on}
-use Rattle.decoder_words.specs.Given.{code_by}
-use Rattle.decoder_assign.proofs.Taking.{Takes, takes_start, takes_on, takes_quick, takes_hold, takes_end}
+use Rattle.decoder_assign.proofs.Taking.{takes_start, takes_on, takes_quick, takes_hold, takes_end}
 use Rattle.decoder_assign.proofs.assign.Goals.{then-held-l-ne0, else-held-l-ne0+else-next-order}
 use Rattle.decoder_assign.proofs.assign.Goals as goal
 

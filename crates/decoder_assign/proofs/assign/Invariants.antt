@@ -1,18 +1,13 @@
 -- `decoder_assign::assign` meets its contract. Each turn of the outer loop gives one word to the lowest empty lane, or has it leave at once; the inner loop passes held lanes by.
 -- Assumes nothing.
-use mathlib.Core.Path.{◌≡◌, refl, ap, ◌∙◌}
-use mathlib.Core.Logic.{◌≢◌, ⊎_elim}
+use mathlib.Core.Path.{◌≡◌}
+use mathlib.Core.Logic.{◌≢◌}
 use Prim.Native.Nat.{ℕ, ◌-◌, ◌≤◌, ◌<◌}
-use native.Mathlib.Omega.{arith}
-use borrow.Author.Count.{below_more}
-use borrow.Author.Rules.{rules}
 use lib.ListN.{length, get_or}
 use Rattle.schedule.specs.Lanes.{any_held}
-use Rattle.schedule.proofs.Lanes.{any_start, any_some, any_none}
 use Rattle.decoder_words.specs.Book.{book}
-use Rattle.decoder_words.specs.Written.{room_on}
 use Rattle.decoder_words.specs.Given.{code_by}
-use Rattle.decoder_assign.proofs.Taking.{Takes, takes_start, takes_on, takes_quick, takes_hold, takes_end}
+use Rattle.decoder_assign.proofs.Taking.{Takes}
 use Rattle.decoder_assign.proofs.assign.Given as goal
 
 abbrev pub invariant-loop-l : goal.invariant-loop-l

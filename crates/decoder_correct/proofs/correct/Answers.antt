@@ -1,10 +1,7 @@
 use mathlib.Core.Path.{◌≡◌, refl}
-use Prim.Native.Nat.{◌-◌, ◌<◌, ◌≤◌}
+use Prim.Native.Nat.{◌<◌}
 use native.Mathlib.Omega.{arith}
-use borrow.Author.Rules.{rules}
-use Rattle.decoder_words.specs.Book.{book}
 use Rattle.decoder_words.specs.Written.{room_on}
-use Rattle.decoder_correct.specs.Settle.{Settling}
 use Rattle.decoder_correct.proofs.Settled.{settling_start, settling_again, settling_end}
 use Rattle.decoder_correct.proofs.correct.Goals as goal
 

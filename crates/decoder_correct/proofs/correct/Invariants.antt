@@ -1,13 +1,9 @@
 -- `decoder_correct::correct` meets its contract. The loop's invariant: the words below w are settled, the others as they were.
 -- Assumes nothing.
-use mathlib.Core.Path.{◌≡◌, refl}
-use Prim.Native.Nat.{◌-◌, ◌<◌, ◌≤◌}
-use native.Mathlib.Omega.{arith}
-use borrow.Author.Rules.{rules}
+use mathlib.Core.Path.{◌≡◌}
+use Prim.Native.Nat.{◌-◌, ◌≤◌}
 use Rattle.decoder_words.specs.Book.{book}
-use Rattle.decoder_words.specs.Written.{room_on}
 use Rattle.decoder_correct.specs.Settle.{Settling}
-use Rattle.decoder_correct.proofs.Settled.{settling_start, settling_again, settling_end}
 use Rattle.decoder_correct.proofs.correct.Given as goal
 
 abbrev pub invariant-loop-w : goal.invariant-loop-w

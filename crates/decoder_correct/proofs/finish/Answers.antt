@@ -2,7 +2,6 @@
 -- Assumes nothing.
 use mathlib.Core.Path.{◌∙◌}
 use native.Mathlib.Omega.{arith}
-use borrow.Author.Rules.{rules}
 use Rattle.decoder_correct.proofs.Settled.{bch_kept, bch_over, bits_kept, bits_over}
 use Rattle.decoder_correct.proofs.finish.Goals as goal
 

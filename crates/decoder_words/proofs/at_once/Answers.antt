@@ -5,7 +5,6 @@ use mathlib.Core.Bool.{◌||◌}
 use mathlib.Core.List.{List}
 use Prim.Native.Nat.{ℕ, ◌+◌, ◌*◌, ◌≤◌}
 use native.Mathlib.Omega.{arith}
-use borrow.Author.Rules.{rules}
 use lib.Dec.{eqb}
 use lib.IntN.{ℤ}
 use Rattle.outcome.specs.Outcome.{begin, met_of}

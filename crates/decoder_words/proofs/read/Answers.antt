@@ -1,7 +1,6 @@
 -- `decoder_words::read` meets its contract: the word's part of the records is lent from the middle.
 -- Assumes nothing.
 use mathlib.Core.Path.{◌∙◌}
-use borrow.Author.Rules.{rules}
 use Rattle.decoder_words.specs.Part.{own_record}
 use Rattle.decoder_words.proofs.read.Goals as goal
 

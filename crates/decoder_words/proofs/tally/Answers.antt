@@ -1,12 +1,11 @@
 use mathlib.Core.Path.{◌≡◌, refl, ap, ◌∙◌}
-use Prim.Native.Nat.{ℕ, ◌+◌, ◌-◌, ◌≤◌, ◌<◌}
+use Prim.Native.Nat.{◌<◌}
 use native.Mathlib.Omega.{arith}
-use borrow.Author.Rules.{rules}
 use Rattle.decoder_words.specs.Fields.{fields}
 use Rattle.decoder_words.specs.Part.{word_ends}
 use Rattle.decoder_words.specs.declared.Noted.{Noted}
-use Rattle.decoder_words.specs.Tally.{lost_by, given_in, kept_in, lost_in}
-use Rattle.decoder_words.specs.Tallying.{Tallying, tallying_start, tallying_again}
+use Rattle.decoder_words.specs.Tally.{given_in, kept_in, lost_in}
+use Rattle.decoder_words.specs.Tallying.{tallying_start, tallying_again}
 use Rattle.decoder_words.proofs.tally.Goals as goal
 
 pub loop-w-init : goal.loop-w-init
