@@ -92,7 +92,7 @@ module _ {X M : Type 0} (R : Setup X M) where
       }
 
   -- lane l is the lowest empty lane, and a word waits
-  module _ (held' iters : List ℕ) (col : ℕ → X) (next : ℕ) (memory : ℕ → M) (l : ℕ) (in-lanes : l < R.lanes) (p : (k : ℕ) → k < l → get_or held' k 0 ≢ 0) (none : get_or held' l 0 ≡ 0)
+  module _ (held' iters : List ℕ) (col : ℕ → X) (next : ℕ) (memory : ℕ → M) (l : ℕ) (in_lanes : l < R.lanes) (p : (k : ℕ) → k < l → get_or held' k 0 ≢ 0) (none : get_or held' l 0 ≡ 0)
       (some : next < length R.order) where
     abbrev w : ℕ
     w = get_or R.order next 0
@@ -105,7 +105,7 @@ module _ {X M : Type 0} (R : Setup X M) where
 
     empty_row : get_or ls l empty ≡ empty
     unfolding lane_of
-    empty_row = get_d_rows R.lanes held' iters col l in-lanes ∙ ap (λ h. lane_of h (col l) (get_or iters l 0)) none
+    empty_row = get_d_rows R.lanes held' iters col l in_lanes ∙ ap (λ h. lane_of h (col l) (get_or iters l 0)) none
 
     taken : (d : List (Left X)) → stock R next d ≡ record { queue = w ∷ drop (next + 1) R.order; log = d }
     taken d = ap (λ (q : List ℕ). record { queue = q; log = d }) (drop-cons R.order next 0 some ∙ ap (λ n. w ∷ drop n R.order) (sym (add-one next)))
@@ -141,7 +141,7 @@ module _ {X M : Type 0} (R : Setup X M) where
             d,
             m,
             ap (λ ls. each F ls (stock R (next + 1) d))
-                (set_rows R.lanes held' iters col col' l (w + 1) 0 in-lanes a b others ∙ ap₂ (λ n x. set ls l (lane_of n x 0)) (add-one w) new)
+                (set_rows R.lanes held' iters col col' l (w + 1) 0 in_lanes a b others ∙ ap₂ (λ n x. set ls l (lane_of n x 0)) (add-one w) new)
                 ∙ sym (ap (each F ls) (taken d) ∙ hold_each R.words ls l (omega (arith, length_rows R.lanes held' iters col)) stays_rows empty_row w (drop (next + 1) R.order) d z),
           );
         }

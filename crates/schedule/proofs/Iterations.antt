@@ -15,7 +15,7 @@ use Rattle.laws.specs.Choice.{same, by_cond}
 use Rattle.schedule.specs.Run.{Words, Lane, empty, holds, Left, Stock, State, Turn, Result, each, held, over, logged, load, fill, iterated, leave, refill, round, go, start, run}
 use Rattle.schedule.specs.Status.{Status, waiting, holding, done, spent, lane_words, log_words, all_words, status}
 use Rattle.schedule.specs.WholeRun.{count, times, case, Finished}
-use Rattle.schedule.specs.Sums.{in_lane, in-lanes, in-queue, in-log, in-stock}
+use Rattle.schedule.specs.Sums.{in_lane, in_lanes, in_queue, in_log, in_stock}
 use Rattle.schedule.proofs.Sums.{none_in}
 use Rattle.schedule.specs.Rounds.{total}
 use Rattle.schedule.proofs.Rounds.{refill_total, round_total}
@@ -50,7 +50,7 @@ module _ {X : Type 0} (words : Words X) (order : List ℕ) (lanes : ℕ) where
 -- ---- a turn: the log grows and the queue shrinks, by sums over words
 module _ {X : Type 0} (words : Words X) (f : ℕ → ℕ → ℕ) where
   abbrev Later : Stock X → Stock X → Type 0
-  Later a b = (in-log f a.log ≤ in-log f b.log) × (in-queue f b.queue ≤ in-queue f a.queue)
+  Later a b = (in_log f a.log ≤ in_log f b.log) × (in_queue f b.queue ≤ in_queue f a.queue)
 
   each_later : (turn : Lane X → Stock X → Turn X) → ((l : Lane X) (s : Stock X) → Later s (turn l s).1) → (ls : List (Lane X)) (s : Stock X) → Later s (each turn ls s).1
   unfolding each
@@ -61,7 +61,7 @@ module _ {X : Type 0} (words : Words X) (f : ℕ → ℕ → ℕ) where
       (omega (arith, a.0, b.0), omega (arith, a.1, b.1))
 
   load_later : (q : List ℕ) (d : List (Left X)) → Later (record { queue = q; log = d }) (load words q d).1
-  unfolding load logged in-log in-queue
+  unfolding load logged in_log in_queue
   load_later [] d = (omega arith, omega arith)
   load_later (w ∷ q) d =
       by_cond (λ (t : Turn X). Later (record { queue = w ∷ q; log = d }) t.1) (over words (words.begin w) 0) _ _
@@ -73,7 +73,7 @@ module _ {X : Type 0} (words : Words X) (f : ℕ → ℕ → ℕ) where
   fill_later (holds w x i) s = (omega arith, omega arith)
 
   leave_later : (l : Lane X) (s : Stock X) → Later s (leave words l s).1
-  unfolding leave logged in-log
+  unfolding leave logged in_log
   leave_later empty s = (omega arith, omega arith)
   leave_later (holds w x i) s =
       by_cond (λ (t : Turn X). Later s t.1) (over words x i) _ _ (λ _. (omega arith, omega arith)) (λ _. (omega arith, omega arith))
@@ -93,28 +93,28 @@ mine v w i = same v w
 abbrev my_iterations : ℕ → ℕ → ℕ → ℕ
 my_iterations v w i = same v w * i
 
-count_queue : (v : ℕ) (q : List ℕ) → count v q ≡ in-queue (mine v) q
+count_queue : (v : ℕ) (q : List ℕ) → count v q ≡ in_queue (mine v) q
 count_queue v q = count_sum v q ∙ sym (queue_sum (mine v) q)
 
-none_yet : (v : ℕ) (q : List ℕ) → in-queue (my_iterations v) q ≡ 0
-unfolding in-queue
+none_yet : (v : ℕ) (q : List ℕ) → in_queue (my_iterations v) q ≡ 0
+unfolding in_queue
 none_yet v [] = refl
 none_yet v (w ∷ q) = omega (arith, none_yet v q)
 
 module _ {X : Type 0} (v : ℕ) where
-  times_lanes : (ls : List (Lane X)) → times v (lane_words ls) ≡ in-lanes (mine v) ls
-  unfolding times lane_words in-lanes in_lane
+  times_lanes : (ls : List (Lane X)) → times v (lane_words ls) ≡ in_lanes (mine v) ls
+  unfolding times lane_words in_lanes in_lane
   times_lanes [] = refl
   times_lanes (empty ∷ ls) = omega (arith, times_lanes ls)
   times_lanes (holds w x i ∷ ls) = omega (arith, times_lanes ls)
 
-  times_log : (es : List (Left X)) → times v (log_words es) ≡ in-log (mine v) es
-  unfolding times log_words in-log
+  times_log : (es : List (Left X)) → times v (log_words es) ≡ in_log (mine v) es
+  unfolding times log_words in_log
   times_log [] = refl
   times_log (e ∷ es) = omega (arith, times_log es)
 
-  one_more : (ls : List (Lane X)) → in-lanes (λ w i. my_iterations v w (suc i)) ls ≡ in-lanes (my_iterations v) ls + in-lanes (mine v) ls
-  unfolding in-lanes in_lane
+  one_more : (ls : List (Lane X)) → in_lanes (λ w i. my_iterations v w (suc i)) ls ≡ in_lanes (my_iterations v) ls + in_lanes (mine v) ls
+  unfolding in_lanes in_lane
   one_more [] = refl
   one_more (empty ∷ ls) = omega (arith, one_more ls)
   one_more (holds w x i ∷ ls) = omega (arith, one_more ls)
@@ -123,15 +123,15 @@ module _ {X : Type 0} (words : Words X) (order : List ℕ) (lanes w : ℕ) (once
   abbrev state : ℕ → State X
   state = state_at words order lanes
 
-  mine_at : (r : ℕ) → total (mine w) (state r) ≡ in-queue (mine w) order
+  mine_at : (r : ℕ) → total (mine w) (state r) ≡ in_queue (mine w) order
   unfolding state_at
   mine_at zero = refill_total words (mine w) (start words order lanes) ∙ begun
     where
-      begun : total (mine w) (start words order lanes) ≡ in-queue (mine w) order
-      begun = unfold total start in-stock in-log in omega (arith, none_in X (mine w) lanes)
+      begun : total (mine w) (start words order lanes) ≡ in_queue (mine w) order
+      begun = unfold total start in_stock in_log in omega (arith, none_in X (mine w) lanes)
   mine_at (suc r) = refill_total words (mine w) (round words (state r)) ∙ round_total words (mine w) (state r) ∙ same_total ∙ mine_at r
     where
-      same_total : in-lanes (mine w) (state r).lanes + in-stock (mine w) (state r).stock ≡ total (mine w) (state r)
+      same_total : in_lanes (mine w) (state r).lanes + in_stock (mine w) (state r).stock ≡ total (mine w) (state r)
       same_total = unfold total in refl
 
   stands_once : (r : ℕ) → times w (all_words (state r)) ≡ 1
@@ -175,7 +175,7 @@ module _ {X : Type 0} (words : Words X) (order : List ℕ) (lanes w : ℕ) (once
       at (done x i) q = tt
 
   -- ---- its iterations are the rounds in which it is held
-  held_lanes : (r : ℕ) → held_in words order lanes w r ≡ in-lanes (mine w) (state r).lanes
+  held_lanes : (r : ℕ) → held_in words order lanes w r ≡ in_lanes (mine w) (state r).lanes
   unfolding held_in
   held_lanes r = omega (arith, case_at 0 1 0 w (state r) (stands_once r), times_lanes w (state r).lanes)
 
@@ -183,10 +183,10 @@ module _ {X : Type 0} (words : Words X) (order : List ℕ) (lanes w : ℕ) (once
   unfolding state_at
   next_spent r = refill_total words (my_iterations w) (round words (state r)) ∙ round_total words (my_iterations w) (state r) ∙ more
     where
-      parts : total (my_iterations w) (state r) ≡ in-lanes (my_iterations w) (state r).lanes + in-stock (my_iterations w) (state r).stock
+      parts : total (my_iterations w) (state r) ≡ in_lanes (my_iterations w) (state r).lanes + in_stock (my_iterations w) (state r).stock
       parts = unfold total in refl
 
-      more : in-lanes (λ v i. my_iterations w v (suc i)) (state r).lanes + in-stock (my_iterations w) (state r).stock ≡ total (my_iterations w) (state r) + held_in words order lanes w r
+      more : in_lanes (λ v i. my_iterations w v (suc i)) (state r).lanes + in_stock (my_iterations w) (state r).stock ≡ total (my_iterations w) (state r) + held_in words order lanes w r
       more = omega (arith, one_more w (state r).lanes, held_lanes r, parts)
 
   spent_at : (r : ℕ) → total (my_iterations w) (state r) ≡ rounds_held words order lanes w r
@@ -194,7 +194,7 @@ module _ {X : Type 0} (words : Words X) (order : List ℕ) (lanes w : ℕ) (once
   spent_at zero = unfold state_at in (refill_total words (my_iterations w) (start words order lanes) ∙ begun)
     where
       begun : total (my_iterations w) (start words order lanes) ≡ 0
-      begun = unfold total start in-stock in-log in omega (arith, none_in X (my_iterations w) lanes, none_yet w order)
+      begun = unfold total start in_stock in_log in omega (arith, none_in X (my_iterations w) lanes, none_yet w order)
   spent_at (suc r) = next_spent r ∙ ap (λ n. n + held_in words order lanes w r) (spent_at r)
 
   -- so far
@@ -229,13 +229,13 @@ module _ {X : Type 0} (words : Words X) (order : List ℕ) (lanes w : ℕ) (once
       -- round k, or one before it
       each_round : (a b a' b' : ℕ) → ((r : ℕ) → r < k → H r ≡ 1 ↔ ((a ≤ r) × (r < b))) → ((r : ℕ) → r < k → ((a ≤ r) × (r < b)) ↔ ((a' ≤ r) × (r < b')))
           → H k ≡ 1 ↔ ((a' ≤ k) × (k < b')) → (r : ℕ) → r < suc k → H r ≡ 1 ↔ ((a' ≤ r) × (r < b'))
-      each_round a b a' b' old same-rounds new r h = go (ℕ_discrete r k)
+      each_round a b a' b' old same_rounds new r h = go (ℕ_discrete r k)
         where
           go : Dec (r ≡ k) → H r ≡ 1 ↔ ((a' ≤ r) × (r < b'))
           go (yes e) = subst (λ n. H n ≡ 1 ↔ ((a' ≤ n) × (n < b'))) (sym e) new
           go (no n) =
               let g : r < k = omega arith in
-              (λ x. (same-rounds r g).0 ((old r g).0 x), λ y. (old r g).1 ((same-rounds r g).1 y))
+              (λ x. (same_rounds r g).0 ((old r g).0 x), λ y. (old r g).1 ((same_rounds r g).1 y))
 
       at : (st : Status X) → status (state k) w ≡ st → (a : ℕ) × (b : ℕ) × Between k a b → (a : ℕ) × (b : ℕ) × Between (suc k) a b
       at waiting e (a, b, p) = (

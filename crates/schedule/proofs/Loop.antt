@@ -15,7 +15,7 @@ use Rattle.std.proofs.Math.Seq.{ext_get_or}
 use Rattle.laws.specs.Choice.{by_bool, by_cond}
 use Rattle.schedule.specs.Run.{is_stopped}
 use Rattle.schedule.specs.Run.{Words, Lane, empty, holds, Left, Stock, State, Ending, finished, stopped, Result, each, held, over, fill, iterated, leave, refill, round, go, start, run}
-use Rattle.schedule.specs.Sums.{in_lane, in-lanes, in-queue, in-log, in-stock, Held, AllLanes, AllLog}
+use Rattle.schedule.specs.Sums.{in_lane, in_lanes, in_queue, in_log, in_stock, Held, AllLanes, AllLog}
 use Rattle.schedule.proofs.Sums.{each_all, each_sum, fill_sum, leave_sum, iterated_sum, iterated_all, fill_all, leave_all, all_empty, none_in, round_held}
 use Rattle.schedule.specs.Lanes.{Setup, lane_of, rows, Kept, stock, Stands, Sized}
 use Rattle.schedule.proofs.Lanes.{length_rows, get_d_rows, lane_held, any_is, kept_start}
@@ -58,13 +58,13 @@ module _ {X : Type 0} (words : Words X) (n : ℕ) where
             (leave_all words (Short words n) Any B (λ w x i p e. tt) (λ w x i p e. omega (arith, p, over_false x i e))) (map (iterated words) ls) s
             (iterated_all words (Short words n) B (λ w x i p. p) ls v.short) (any_log s.log)).0;
         known = each_sum (leave words) (outside n) (leave_sum words (outside n)) (map (iterated words) ls) s
-            ∙ ap (λ m. m + in-stock (outside n) s) (iterated_sum words (outside n) ls) ∙ plain;
+            ∙ ap (λ m. m + in_stock (outside n) s) (iterated_sum words (outside n) ls) ∙ plain;
       }
     where
       B : ℕ → X → ℕ → Type 0
       B w x i = i ≤ words.iteration_limit
 
-      plain : in-lanes (λ w i. outside n w (suc i)) ls + in-stock (outside n) s ≡ 0
+      plain : in_lanes (λ w i. outside n w (suc i)) ls + in_stock (outside n) s ≡ 0
       plain = unfold outside in v.known
 
   held_at : (P : ℕ → X → ℕ → Type 0) (ls : List (Lane X)) → AllLanes (Held P) ls → (k w : ℕ) (x : X) (i : ℕ) → get_or ls k empty ≡ holds w x i → P w x i
@@ -72,8 +72,8 @@ module _ {X : Type 0} (words : Words X) (n : ℕ) where
   held_at P (y ∷ ls) p zero w x i e = subst (Held P) e p.0
   held_at P (y ∷ ls) p (suc k) w x i e = held_at P ls p.1 k w x i e
 
-  known_at : (f : ℕ → ℕ → ℕ) (ls : List (Lane X)) → in-lanes f ls ≡ 0 → (k w : ℕ) (x : X) (i : ℕ) → get_or ls k empty ≡ holds w x i → f w i ≡ 0
-  unfolding in-lanes in_lane
+  known_at : (f : ℕ → ℕ → ℕ) (ls : List (Lane X)) → in_lanes f ls ≡ 0 → (k w : ℕ) (x : X) (i : ℕ) → get_or ls k empty ≡ holds w x i → f w i ≡ 0
+  unfolding in_lanes in_lane
   known_at f [] z k w x i e = let z : ◌≡◌ {A = ℕ} 0 1 = cc in absurd (omega arith)
   known_at f (y ∷ ls) z zero w x i e = omega (arith, ap (in_lane f) e)
   known_at f (y ∷ ls) z (suc k) w x i e = known_at f ls (omega arith) k w x i e
@@ -101,8 +101,8 @@ module _ {X M : Type 0} (R : Setup X M) (n round_limit : ℕ) where
       let g : i < R.lanes = omega (arith, h, length_rows R.lanes held' iters col) in
       get_d_rows R.lanes held' iters col i g ∙ ap (λ h. lane_of h (col i) (get_or iters i 0)) (z i g) ∙ sym (get_or-replicate R.lanes i empty empty g))
 
-  all_inside : (q : List ℕ) → ((k : ℕ) → k < length q → get_or q k 0 < n) → in-queue (outside n) q ≡ 0
-  unfolding in-queue
+  all_inside : (q : List ℕ) → ((k : ℕ) → k < length q → get_or q k 0 < n) → in_queue (outside n) q ≡ 0
+  unfolding in_queue
   all_inside [] h = refl
   all_inside (w ∷ q) h = omega (arith, inside w (h 0 (omega arith)), all_inside q (λ k g. h (suc k) (omega arith)))
     where
@@ -112,12 +112,12 @@ module _ {X M : Type 0} (R : Setup X M) (n round_limit : ℕ) where
   -- no lane is held and no word is marked
   pub going_start : (held' iters : List ℕ) (col : ℕ → X) (memory : ℕ → M) → Sized held' iters → ((k : ℕ) → k < R.lanes → get_or held' k 0 ≡ 0)
       → ((k : ℕ) → k < length R.order → get_or R.order k 0 < n) → ((v : ℕ) → memory v ≡ R.before v) → Going R n round_limit held' iters col 0 0 memory
-  unfolding made start run in-stock in-log
+  unfolding made start run in_stock in_log
   going_start held' iters col memory s z inside m =
       record {
         sized = s;
         in_order = omega arith;
-        in-limit = omega arith;
+        in_limit = omega arith;
         begun = λ l h k. absurd (k (z l h));
         log = [];
         log_is = kept_start R memory m;
@@ -137,7 +137,7 @@ module _ {X M : Type 0} (R : Setup X M) (n round_limit : ℕ) where
       record {
         sized = r.sized g.sized;
         in_order = r.in_order;
-        in-limit = g.in-limit;
+        in_limit = g.in_limit;
         busy_is = r.busy_is;
         is_ready = ready held' iters col _ ok;
         log = t.1.log;
@@ -220,7 +220,7 @@ module _ {X M : Type 0} (R : Setup X M) (n round_limit : ℕ) where
         subst (λ k. Going R n round_limit held'' iters'' col'' k (rounds + 1) memory'') (sym same_next) (record {
           sized = a.sized;
           in_order = p.in_order;
-          in-limit = omega (arith, p.in-limit);
+          in_limit = omega (arith, p.in_limit);
           begun = λ l h z.
               let y = held_at R.words n Begun (rows R.lanes held'' iters'' col'') once_more l _ _ _ (get_d_rows R.lanes held'' iters'' col'' l h ∙ lane_held _ _ _ z) in
               λ e. omega arith;
@@ -248,4 +248,4 @@ module _ {X M : Type 0} (R : Setup X M) (n round_limit : ℕ) where
             (round_held R.words Begun (λ w x i. omega arith) (rows R.lanes held' iters col) _)
 
         one_less : round_limit - rounds ≡ suc (round_limit - (rounds + 1))
-        one_less = omega (arith, p.in-limit)
+        one_less = omega (arith, p.in_limit)

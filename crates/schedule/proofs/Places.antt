@@ -1,6 +1,6 @@
 -- Each word of a run is in one place. In order: sums and the largest over an order; sums over words with their status (`weigh`); in a list with the
 -- words of an order, each once, a word's status is what stands beside it (`only_found`, `sum_status`); the three parts of a state; facts of every
--- word from facts of lanes and log (`by_status`); where a word is, by its status (`case_at`, `in-one-place`).
+-- word from facts of lanes and log (`by_status`); where a word is, by its status (`case_at`, `in_one_place`).
 use Rattle.std.specs.Prelude.{◌≡◌}
 use Rattle.std.proofs.Math.Path.{refl, sym, ap, ap₂, subst}
 use Rattle.std.proofs.Common.{◌∙◌, not-suc-le-zero, eqb-true}
@@ -13,13 +13,13 @@ use Rattle.laws.specs.Choice.{by_cond, by_bool, same_self, same_sym, same}
 use Rattle.schedule.specs.Run.{Lane, empty, holds, Left, State}
 use Rattle.schedule.specs.Status.{Status, waiting, holding, done, lane_words, log_words, queue_words, all_words, seek, status, sum, largest}
 use Rattle.schedule.specs.WholeRun.{times, count, case, Where}
-use Rattle.schedule.specs.Sums.{in_lane, in-lanes, in-queue, in-log, in-stock, Held, AllLanes, AllLog}
+use Rattle.schedule.specs.Sums.{in_lane, in_lanes, in_queue, in_log, in_stock, Held, AllLanes, AllLog}
 use Rattle.schedule.specs.Rounds.{total}
 use Rattle.schedule.specs.Places.{weigh, All, by_iterations, ByStatus}
 
 -- ---- sums over an order
-pub queue_sum : (f : ℕ → ℕ → ℕ) (q : List ℕ) → in-queue f q ≡ sum (λ w. f w 0) q
-unfolding in-queue sum
+pub queue_sum : (f : ℕ → ℕ → ℕ) (q : List ℕ) → in_queue f q ≡ sum (λ w. f w 0) q
+unfolding in_queue sum
 queue_sum f [] = refl
 queue_sum f (w ∷ q) = omega (arith, queue_sum f q)
 
@@ -131,14 +131,14 @@ module _ {X : Type 0} where
         sum_ext (λ v. f v (seek v es)) (λ v. weigh (only v f) es) order (λ v l. sym (only_found f v es (omega (arith, stand v, once v))))
         ∙ exchange f es (every (λ w. count w order ≡ 1) es (λ w l. omega (arith, stand w, once w)))
 
-  weigh_lanes : (f : ℕ → ℕ → ℕ) (ls : List (Lane X)) → weigh (by_iterations f) (lane_words ls) ≡ in-lanes f ls
-  unfolding weigh lane_words in-lanes in_lane
+  weigh_lanes : (f : ℕ → ℕ → ℕ) (ls : List (Lane X)) → weigh (by_iterations f) (lane_words ls) ≡ in_lanes f ls
+  unfolding weigh lane_words in_lanes in_lane
   weigh_lanes f [] = refl
   weigh_lanes f (empty ∷ ls) = omega (arith, weigh_lanes f ls)
   weigh_lanes f (holds w x i ∷ ls) = omega (arith, weigh_lanes f ls)
 
-  weigh_log : (f : ℕ → ℕ → ℕ) (es : List (Left X)) → weigh (by_iterations f) (log_words es) ≡ in-log f es
-  unfolding weigh log_words in-log
+  weigh_log : (f : ℕ → ℕ → ℕ) (es : List (Left X)) → weigh (by_iterations f) (log_words es) ≡ in_log f es
+  unfolding weigh log_words in_log
   weigh_log f [] = refl
   weigh_log f (e ∷ es) = omega (arith, weigh_log f es)
 
@@ -154,7 +154,7 @@ module _ {X : Type 0} where
       omega (arith, weigh_append f (lane_words s.lanes) (log_words s.stock.log ++ queue_words s.stock.queue), weigh_append f (log_words s.stock.log) (queue_words s.stock.queue), weigh_queue f s.stock.queue)
 
   pub weigh_total : (f : ℕ → ℕ → ℕ) (s : State X) → weigh (by_iterations f) (all_words s) ≡ total f s
-  unfolding total in-stock
+  unfolding total in_stock
   weigh_total f s =
       omega (arith, weigh_parts (by_iterations f) s, weigh_lanes f s.lanes, weigh_log f s.stock.log, queue_sum f s.stock.queue)
 
@@ -207,8 +207,8 @@ module _ {X : Type 0} where
       ∙ ap₂ (λ m n. a * sum (same v) s.stock.queue + b * m + c * n) (times_weigh v (lane_words s.lanes)) (times_weigh v (log_words s.stock.log))
       ∙ sym (weigh_case (same v) a b c s) ∙ only_found (λ w st. case a b c st) v (all_words s) h
 
-  pub in-one-place : (s : State X) (v : ℕ) → times v (all_words s) ≡ 1 → Where s v (status s v)
-  in-one-place s v h = at (status s v) (case_at 1 0 0 v s h) (case_at 0 1 0 v s h) (case_at 0 0 1 v s h)
+  pub in_one_place : (s : State X) (v : ℕ) → times v (all_words s) ≡ 1 → Where s v (status s v)
+  in_one_place s v h = at (status s v) (case_at 1 0 0 v s h) (case_at 0 1 0 v s h) (case_at 0 0 1 v s h)
     where
       Sum : ℕ → ℕ → ℕ → Status X → Type 0
       Sum a b c st = a * count v s.stock.queue + b * times v (lane_words s.lanes) + c * times v (log_words s.stock.log) ≡ case a b c st

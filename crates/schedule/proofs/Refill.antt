@@ -30,7 +30,7 @@ module _ {X M : Type 0} (R : Setup X M) where
       }
 
   -- lane l is the lowest empty lane, and a word waits
-  module _ (held' iters : List ℕ) (next : ℕ) (memory : ℕ → M) (l : ℕ) (in-lanes : l < R.lanes) (p : (k : ℕ) → k < l → get_or held' k 0 ≢ 0) (none : get_or held' l 0 ≡ 0)
+  module _ (held' iters : List ℕ) (next : ℕ) (memory : ℕ → M) (l : ℕ) (in_lanes : l < R.lanes) (p : (k : ℕ) → k < l → get_or held' k 0 ≢ 0) (none : get_or held' l 0 ≡ 0)
       (some : next < length R.order) where
     abbrev W : ℕ
     W = get_or R.order next 0
@@ -44,7 +44,7 @@ module _ {X M : Type 0} (R : Setup X M) where
           in_order = omega arith;
           held_fit = refl;
           iters_fit = refl;
-          filling = λ col. filling_quick R held' iters (fresh R held' iters col) next memory l in-lanes p none some memory' z new others;
+          filling = λ col. filling_quick R held' iters (fresh R held' iters col) next memory l in_lanes p none some memory' z new others;
         }
 
     -- the lane takes the word, and its column waits
@@ -56,7 +56,7 @@ module _ {X M : Type 0} (R : Setup X M) where
           in_order = omega arith;
           held_fit = length-set held' l (W + 1);
           iters_fit = length-set iters l 0;
-          filling = λ col. filling_hold R held' iters (fresh R held' iters col) next memory l in-lanes p none some (fresh R (set held' l (W + 1)) (set iters l 0) col) a b z (new col) (others col);
+          filling = λ col. filling_hold R held' iters (fresh R held' iters col) next memory l in_lanes p none some (fresh R (set held' l (W + 1)) (set iters l 0) col) a b z (new col) (others col);
         }
       where
         less : W + 1 - 1 ≡ W

@@ -82,8 +82,8 @@ module _ {X M : Type 0} (R : Setup X M) where
     abbrev ls : List (Lane X)
     ls = table (mixed l held iters col) 0 R.lanes
 
-    in-lanes : l < length ls
-    in-lanes = omega (arith, length_table (mixed l held iters col) 0 R.lanes)
+    in_lanes : l < length ls
+    in_lanes = omega (arith, length_table (mixed l held iters col) 0 R.lanes)
 
     here : get_or ls l empty ≡ lane_of H (col l) (suc I)
     here = get_d_table (mixed l held iters col) 0 R.lanes l h ∙ ap (mixed l held iters col) (zero-add l) ∙ mixed_from l held iters col l (omega arith)
@@ -99,7 +99,7 @@ module _ {X M : Type 0} (R : Setup X M) where
               let x = a.same q d m in (
                 x.0,
                 x.1,
-                x.2 ∙ from_same A l ls _ in-lanes (ap (λ y. A y (record { queue = q; log = x.0 })) none ∙ ap (λ y. (y, record { queue = q; log = x.0 })) (sym none))
+                x.2 ∙ from_same A l ls _ in_lanes (ap (λ y. A y (record { queue = q; log = x.0 })) none ∙ ap (λ y. (y, record { queue = q; log = x.0 })) (sym none))
                     ∙ ap₂ (λ n ls. from A n ls (record { queue = q; log = x.0 })) (sym (add-one l)) (table_ext _ _ 0 R.lanes (λ k _ _. sym (at k (ℕ_discrete k l)))),
               );
         }
@@ -132,7 +132,7 @@ module _ {X M : Type 0} (R : Setup X M) where
               let x = a.same q d m in (
                 x.0,
                 x.1,
-                x.2 ∙ from_same A l ls _ in-lanes (turn q x.0)
+                x.2 ∙ from_same A l ls _ in_lanes (turn q x.0)
                     ∙ ap₂ (λ n ls. from A n ls (record { queue = q; log = x.0 })) (sym (add-one l)) (table_ext _ _ 0 R.lanes (λ k _ _. sym (at k (ℕ_discrete k l)))),
               );
         }
@@ -163,7 +163,7 @@ module _ {X M : Type 0} (R : Setup X M) where
               let x = a.same q d m in (
                 logged R.words (H - 1) (col l) (suc I) x.0,
                 kept_more R x.0 memory memory' (H - 1) (col l) (suc I) x.1 (new ∙ ap (R.after (H - 1) (col l)) (add-one I)) others,
-                x.2 ∙ from_step A l ls _ in-lanes ∙ ap (λ (t : Turn X). from A (suc l) (set ls l t.0) t.1) (turn q x.0)
+                x.2 ∙ from_step A l ls _ in_lanes ∙ ap (λ (t : Turn X). from A (suc l) (set ls l t.0) t.1) (turn q x.0)
                     ∙ ap₂ (λ n ls. from A n ls (record { queue = q; log = logged R.words (H - 1) (col l) (suc I) x.0 })) (sym (add-one l)) (sym lanes_are),
               );
         }

@@ -15,12 +15,12 @@ use Rattle.schedule.specs.Run.{Words, Lane, empty, holds, Stock, State, finished
 use Rattle.schedule.specs.Alone.{after}
 use Rattle.schedule.proofs.AloneLaws.{end_test}
 use Rattle.schedule.specs.WholeRun.{after_alone, ends_alone}
-use Rattle.schedule.specs.Sums.{in_lane, in-lanes, in-queue, in-log, in-stock, one, iterations_of, Held, AllLanes, AllLog, Some}
+use Rattle.schedule.specs.Sums.{in_lane, in_lanes, in_queue, in_log, in_stock, one, iterations_of, Held, AllLanes, AllLog, Some}
 use Rattle.schedule.proofs.Sums.{held_one, each_length, each_sum, each_all, each_before, each_queue, fill_sum, iterated_sum, iterated_all, leave_sum, leave_queue, fill_all, leave_all, leave_held, refill_full, fill_before, fill_fresh, all_empty, none_in}
 use Rattle.schedule.specs.Rounds.{total, spent_so_far, above, Running, Ended, Testing, Since, Inv, Good}
 
-no_iterations : (q : List ℕ) → in-queue iterations_of q ≡ 0
-unfolding in-queue
+no_iterations : (q : List ℕ) → in_queue iterations_of q ≡ 0
+unfolding in_queue
 no_iterations [] = refl
 no_iterations (w ∷ q) = omega (arith, no_iterations q)
 
@@ -30,11 +30,11 @@ above_none m w i = by_cond (λ (n : ℕ). n ≡ 0 → i ≤ m) (ltb m i) 1 0 (λ
 
 module _ {X : Type 0} where
   pub total_spent : (s : State X) → total iterations_of s ≡ spent_so_far s
-  unfolding total spent_so_far in-stock
+  unfolding total spent_so_far in_stock
   total_spent s = omega (arith, no_iterations s.stock.queue)
 
-  one_each : (ls : List (Lane X)) → in-lanes (λ w i. suc i) ls ≡ in-lanes iterations_of ls + in-lanes one ls
-  unfolding in-lanes in_lane
+  one_each : (ls : List (Lane X)) → in_lanes (λ w i. suc i) ls ≡ in_lanes iterations_of ls + in_lanes one ls
+  unfolding in_lanes in_lane
   one_each [] = refl
   one_each (empty ∷ ls) = omega (arith, one_each ls)
   one_each (holds w x i ∷ ls) = omega (arith, one_each ls)
@@ -65,10 +65,10 @@ module _ {X : Type 0} (words : Words X) where
   unfolding total refill
   refill_total f s = each_sum (fill words) f (fill_sum words f) s.lanes s.stock
 
-  pub round_total : (f : ℕ → ℕ → ℕ) (s : State X) → total f (round words s) ≡ in-lanes (λ w i. f w (suc i)) s.lanes + in-stock f s.stock
+  pub round_total : (f : ℕ → ℕ → ℕ) (s : State X) → total f (round words s) ≡ in_lanes (λ w i. f w (suc i)) s.lanes + in_stock f s.stock
   unfolding total round
   round_total f s =
-      each_sum (leave words) f (leave_sum words f) (map (iterated words) s.lanes) s.stock ∙ ap (λ n. n + in-stock f s.stock) (iterated_sum words f s.lanes)
+      each_sum (leave words) f (leave_sum words f) (map (iterated words) s.lanes) s.stock ∙ ap (λ n. n + in_stock f s.stock) (iterated_sum words f s.lanes)
 
   module _ (order : List ℕ) (others : ℕ) where
     refill_spent : (s : State X) → spent_so_far (refill words s) ≡ spent_so_far s
@@ -117,9 +117,9 @@ module _ {X : Type 0} (words : Words X) where
             (fill_fresh words (λ w x i. suc others * s.rounds + i ≤ spent_so_far s + suc others * i) W fresh) s.lanes s.stock v.since v.full
 
     -- ---- a round
-    a_lane : (r g m : ℕ) (ls : List (Lane X)) → 0 < in-lanes one ls → AllLanes (Since words order others r g) ls → in-lanes (λ w i. above m w (suc i)) ls ≡ 0
+    a_lane : (r g m : ℕ) (ls : List (Lane X)) → 0 < in_lanes one ls → AllLanes (Since words order others r g) ls → in_lanes (λ w i. above m w (suc i)) ls ≡ 0
         → (i : ℕ) × (suc others * r + i ≤ g + suc others * i) × (suc i ≤ m)
-    unfolding in-lanes in_lane
+    unfolding in_lanes in_lane
     a_lane r g m [] h p z = absurd (not-suc-le-zero h)
     a_lane r g m (empty ∷ ls) h p z = a_lane r g m ls (omega arith) p.1 (omega arith)
     a_lane r g m (holds w x i ∷ ls) h p z = (i, p.0, above_none m w (suc i) (omega arith))
@@ -162,7 +162,7 @@ module _ {X : Type 0} (words : Words X) where
         kept : (each (leave words) (map (iterated words) s.lanes) s.stock).1.queue ≡ s.stock.queue
         kept = each_queue (leave words) (leave_queue words) (map (iterated words) s.lanes) s.stock
 
-        none : (m : ℕ) → total (above m) (round words s) ≡ 0 → in-lanes (λ w i. above m w (suc i)) s.lanes ≡ 0
+        none : (m : ℕ) → total (above m) (round words s) ≡ 0 → in_lanes (λ w i. above m w (suc i)) s.lanes ≡ 0
         none m z = omega (arith, round_total (above m) s, z)
 
     filled_after : (s : State X) → Inv words order others s → Some (refill words s).stock.queue → held (refill words s).lanes ≡ suc others
@@ -174,7 +174,7 @@ module _ {X : Type 0} (words : Words X) where
     good_end round_limit s v l e =
         record {
           inv = refill_inv s v;
-          in-limit = unfold refill in l;
+          in_limit = unfold refill in l;
           filled = filled_after s v;
           finishes = λ _. eqb-true _ 0 e;
           stops = λ d. let z : ◌≡◌ {A = ℕ} 0 1 = cc in absurd (omega arith);
@@ -187,7 +187,7 @@ module _ {X : Type 0} (words : Words X) where
         (λ e. good_end (s.rounds + 0) s v (omega arith) e)
         (λ e. record {
           inv = refill_inv s v;
-          in-limit = unfold refill in omega arith;
+          in_limit = unfold refill in omega arith;
           filled = filled_after s v;
           finishes = λ d. let z : ◌≡◌ {A = ℕ} 0 1 = cc in absurd (omega arith);
           stops = λ _. (unfold refill in omega arith, omega (arith, eqb-false (held (refill words s).lanes) 0 e));
@@ -203,11 +203,11 @@ module _ {X : Type 0} (words : Words X) where
 
     -- ---- the start
     start_spent : spent_so_far (start words order (suc others)) ≡ 0
-    unfolding spent_so_far start in-log
+    unfolding spent_so_far start in_log
     start_spent = omega (arith, none_in X iterations_of (suc others))
 
     start_inv : Inv words order others (start words order (suc others))
-    unfolding start total in-stock in-log
+    unfolding start total in_stock in_log
     start_inv =
         record {
           width = length-replicate (suc others) empty;

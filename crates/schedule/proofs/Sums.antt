@@ -9,10 +9,10 @@ use Prim.Native.Nat.{ℕ, zero, suc, ◌+◌}
 use native.Mathlib.Omega.{arith}
 use Rattle.laws.specs.Choice.{by_cond}
 use Rattle.schedule.specs.Run.{Words, Lane, empty, holds, Left, Stock, Turn, each, held, over, logged, load, fill, iterated, leave}
-use Rattle.schedule.specs.Sums.{in_lane, in-lanes, in-log, in-queue, in-stock, one, Held, AllLanes, AllLog, Some}
+use Rattle.schedule.specs.Sums.{in_lane, in_lanes, in_log, in_queue, in_stock, one, Held, AllLanes, AllLog, Some}
 
-pub none_in : (X : Type 0) (f : ℕ → ℕ → ℕ) (n : ℕ) → in-lanes {X = X} f (replicate n empty) ≡ 0
-unfolding in-lanes in_lane
+pub none_in : (X : Type 0) (f : ℕ → ℕ → ℕ) (n : ℕ) → in_lanes {X = X} f (replicate n empty) ≡ 0
+unfolding in_lanes in_lane
 none_in X f zero = refl
 none_in X f (suc n) = omega (arith, none_in X f n)
 
@@ -28,8 +28,8 @@ module _ {X : Type 0} where
   any_lane (empty ∷ ls) = (tt, any_lane ls)
   any_lane (holds w x i ∷ ls) = (tt, any_lane ls)
 
-pub held_one : {X : Type 0} (ls : List (Lane X)) → held ls ≡ in-lanes one ls
-unfolding held in-lanes in_lane
+pub held_one : {X : Type 0} (ls : List (Lane X)) → held ls ≡ in_lanes one ls
+unfolding held in_lanes in_lane
 held_one [] = refl
 held_one (empty ∷ ls) = omega (arith, held_one ls)
 held_one (holds w x i ∷ ls) = omega (arith, held_one ls)
@@ -41,9 +41,9 @@ module _ {X : Type 0} (turn : Lane X → Stock X → Turn X) where
   each_length [] s = refl
   each_length (l ∷ ls) s = ap suc (each_length ls (turn l s).1)
 
-  pub each_sum : (f : ℕ → ℕ → ℕ) → ((l : Lane X) (s : Stock X) → in_lane f (turn l s).0 + in-stock f (turn l s).1 ≡ in_lane f l + in-stock f s)
-      → (ls : List (Lane X)) (s : Stock X) → in-lanes f (each turn ls s).0 + in-stock f (each turn ls s).1 ≡ in-lanes f ls + in-stock f s
-  unfolding each in-lanes
+  pub each_sum : (f : ℕ → ℕ → ℕ) → ((l : Lane X) (s : Stock X) → in_lane f (turn l s).0 + in_stock f (turn l s).1 ≡ in_lane f l + in_stock f s)
+      → (ls : List (Lane X)) (s : Stock X) → in_lanes f (each turn ls s).0 + in_stock f (each turn ls s).1 ≡ in_lanes f ls + in_stock f s
+  unfolding each in_lanes
   each_sum f step [] s = refl
   each_sum f step (l ∷ ls) s = omega (arith, step l s, each_sum f step ls (turn l s).1)
 
@@ -72,21 +72,21 @@ module _ {X : Type 0} (turn : Lane X → Stock X → Turn X) where
 
 module _ {X : Type 0} (words : Words X) where
   -- ---- refilling: no sum changes
-  load_sum : (f : ℕ → ℕ → ℕ) (q : List ℕ) (d : List (Left X)) → in_lane f (load words q d).0 + in-stock f (load words q d).1 ≡ in-queue f q + in-log f d
-  unfolding load logged in-stock in_lane in-queue in-log
+  load_sum : (f : ℕ → ℕ → ℕ) (q : List ℕ) (d : List (Left X)) → in_lane f (load words q d).0 + in_stock f (load words q d).1 ≡ in_queue f q + in_log f d
+  unfolding load logged in_stock in_lane in_queue in_log
   load_sum f [] d = omega arith
   load_sum f (w ∷ q) d =
-      by_cond (λ (t : Turn X). in_lane f t.0 + in-stock f t.1 ≡ f w 0 + in-queue f q + in-log f d) (over words (words.begin w) 0) _ _
+      by_cond (λ (t : Turn X). in_lane f t.0 + in_stock f t.1 ≡ f w 0 + in_queue f q + in_log f d) (over words (words.begin w) 0) _ _
       (λ e. omega (arith, load_sum f q (logged words w (words.begin w) 0 d))) (λ e. omega arith)
 
-  pub fill_sum : (f : ℕ → ℕ → ℕ) (l : Lane X) (s : Stock X) → in_lane f (fill words l s).0 + in-stock f (fill words l s).1 ≡ in_lane f l + in-stock f s
-  unfolding fill in-stock in_lane
+  pub fill_sum : (f : ℕ → ℕ → ℕ) (l : Lane X) (s : Stock X) → in_lane f (fill words l s).0 + in_stock f (fill words l s).1 ≡ in_lane f l + in_stock f s
+  unfolding fill in_stock in_lane
   fill_sum f empty s = omega (arith, load_sum f s.queue s.log)
   fill_sum f (holds w x i) s = refl
 
   -- ---- an iteration: every word held has one more
-  pub iterated_sum : (f : ℕ → ℕ → ℕ) (ls : List (Lane X)) → in-lanes f (map (iterated words) ls) ≡ in-lanes (λ w i. f w (suc i)) ls
-  unfolding iterated in-lanes in_lane
+  pub iterated_sum : (f : ℕ → ℕ → ℕ) (ls : List (Lane X)) → in_lanes f (map (iterated words) ls) ≡ in_lanes (λ w i. f w (suc i)) ls
+  unfolding iterated in_lanes in_lane
   iterated_sum f [] = refl
   iterated_sum f (empty ∷ ls) = omega (arith, iterated_sum f ls)
   iterated_sum f (holds w x i ∷ ls) = ap (λ n. f w (suc i) + n) (iterated_sum f ls)
@@ -99,11 +99,11 @@ module _ {X : Type 0} (words : Words X) where
   iterated_all P P' step (holds w x i ∷ ls) p = (step w x i p.0, iterated_all P P' step ls p.1)
 
   -- ---- leaving: no sum changes, no word is handed out
-  pub leave_sum : (f : ℕ → ℕ → ℕ) (l : Lane X) (s : Stock X) → in_lane f (leave words l s).0 + in-stock f (leave words l s).1 ≡ in_lane f l + in-stock f s
-  unfolding leave logged in-stock in_lane in-log
+  pub leave_sum : (f : ℕ → ℕ → ℕ) (l : Lane X) (s : Stock X) → in_lane f (leave words l s).0 + in_stock f (leave words l s).1 ≡ in_lane f l + in_stock f s
+  unfolding leave logged in_stock in_lane in_log
   leave_sum f empty s = refl
   leave_sum f (holds w x i) s =
-      by_cond (λ (t : Turn X). in_lane f t.0 + in-stock f t.1 ≡ f w i + in-stock f s) (over words x i) _ _ (λ e. omega arith) (λ e. refl)
+      by_cond (λ (t : Turn X). in_lane f t.0 + in_stock f t.1 ≡ f w i + in_stock f s) (over words x i) _ _ (λ e. omega arith) (λ e. refl)
 
   pub leave_queue : (l : Lane X) (s : Stock X) → (leave words l s).1.queue ≡ s.queue
   unfolding leave
@@ -162,8 +162,8 @@ module _ {X : Type 0} (words : Words X) where
   fill_full (holds w x i) s h = (refl, h)
 
   pub refill_full : (ls : List (Lane X)) (s : Stock X) → Some (each (fill words) ls s).1.queue
-      → (in-lanes one (each (fill words) ls s).0 ≡ length ls) × Some s.queue
-  unfolding each in-lanes
+      → (in_lanes one (each (fill words) ls s).0 ≡ length ls) × Some s.queue
+  unfolding each in_lanes
   refill_full [] s h = (refl, h)
   refill_full (l ∷ ls) s h =
       let r = refill_full ls (fill words l s).1 h in

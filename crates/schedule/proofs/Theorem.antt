@@ -17,22 +17,22 @@ use Rattle.schedule.specs.AloneLaws.{FirstMetOrLimit}
 use Rattle.schedule.proofs.AloneLaws.{ends_so}
 use Rattle.schedule.specs.Status.{Status, waiting, holding, done, spent, lane_words, log_words, all_words, status, sum, largest}
 use Rattle.schedule.specs.WholeRun.{given, longest, times, count, case, Where, after_alone, ends_alone, Finished, AsAlone, WholeRun}
-use Rattle.schedule.specs.Sums.{in_lane, in-lanes, in-queue, in-log, in-stock, one, iterations_of, Held, AllLanes, AllLog, Some}
+use Rattle.schedule.specs.Sums.{in_lane, in_lanes, in_queue, in_log, in_stock, one, iterations_of, Held, AllLanes, AllLog, Some}
 use Rattle.schedule.proofs.Sums.{held_one}
 use Rattle.schedule.specs.Rounds.{total, spent_so_far, above, Running, Ended, Good}
 use Rattle.schedule.proofs.Rounds.{total_spent, run_good}
 use Rattle.schedule.specs.Places.{weigh, by_iterations, ByStatus}
-use Rattle.schedule.proofs.Places.{sum_ext, largest_le, largest_sum, queue_sum, count_sum, times_weigh, sum_status, weigh_total, weigh_case, by_status, in-one-place}
+use Rattle.schedule.proofs.Places.{sum_ext, largest_le, largest_sum, queue_sum, count_sum, times_weigh, sum_status, weigh_total, weigh_case, by_status, in_one_place}
 
 module _ {X : Type 0} where
-  lanes_left : (words : Words X) (ls : List (Lane X)) → AllLanes (Held (Running words)) ls → in-lanes iterations_of ls + in-lanes one ls ≤ in-lanes (λ w i. ends_alone words w) ls
-  unfolding in-lanes in_lane
+  lanes_left : (words : Words X) (ls : List (Lane X)) → AllLanes (Held (Running words)) ls → in_lanes iterations_of ls + in_lanes one ls ≤ in_lanes (λ w i. ends_alone words w) ls
+  unfolding in_lanes in_lane
   lanes_left words [] p = omega arith
   lanes_left words (empty ∷ ls) p = omega (arith, lanes_left words ls p.1)
   lanes_left words (holds w x i ∷ ls) p = omega (arith, p.0.1, lanes_left words ls p.1)
 
-  log_left : (words : Words X) (es : List (Left X)) → AllLog (Ended words) es → in-log iterations_of es ≡ in-log (λ w i. ends_alone words w) es
-  unfolding in-log
+  log_left : (words : Words X) (es : List (Left X)) → AllLog (Ended words) es → in_log iterations_of es ≡ in_log (λ w i. ends_alone words w) es
+  unfolding in_log
   log_left words [] p = refl
   log_left words (e ∷ es) p = omega (arith, p.0.1, log_left words es p.1)
 
@@ -47,20 +47,20 @@ module _ {X : Type 0} where
   ones_log [] = refl
   ones_log (e ∷ es) = omega (arith, ones_log es)
 
-  in-log-one : (es : List (Left X)) → in-log one es ≡ length es
-  unfolding in-log
-  in-log-one [] = refl
-  in-log-one (e ∷ es) = omega (arith, in-log-one es)
+  in_log_one : (es : List (Left X)) → in_log one es ≡ length es
+  unfolding in_log
+  in_log_one [] = refl
+  in_log_one (e ∷ es) = omega (arith, in_log_one es)
 
 some_queue : (v : ℕ) (q : List ℕ) → count v q ≡ 1 → Some q
 unfolding count
 some_queue v [] h = absurd (omega arith)
 some_queue v (w ∷ q) h = tt
 
-in-queue-one : (q : List ℕ) → in-queue one q ≡ length q
-unfolding in-queue
-in-queue-one [] = refl
-in-queue-one (w ∷ q) = omega (arith, in-queue-one q)
+in_queue_one : (q : List ℕ) → in_queue one q ≡ length q
+unfolding in_queue
+in_queue_one [] = refl
+in_queue_one (w ∷ q) = omega (arith, in_queue_one q)
 
 sum_none : (f : ℕ → ℕ) (q : List ℕ) → ((v : ℕ) → 1 ≤ count v q → f v ≡ 0) → sum f q ≡ 0
 unfolding sum count
@@ -109,7 +109,7 @@ module _ {X : Type 0} (words : Words X) (order : List ℕ) (once : (w : ℕ) →
       ∙ ap₂ (λ m n. a * sum (λ _. 1) s.stock.queue + b * m + c * n) (ones_lanes s.lanes) (ones_log s.stock.log)
 
   place_of : (v : ℕ) → count v order ≡ 1 → Where s v (status s v)
-  place_of v h = in-one-place s v (stand v ∙ h)
+  place_of v h = in_one_place s v (stand v ∙ h)
 
   -- no lane is held: every word is finished
   done_all : held s.lanes ≡ 0 → (v : ℕ) → count v order ≡ 1 → Finished (status s v)
@@ -136,7 +136,7 @@ module _ {X : Type 0} (words : Words X) (order : List ℕ) (once : (w : ℕ) →
       at (done x i) f = refl
 
   busy_end : r.ending ≡ stopped → round_limit < sum (ends_alone words) order
-  unfolding s spent_so_far total in-stock
+  unfolding s spent_so_far total in_stock
   busy_end e =
       omega (
         arith,
@@ -160,7 +160,7 @@ module _ {X : Type 0} (words : Words X) (order : List ℕ) (once : (w : ℕ) →
   finishes = (g.finishes, λ z. by_ending (λ e. e ≡ finished) r.ending (λ _. refl) (λ e. absurd (omega (arith, (g.stops e).1))))
 
   loaded_of : (front : List ℕ) × (order ≡ front ++ s.stock.queue) × (length front ≡ held s.lanes + length s.stock.log)
-  unfolding s total in-stock
+  unfolding s total in_stock
   loaded_of = (
     g.inv.suffix.0,
     g.inv.suffix.1,
@@ -169,9 +169,9 @@ module _ {X : Type 0} (words : Words X) (order : List ℕ) (once : (w : ℕ) →
       ap length g.inv.suffix.1,
       length-append g.inv.suffix.0 s.stock.queue,
       g.inv.words_kept (λ _. 1),
-      in-queue-one order,
-      in-queue-one s.stock.queue,
-      in-log-one s.stock.log,
+      in_queue_one order,
+      in_queue_one s.stock.queue,
+      in_log_one s.stock.log,
       held_one s.lanes,
     ),
   )
@@ -180,7 +180,7 @@ module _ {X : Type 0} (words : Words X) (order : List ℕ) (once : (w : ℕ) →
   unfolding s
   demand_of =
       record {
-        rounds_within = g.in-limit;
+        rounds_within = g.in_limit;
         finished_when = finishes;
         stopped_when = λ e. (g.stops e).0;
         all_finished = (λ e. done_all (finishes.0 e), λ h. finishes.1 (none_held h));

@@ -8,7 +8,7 @@ use Prim.Native.Nat.{ℕ, zero, suc, ◌+◌, ◌-◌, ◌≤◌, ◌<◌}
 use Rattle.std.proofs.Math.Dec.{eqb}
 unfoldable pub use Rattle.schedule.specs.Run.{is_stopped}
 use Rattle.schedule.specs.Run.{Words, Lane, Left, Stock, State, finished, stopped, Result, held, round, go, run}
-use Rattle.schedule.specs.Sums.{in-lanes, in-stock, Held, AllLanes}
+use Rattle.schedule.specs.Sums.{in_lanes, in_stock, Held, AllLanes}
 use Rattle.schedule.specs.Lanes.{Setup, rows, any_held, Kept, stock, Stands, Sized}
 
 -- 1 for a word that is not below n
@@ -22,7 +22,7 @@ module _ {X : Type 0} (words : Words X) (n : ℕ) where
 
   pub record Safe (ls : List (Lane X)) (s : Stock X) : Type 0 where
     pub short : AllLanes (Held Short) ls
-    pub known : in-lanes (outside n) ls + in-stock (outside n) s ≡ 0
+    pub known : in_lanes (outside n) ls + in_stock (outside n) s ≡ 0
 
 module _ {X M : Type 0} (R : Setup X M) (n round_limit : ℕ) where
   abbrev pub result : Result X
@@ -52,7 +52,7 @@ module _ {X M : Type 0} (R : Setup X M) (n round_limit : ℕ) where
   pub record Going (held' iters : List ℕ) (col : ℕ → X) (next rounds : ℕ) (memory : ℕ → M) : Type 0 where
     pub sized : Sized held' iters
     pub in_order : next ≤ length R.order
-    pub in-limit : rounds ≤ round_limit
+    pub in_limit : rounds ≤ round_limit
     pub begun : (l : ℕ) → l < R.lanes → get_or held' l 0 ≢ 0 → get_or iters l 0 ≢ 0
     pub log : List (Left X)
     pub log_is : Kept R log memory
@@ -63,7 +63,7 @@ module _ {X M : Type 0} (R : Setup X M) (n round_limit : ℕ) where
   pub record Pausing (held' iters : List ℕ) (col : ℕ → X) (next rounds : ℕ) (busy : Bool) (memory : ℕ → M) : Type 0 where
     pub sized : Sized held' iters
     pub in_order : next ≤ length R.order
-    pub in-limit : rounds ≤ round_limit
+    pub in_limit : rounds ≤ round_limit
     pub busy_is : busy ≡ any_held held' R.lanes
     pub is_ready : Ready held' iters
     pub log : List (Left X)

@@ -7,15 +7,15 @@ use mathlib.Core.List.{List, ◌++◌}
 use Prim.Native.Nat.{ℕ, suc, ◌+◌, ◌*◌, ◌≤◌, ◌<◌}
 use Rattle.schedule.specs.Run.{Words, Lane, State, finished, stopped, Result, held}
 use Rattle.schedule.specs.WholeRun.{after_alone, ends_alone}
-use Rattle.schedule.specs.Sums.{in-lanes, in-queue, in-log, in-stock, iterations_of, Held, AllLanes, AllLog, Some}
+use Rattle.schedule.specs.Sums.{in_lanes, in_queue, in_log, in_stock, iterations_of, Held, AllLanes, AllLog, Some}
 
 -- every word of a state, once
 unfoldable pub total : {X : Type 0} → (ℕ → ℕ → ℕ) → State X → ℕ
-total f s = in-lanes f s.lanes + in-stock f s.stock
+total f s = in_lanes f s.lanes + in_stock f s.stock
 
 -- the iterations given so far, by the words' places
 unfoldable pub spent_so_far : {X : Type 0} → State X → ℕ
-spent_so_far s = in-lanes iterations_of s.lanes + in-log iterations_of s.stock.log
+spent_so_far s = in_lanes iterations_of s.lanes + in_log iterations_of s.stock.log
 
 -- 1 for a word that has had more than m iterations
 unfoldable pub above : ℕ → ℕ → ℕ → ℕ
@@ -43,7 +43,7 @@ module _ {X : Type 0} (words : Words X) where
       pub width : length s.lanes ≡ suc others
       pub running : AllLanes (Held Running) s.lanes
       pub ended : AllLog Ended s.stock.log
-      pub words_kept : (f : ℕ → ℕ) → total (λ w i. f w) s ≡ in-queue (λ w i. f w) order
+      pub words_kept : (f : ℕ → ℕ) → total (λ w i. f w) s ≡ in_queue (λ w i. f w) order
       pub suffix : (front : List ℕ) × (order ≡ front ++ s.stock.queue)
       pub busy : s.rounds ≤ spent_so_far s
       pub full : Some s.stock.queue → spent_so_far s ≡ suc others * s.rounds
@@ -53,7 +53,7 @@ module _ {X : Type 0} (words : Words X) where
     -- ---- the run
     pub record Good (round_limit : ℕ) (r : Result X) : Type 0 where
       pub inv : Inv r.last
-      pub in-limit : r.last.rounds ≤ round_limit
+      pub in_limit : r.last.rounds ≤ round_limit
       pub filled : Some r.last.stock.queue → held r.last.lanes ≡ suc others
       pub finishes : r.ending ≡ finished → held r.last.lanes ≡ 0
       pub stops : r.ending ≡ stopped → (r.last.rounds ≡ round_limit) × (0 < held r.last.lanes)

@@ -11,20 +11,20 @@ module _ {X : Type 0} where
   in_lane f empty = 0
   in_lane f (holds w x i) = f w i
 
-  unfoldable pub in-lanes : (ℕ → ℕ → ℕ) → List (Lane X) → ℕ
-  in-lanes f [] = 0
-  in-lanes f (l ∷ ls) = in_lane f l + in-lanes f ls
+  unfoldable pub in_lanes : (ℕ → ℕ → ℕ) → List (Lane X) → ℕ
+  in_lanes f [] = 0
+  in_lanes f (l ∷ ls) = in_lane f l + in_lanes f ls
 
-  unfoldable pub in-log : (ℕ → ℕ → ℕ) → List (Left X) → ℕ
-  in-log f [] = 0
-  in-log f (e ∷ es) = f e.word e.iterations + in-log f es
+  unfoldable pub in_log : (ℕ → ℕ → ℕ) → List (Left X) → ℕ
+  in_log f [] = 0
+  in_log f (e ∷ es) = f e.word e.iterations + in_log f es
 
-unfoldable pub in-queue : (ℕ → ℕ → ℕ) → List ℕ → ℕ
-in-queue f [] = 0
-in-queue f (w ∷ ws) = f w 0 + in-queue f ws
+unfoldable pub in_queue : (ℕ → ℕ → ℕ) → List ℕ → ℕ
+in_queue f [] = 0
+in_queue f (w ∷ ws) = f w 0 + in_queue f ws
 
-unfoldable pub in-stock : {X : Type 0} → (ℕ → ℕ → ℕ) → Stock X → ℕ
-in-stock f s = in-queue f s.queue + in-log f s.log
+unfoldable pub in_stock : {X : Type 0} → (ℕ → ℕ → ℕ) → Stock X → ℕ
+in_stock f s = in_queue f s.queue + in_log f s.log
 
 abbrev pub one : ℕ → ℕ → ℕ
 one w i = 1
