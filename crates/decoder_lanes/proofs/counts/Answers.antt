@@ -2,7 +2,7 @@
 -- Assumes nothing.
 use native.Mathlib.Omega.{arith}
 use lib.ListN.{get_or-replicate}
-use Rattle.decoder_lanes.specs.Lane.{memory_of, counts_asked, counts_none}
+use Rattle.decoder_lanes.specs.Lane.{memory_of, counts_none}
 use Rattle.decoder_lanes.proofs.counts.Goals as goal
 
 pub returns-then-not-asked : goal.returns-then-not-asked

@@ -1,14 +1,12 @@
 use mathlib.Core.Bool.{Bool, true, false}
 use mathlib.Core.Path.{◌≡◌, refl, ap, ◌∙◌}
-use mathlib.Core.Logic.{⊎_elim}
 use Prim.Native.Nat.{◌+◌, ◌-◌, ◌*◌, ◌≤◌, ◌<◌}
 use native.Mathlib.Omega.{arith}
-use borrow.Author.Rules.{rules}
 use lib.ListN.{length, get_or, set, get_or-replicate, length-set}
 use Rattle.decoder_words.specs.Part.{word_ends, own, middle}
 use Rattle.decoder_words.specs.Given.{all_le}
 use Rattle.decoder_lanes.specs.Lane.{rows_fit, messages_fit}
-use Rattle.decoder_lanes.specs.Load.{Loading, loading_start, loading_skip, loading_load, loading_as, loading_end}
+use Rattle.decoder_lanes.specs.Load.{loading_start, loading_skip, loading_load, loading_as, loading_end}
 use Rattle.decoder_lanes.proofs.load.Goals as goal
 use Rattle.decoder_lanes.proofs.load.Goals.{then-held-l-ne0+then-iters-l-eq0, then-held-l-ne0+else-iters-l-eq0, else-held-l-ne0}
 

@@ -1,6 +1,5 @@
 -- `decoder_retire::close` meets its contract: what is counted is asked for if a word is held.
 -- Assumes nothing.
-use borrow.Author.Rules.{rules}
 use Rattle.decoder_retire.specs.Counts.{counted_held}
 use Rattle.decoder_retire.proofs.close.Goals as goal
 

@@ -1,12 +1,9 @@
 -- `decoder_retire::due` meets its contract. Assumes nothing.
-use borrow.Author.Rules.{rules}
-use native.Mathlib.Omega.{arith}
-use mathlib.Core.Path.{◌≡◌, ap, ◌∙◌}
+use mathlib.Core.Path.{◌≡◌}
 use mathlib.Core.Bool.{false}
 use Prim.Native.Nat.{◌-◌, ◌≤◌}
 use lib.ListN.{get_or}
 use Rattle.schedule.specs.Lanes.{any_of}
-use Rattle.schedule.proofs.Lanes.{any_start, any_again}
 use Rattle.decoder_retire.specs.Counts.{due_at}
 use Rattle.decoder_retire.proofs.due.Given as goal
 

@@ -1,6 +1,5 @@
 -- `decoder_retire::retire` meets its contract: what is counted is asked for if a word leaves unmet.
 -- Assumes nothing.
-use borrow.Author.Rules.{rules}
 use mathlib.Core.Bool.{false}
 use lib.ListN.{get_or}
 use Rattle.decoder_retire.specs.Counts.{tallied}

@@ -1,7 +1,6 @@
 use borrow.Author.Rules.{rules}
 use native.Mathlib.Omega.{arith}
 use mathlib.Core.Path.{◌≡◌, refl, ap, ◌∙◌}
-use Prim.Native.Nat.{◌-◌, ◌≤◌}
 use Rattle.schedule.specs.Lanes.{held_at, any_held}
 use Rattle.schedule.proofs.Lanes.{any_start, any_again}
 use Rattle.decoder_retire.proofs.some_held.Goals as goal

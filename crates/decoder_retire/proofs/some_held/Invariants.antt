@@ -1,10 +1,7 @@
 -- `decoder_retire::some_held` meets its contract. Assumes nothing.
-use borrow.Author.Rules.{rules}
-use native.Mathlib.Omega.{arith}
-use mathlib.Core.Path.{◌≡◌, refl, ap, ◌∙◌}
+use mathlib.Core.Path.{◌≡◌}
 use Prim.Native.Nat.{◌-◌, ◌≤◌}
-use Rattle.schedule.specs.Lanes.{held_at, any_held}
-use Rattle.schedule.proofs.Lanes.{any_start, any_again}
+use Rattle.schedule.specs.Lanes.{any_held}
 use Rattle.decoder_retire.proofs.some_held.Given as goal
 
 abbrev pub invariant-loop-l : goal.invariant-loop-l

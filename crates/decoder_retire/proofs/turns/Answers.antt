@@ -1,21 +1,19 @@
 use mathlib.Core.Path.{◌≡◌, refl, sym, ap, ◌∙◌}
-use mathlib.Core.Logic.{⊎_elim, ◌≢◌}
+use mathlib.Core.Logic.{◌≢◌}
 use mathlib.Core.Bool.{true, false, ◌||◌}
-use Prim.Native.Nat.{ℕ, ◌+◌, ◌-◌, ◌<◌, ◌≤◌}
+use Prim.Native.Nat.{ℕ, ◌+◌, ◌<◌}
 use lib.Dec.{eqb}
 use lib.ListN.{get_or}
 use native.Mathlib.Omega.{arith}
-use borrow.Author.Rules.{rules}
 use Rattle.iteration.specs.CountLaws.{UnmetCounted}
 use Rattle.outcome.specs.Outcome.{bits_of}
 use Rattle.decoder_words.specs.Noting.{before_bch}
 use Rattle.decoder_words.specs.Book.{book, seen}
-use Rattle.decoder_words.specs.Written.{room_on}
 use Rattle.decoder_words.specs.Given.{code_by}
 use Rattle.decoder_words.specs.Finish.{ended}
 use Rattle.decoder_words.specs.declared.Noted.{Noted}
 use Rattle.decoder_lanes.specs.Lane.{lane_word}
-use Rattle.decoder_retire.specs.Retire.{Leaves, leaves_start, leaves_skip, leaves_stay, leaves_leave, leaves_as, leaves_end}
+use Rattle.decoder_retire.specs.Retire.{leaves_start, leaves_skip, leaves_stay, leaves_leave, leaves_as, leaves_end}
 use Rattle.decoder_retire.proofs.turns.Goals as goal
 use Rattle.decoder_retire.proofs.turns.Goals.{then-h-ne0+then-over, then-h-ne0+else-over, else-h-ne0}
 
