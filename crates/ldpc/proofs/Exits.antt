@@ -6,7 +6,8 @@ use Prim.Native.Nat.{ℕ, suc, ◌+◌, ◌≤◌, ◌<◌}
 use native.Mathlib.Omega.{arith}
 use borrow.Author.Tests.{eq-eqb, ne_eqb, lt-ltb, le-ltb, le-leb, lt-leb}
 use lib.Dec.{eqb}
-use lib.ListN.{length, drop}
+use lib.ListN.{length, take, drop}
+use lib.Seq.{length-take-le}
 use Rattle.ldpc_shape.specs.declared.Sizes.{Sizes}
 use Rattle.ldpc_shape.specs.Shape.{k_of, p_of, e_of, sizes_of, code_refusal}
 use Rattle.ldpc_shape.specs.Accepted.{p_pos}
@@ -92,6 +93,14 @@ module _ (n : ℕ) (lens addrs : List ℕ) where
       n_is : S.n ≡ n
       n_is = ap (λ (z : Sizes). z.n) d
 
+      pub new_ready : S.p + 1 + S.e ≤ length lists
+          → ((code_refusal S.n lens addrs ≡ 0) × (S ≡ sizes_of S.n lens addrs)) × (length (take (S.p + 1 + S.e) lists) ≡ suc S.p + S.e)
+      new_ready h =
+          let long : S.p + 1 + S.e ≡ suc S.p + S.e = omega arith in (
+            (subst (λ (m : ℕ). code_refusal m lens addrs ≡ 0) (sym n_is) e, subst (λ (m : ℕ). S ≡ sizes_of m lens addrs) (sym n_is) d),
+            length-take-le (S.p + 1 + S.e) lists h ∙ long,
+          )
+
       pub new_done : S.p + 1 + S.e ≤ length lists → (y : List ℕ) → y ≡ edge_lists S.n lens addrs
           → (made.Code S.k S.p S.q S.e ≡ new_answer n lens addrs (length lists))
           × (y ++ drop (S.p + 1 + S.e) lists ≡ new_into n lens addrs lists)
@@ -169,6 +178,9 @@ module _ (n : ℕ) (lens addrs : List ℕ) where
             let f = or_next (code_refusal n lens addrs) _ 13 e (or_next (other_of (length info) (k_of lens)) (short_of (p_of n lens) (length out)) 13 (sym (same (length info) (k_of lens) (l ∙ ek))) g) in
             (says_no _ _ written.Refused 13 f thirteen, keeps _ _ out 13 f thirteen)
 
+        pub parity_ready : p ≤ length out → (length info ≡ k_of lens) × (length (take p out) ≡ p_of n lens)
+        parity_ready h = (l ∙ ek, length-take-le p out h ∙ ep)
+
         pub parity_done : p ≤ length out → (y : List ℕ) → y ≡ parity n lens addrs info
             → (written.Done ≡ parity_answer n lens addrs (length info) (length out)) × (y ++ drop p out ≡ parity_into n lens addrs info out)
         unfolding parity_answer parity_refusal parity_into
@@ -201,6 +213,9 @@ module _ (n : ℕ) (lens addrs : List ℕ) where
             let g = short n (length out) (subst (λ (z : ℕ). length out < z) es h) in
             let f = or_next (code_refusal n lens addrs) _ 13 e (or_next (other_of (length info) (k_of lens)) (short_of n (length out)) 13 (sym (same (length info) (k_of lens) (l ∙ ek))) g) in
             (says_no _ _ written.Refused 13 f thirteen, keeps _ _ out 13 f thirteen)
+
+        pub encode_ready : size ≤ length out → (length info ≡ k_of lens) × (length (take size out) ≡ n)
+        encode_ready h = (l ∙ ek, length-take-le size out h ∙ es)
 
         pub encode_done : size ≤ length out → (y : List ℕ) → y ≡ encode n lens addrs info
             → (written.Done ≡ encode_answer n lens addrs (length info) (length out)) × (y ++ drop size out ≡ encode_into n lens addrs info out)

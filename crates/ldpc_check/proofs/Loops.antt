@@ -20,7 +20,7 @@ use Rattle.ldpc_edges.specs.Code.{of_bits, of_rows, meets, only, stairs, check}
 use Rattle.ldpc_edges.proofs.Inside.{only_append, rows_next, rows_none}
 use Rattle.ldpc_edges.specs.Insert.{insert, place}
 use Rattle.ldpc_edges.proofs.Insert.{insert_length, row_cons}
-use Rattle.ldpc_edges.proofs.Degree.{bits_none, bits_count, count_split, degree}
+use Rattle.ldpc_edges.proofs.Degree.{bits_none, bits_count, count_split, degree, degree_le}
 
 -- ---- one bit more among the ascending ones
 module _ (m n : ℕ) (out₀ : List ℕ) where
@@ -35,6 +35,9 @@ module _ (m n : ℕ) (out₀ : List ℕ) where
   insert_next out v i h g =
       let e : n - i ≡ suc (n - suc i) = omega arith in
       ap₂ (λ (y : ℕ) (z : List ℕ). insert v (take y z)) e (drop-cons out i 0 (omega arith))
+
+  pub insert_start : Inserting out₀ m 0
+  insert_start = let e : n ≡ n - 0 = omega arith in ap (λ (z : ℕ). insert m (take z out₀) ++ drop (n + 1) out₀) e
 
   pub insert_swap : (out out' : List ℕ) (v v' i : ℕ) → i < n → n < length out → v < get_or out i 0 → out' ≡ set out i v → v' ≡ get_or out i 0
       → Inserting out v i → Inserting out' v' (i + 1)
@@ -293,6 +296,9 @@ module _ (n : ℕ) (lens addrs : List ℕ) (e : code_refusal n lens addrs ≡ 0)
   pub stairs_room : (c d : ℕ) (x y : List ℕ) → d ≡ length (all_of S.q c lens addrs) → length y ≡ length x → length (check n lens addrs c) ≤ length x
       → d + length (stairs S.k c) ≤ length y
   stairs_room c d x y e f h = omega (arith, check_length c)
+
+  pub degree_small : (c : ℕ) → c < p_of n lens → length (check n lens addrs c) ≤ 128
+  degree_small = degree_le n lens addrs A
 
   pub check_done : (c d r : ℕ) (x y z : List ℕ) → d ≡ length (all_of S.q c lens addrs) → y ≡ all_of S.q c lens addrs ++ drop d x
       → r ≡ d + length (stairs S.k c) → z ≡ take d y ++ (stairs S.k c ++ drop r y) → length (check n lens addrs c) ≤ length x

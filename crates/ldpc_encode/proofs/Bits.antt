@@ -102,6 +102,14 @@ module _ (x w : List ℕ) (s : ℕ) (lx : length x ≡ 374) (lw : length w ≡ 3
     high_is =
         back_from s x u ∙ ap (λ (z : List ℕ). take s x ++ z) (e ∙ ap (λ (y : List ℕ). xors y (take (374 - s) w)) (lent_from s x))
 
+    pub middle_length : length (take s x ++ (u ++ drop (length x - s) (drop s x))) ≡ 374
+    middle_length = ap length high_is ∙ high_length
+
+    pub second_fits : length (take s (take s x ++ (u ++ drop (length x - s) (drop s x)))) ≡ length (take (length w - (374 - s)) (drop (374 - s) w))
+    second_fits =
+        length-take-le s (take s x ++ (u ++ drop (length x - s) (drop s x))) (omega (arith, middle_length))
+        ∙ sym (ap length (lent_from (374 - s) w) ∙ length-drop (374 - s) w ∙ omega arith)
+
     pub turned_done : (v : List ℕ)
         → v ≡ xors (take s (take s x ++ (u ++ drop (length x - s) (drop s x)))) (take (length w - (374 - s)) (drop (374 - s) w))
         → AddedToSums x (v ++ drop s (take s x ++ (u ++ drop (length x - s) (drop s x)))) (turned_bit w s)
@@ -109,6 +117,11 @@ module _ (x w : List ℕ) (s : ℕ) (lx : length x ≡ 374) (lw : length w ≡ 3
     turned_done v f =
         subst (λ (y : List ℕ). AddedToSums x y (turned_bit w s))
         (sym (ap₂ (λ (y z : List ℕ). y ++ z) (f ∙ ap₂ (λ (y z : List ℕ). xors (take s y) z) high_is (lent_from (374 - s) w)) (ap (drop s) high_is))) turned
+
+  pub first_fits : length (take (length x - s) (drop s x)) ≡ length (take (374 - s) w)
+  first_fits =
+      ap length (lent_from s x) ∙ length-drop s x
+      ∙ sym (length-take-le (374 - s) w (omega arith) ∙ omega arith)
 
 -- ---- what is left to add: the sums x and f come to the sums x₀ and g
 abbrev pub Left : List ℕ → (ℕ → ℕ) → List ℕ → (ℕ → ℕ) → Type 0

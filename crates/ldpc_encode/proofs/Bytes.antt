@@ -5,8 +5,8 @@ use Prim.Native.Nat.{ℕ, zero, suc, ◌+◌, ◌-◌, ◌≤◌, ◌<◌}
 use native.Mathlib.Omega.{arith}
 use native.Mathlib.Numerals.{add-one}
 use lib.Bits.{bit_xor}
-use lib.ListN.{length, take, drop, get_or, set, length-take, length-drop, length-append}
-use lib.Seq.{take-suc-set, take-length, take_at, drop-cons, drop-length, drop-set-lt}
+use lib.ListN.{length, take, drop, get_or, set, length-take, length-drop, length-append, take-append-drop}
+use lib.Seq.{take-suc, take-suc-set, take-length, take_all, take_at, drop-cons, drop-drop, drop-length, drop-set-lt}
 use Rattle.laws.specs.Lists.{back_from}
 use Rattle.ldpc_edges.specs.Code.{sums}
 use Rattle.ldpc_encode.specs.Sums.{xors}
@@ -59,6 +59,20 @@ sums_end x x₀ i b h g inv =
     sym (ap₂ (λ (y z : ℕ). take y x ++ sums b (drop z x)) e e ∙ ap₂ (λ (y z : List ℕ). y ++ sums b z) (take-length x) (drop-length x) ∙ append-nil x) ∙ inv
 
 -- ---- the copy
+pub copied : (x w : List ℕ) (i : ℕ) → i < length x → i < length w → take i x ≡ take i w → take (i + 1) (set x i (get_or w i 0)) ≡ take (i + 1) w
+copied x w i h g e =
+    ap (λ (z : ℕ). take z (set x i (get_or w i 0))) (add-one i) ∙ take-suc-set x i (get_or w i 0) h ∙ ap (λ (l : List ℕ). l ++ (get_or w i 0 ∷ [])) e
+    ∙ sym (ap (λ (z : ℕ). take z w) (add-one i) ∙ take-suc w i 0 g)
+
+pub copied_rest : (x x₀ : List ℕ) (i v : ℕ) → drop i x ≡ drop i x₀ → drop (i + 1) (set x i v) ≡ drop (i + 1) x₀
+copied_rest x x₀ i v e =
+    drop-set-lt (i + 1) x i v (omega arith) ∙ sym (drop-drop 1 i x) ∙ ap (drop 1) e ∙ drop-drop 1 i x₀
+
+pub copied_all : (x w x₀ : List ℕ) (i : ℕ) → length w ≤ i → i ≤ length w → take i x ≡ take i w → drop i x ≡ drop i x₀ → x ≡ w ++ drop (length w) x₀
+copied_all x w x₀ i h g a b =
+    let e : i ≡ length w = omega arith in
+    sym (take-append-drop i x) ∙ ap₂ (λ (y z : List ℕ). y ++ z) (a ∙ take_all i w h) (b ∙ ap (λ (z : ℕ). drop z x₀) e)
+
 -- the part after the copy has the parity's length; in its place the parity makes the encoded word
 pub rest_length : (w x₀ : List ℕ) (x : List ℕ) → length w ≤ length x₀ → x ≡ w ++ drop (length w) x₀ → length (take (length x - length w) (drop (length w) x)) ≡ length x₀ - length w
 rest_length w x₀ x h e =

@@ -21,7 +21,13 @@ use Rattle.ldpc_encode.proofs.Rows.{at_mod, at_lt, ones_append}
 pub at_next : (q l i c : ℕ) → c ≡ l + i * q → c + q ≡ l + (i + 1) * q
 at_next q l i c e = omega arith
 
+pub at_fits : (q l i c : ℕ) → l < q → q ≤ 120 → i < 374 → c ≡ l + i * q → (c < 374 * q) × (c + q ≤ 45000)
+at_fits q l i c h g k e = let a = at_lt q l i h k in (omega arith, omega arith)
+
 -- ---- scattering
+pub scatter_start : (q l : ℕ) (x out : List ℕ) → Scattered 0 q l x out out
+scatter_start q l x out = record { long = refl; put = λ i h. absurd (omega arith); kept = λ c h. refl }
+
 pub scatter_again : (q l : ℕ) (x out out' : List ℕ) (i c : ℕ) → l < q → i < 374 → length out ≡ 374 * q → c ≡ l + i * q → Scattered i q l x out out'
     → Scattered (i + 1) q l x out (set out' c (get_or x i 0 % 2))
 scatter_again q l x out out' i c hl hi lo e S =
@@ -53,6 +59,9 @@ count_next q l x p i c s r b e f g h = ap₂ (λ (y z : ℕ). y + z) f bit ∙ s
 -- ---- the residues, for the parity: those below l are done
 abbrev pub Done : ℕ → ℕ → List ℕ → (ℕ → ℕ) → Type 0
 Done q l out f = (c : ℕ) → c < 374 * q → c % q < l → get_or out c 0 ≡ f c % 2
+
+pub done_start : (q : ℕ) (out : List ℕ) (f : ℕ → ℕ) → Done q 0 out f
+done_start q out f c h g = absurd (omega arith)
 
 pub done_again : (q l : ℕ) (x out out' : List ℕ) (f : ℕ → ℕ) → l < q → Scattered 374 q l x out out' → ((i : ℕ) → i < 374 → get_or x i 0 % 2 ≡ f (l + i * q) % 2)
     → Done q l out f → Done q (l + 1) out' f
@@ -164,3 +173,6 @@ module _ (n : ℕ) (lens addrs : List ℕ) (e : code_refusal n lens addrs ≡ 0)
 -- ---- a fresh array of sums
 pub from_zeros : (x : List ℕ) (f : ℕ → ℕ) → AddedToSums (replicate 374 0) x f → (i : ℕ) → i < 374 → get_or x i 0 % 2 ≡ f i % 2
 from_zeros x f a i h = a.sum i h ∙ ap (λ (z : ℕ). (z + f i) % 2) (get_or-replicate 374 i 0 0 h) ∙ ap (λ (z : ℕ). z % 2) (zero-add (f i))
+
+pub scatter_end : (q l : ℕ) (x out out' : List ℕ) (i : ℕ) → i ≡ 374 → Scattered i q l x out out' → Scattered 374 q l x out out'
+scatter_end q l x out out' i e S = subst (λ (z : ℕ). Scattered z q l x out out') e S

@@ -3,13 +3,31 @@ use mathlib.Core.Path.{◌≡◌, refl, sym, ap, ap₂, ◌∙◌, subst}
 use mathlib.Core.List.{List, [], ◌∷◌, ◌++◌, append_assoc}
 use Prim.Native.Nat.{ℕ, zero, suc, ◌+◌, ◌-◌, ◌*◌, ◌%◌, ◌≤◌, ◌<◌}
 use native.Mathlib.Omega.{arith}
-use native.Mathlib.Nat.{mod-lt, le_refl}
-use lib.ListN.{length, take, drop, get_or, take-append-drop}
+use native.Mathlib.Nat.{mod-lt, mul-le-mul, le_refl}
+use lib.ListN.{length, take, drop, get_or, length-take, length-drop, take-append-drop}
 use lib.Seq.{drop-cons, drop-length, drop-drop, take-suc, take-length}
 use Rattle.ldpc_shape.specs.Shape.{rows_of, total}
 use Rattle.ldpc_edges.specs.Code.{Edge, edge, met, of_bits, of_rows}
 use Rattle.ldpc_edges.proofs.Inside.{met_inside, bits_inside, rows_inside, rows_next}
-use Rattle.ldpc_lists.specs.Build.{Lists, Ready, put, put_all, put_all_append, RoomForEdges, room_next, room_later, room_then}
+use Rattle.ldpc_lists.specs.Build.{Lists, parts, Ready, put, put_all, put_all_append, put_bits_length, put_at_length, RoomForEdges, room_next, room_later, room_then}
+
+pub shift_fits : (j q : ℕ) → j < 374 → q ≤ 120 → j * q ≤ 44880
+shift_fits j q h g = mul-le-mul {n₂ = 374} {m₂ = 120} (omega arith) g
+
+-- filling keeps the slice's length
+pub same_parts : (base : ℕ) (xs ys : List ℕ) (es : List Edge) → parts base ys ≡ put_all es (parts base xs) → length ys ≡ length xs
+same_parts base xs ys es e =
+    omega (
+      arith,
+      ap (λ (z : Lists). length z.bits) e,
+      put_bits_length es (parts base xs),
+      ap (λ (z : Lists). length z.at) e,
+      put_at_length es (parts base xs),
+      length-drop base xs,
+      length-drop base ys,
+      length-take base xs,
+      length-take base ys,
+    )
 
 -- ---- one bit
 met_append : (P q m j : ℕ) (xs ys : List ℕ) → met P q m j (xs ++ ys) ≡ met P q m j xs ++ met P q m j ys
@@ -47,6 +65,9 @@ pub met_again : (P q m j : ℕ) (row : List ℕ) (i p : ℕ) (L L' st : Lists) �
 unfolding put_all
 met_again P q m j row i p L L' st h g e l k =
     k ∙ ap₂ (λ (z : ℕ) (y : Lists). put z m y) e l ∙ ap (λ (es : List Edge). put_all es st) (sym (met_next P q m j row i h g))
+
+pub met_end : (P q m j : ℕ) (row : List ℕ) (i : ℕ) (L st : Lists) → i ≤ 0 → L ≡ put_all (met P q m j (drop i row)) st → L ≡ put_all (met P q m j row) st
+met_end P q m j row i L st h l = let e : i ≡ 0 = omega arith in l ∙ ap (λ (z : ℕ). put_all (met P q m j (drop z row)) st) e
 
 -- ---- a row
 bits_append : (P q d e m j : ℕ) (row : List ℕ) → of_bits P q (d + e) m j row ≡ of_bits P q d m j row ++ of_bits P q e (m + d) (j + d) row
@@ -99,6 +120,12 @@ pub bits_again : (P q f j m : ℕ) (row : List ℕ) (L L' st : Lists) → 0 < j 
 bits_again P q f j m row L L' st h g e l k =
     k ∙ ap (put_all (met P q (m - 1) (j - 1) row)) l ∙ sym (put_all_append (met P q (m - 1) (j - 1) row) (of_bits P q (374 - j) (f + j) j row) st)
     ∙ ap (λ (es : List Edge). put_all es st) (sym (bits_next P q f j m row h g e))
+
+pub bits_end : (P q f j : ℕ) (row : List ℕ) (L st : Lists) → j ≤ 0 → L ≡ put_all (of_bits P q (374 - j) (f + j) j row) st → L ≡ put_all (of_bits P q 374 f 0 row) st
+bits_end P q f j row L st h l =
+    let e : j ≡ 0 = omega arith in
+    let y : f + 0 ≡ f = omega arith in
+    l ∙ ap (λ (z : ℕ). put_all (of_bits P q (374 - z) (f + z) z row) st) e ∙ ap (λ (z : ℕ). put_all (of_bits P q 374 z 0 row) st) y
 
 -- ---- all rows
 -- how many addresses come before row g

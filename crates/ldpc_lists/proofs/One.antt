@@ -3,7 +3,7 @@ use mathlib.Core.Path.{◌≡◌, sym, ap, ap₂, ◌∙◌}
 use mathlib.Core.List.{List}
 use Prim.Native.Nat.{ℕ, ◌+◌, ◌-◌, ◌≤◌, ◌<◌}
 use native.Mathlib.Omega.{arith}
-use lib.ListN.{length, take, drop, get_or, set, length-take}
+use lib.ListN.{length, take, drop, get_or, set, length-take, length-drop}
 use lib.Seq.{take-set-le, take-set-lt, drop-set-lt, drop-set-add, get_or-take}
 use Rattle.ldpc_lists.specs.Build.{Lists, parts, Ready, put}
 
@@ -13,6 +13,15 @@ module _ (xs : List ℕ) (base p : ℕ) (h : (base ≤ length xs) × Ready p (pa
 
   cursor : get_or (take base xs) p 0 ≡ get_or xs p 0
   cursor = get_or-take base xs p 0 below
+
+  pub one_start : p < length xs
+  one_start = omega (arith, h.0, below)
+
+  pub one_left : 0 < get_or xs p 0
+  one_left = omega (arith, h.1.1, cursor)
+
+  pub one_place : (s : ℕ) → s ≡ get_or xs p 0 - 1 → base + s < length xs
+  one_place s e = omega (arith, h.0, h.1.1, h.1.2, cursor, length-drop base xs)
 
   pub one_put : (m s : ℕ) → s ≡ get_or xs p 0 - 1 → parts base (set (set xs p (get_or xs p 0 - 1)) (base + s) m) ≡ put p m (parts base xs)
   unfolding put

@@ -91,3 +91,9 @@ pub stairs_again : (k P c : ℕ) (L L' st : Lists) → 0 < c → c ≤ P → L �
     → L' ≡ put_all (to_stairs k (c - 1) (P - (c - 1))) st
 stairs_again k P c L L' st h g l m =
     m ∙ ap (put_all (to_bits (c - 1) (stairs k (c - 1)))) l ∙ sym (put_all_append _ _ st) ∙ ap (λ (es : List Edge). put_all es st) (sym (stairs_next k P c h g))
+
+pub stairs_end : (k P c : ℕ) (L st : Lists) → c ≤ 0 → L ≡ put_all (to_stairs k c (P - c)) st → L ≡ put_all (to_stairs k 0 P) st
+stairs_end k P c L st h l =
+    let e : c ≡ 0 = omega arith in
+    let x : P - 0 ≡ P = omega arith in
+    l ∙ ap (λ (z : ℕ). put_all (to_stairs k z (P - z)) st) e ∙ ap (λ (z : ℕ). put_all (to_stairs k 0 z) st) x
