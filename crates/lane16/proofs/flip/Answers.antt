@@ -11,9 +11,6 @@ use Rattle.lane16.specs.Lanes.{int_at}
 use Rattle.laws.specs.Stores.{grown}
 use Rattle.lane16.proofs.flip.Goals as goal
 
-pub loop-i-init : goal.loop-i-init
-loop-i-init c = (search rules, (refl, λ k q. absurd (omega (arith, q))))
-
 pub loop-i-preserved : goal.loop-i-preserved
 loop-i-preserved c = (
   search rules,
@@ -23,10 +20,7 @@ loop-i-preserved c = (
         c.loop-i.v c.loop-i.i _ (omega arith) c.loop-i.invariant.1.1
         (ap negative (plain c.flip.result (sfits_of c.flip.type_inv))
         ∙ c.flip.ensures
-        ∙ (λ j. times (negative (plain (int_at c.args.g c.loop-i.i) (sfits_of c.flip-arg-1.given) j))
-        (negative (plain (int_at c.args.x c.loop-i.i) (sfits_of c.flip-arg-in-loop-i-1.given) j)))),
+        ∙ (λ j. times (negative (plain (int_at c.args.g c.loop-i.i) (search rules) j))
+        (negative (plain (int_at c.args.x c.loop-i.i) (search rules) j)))),
   ),
 )
-
-pub returns : goal.returns
-returns c = record { is = λ k q. c.loop-i.invariant.1.1 k (omega (arith, q)) }

@@ -11,9 +11,6 @@ use Rattle.lane16.specs.ColumnLaws.{column_at}
 use Rattle.lane16.specs.Column.{column}
 use Rattle.lane16.proofs.load.Goals as goal
 
-pub loop-i-init : goal.loop-i-init
-loop-i-init c = (search rules, (refl, λ k q. absurd (omega (arith, q))))
-
 pub loop-i-preserved : goal.loop-i-preserved
 loop-i-preserved c = (
   search rules,
@@ -21,10 +18,7 @@ loop-i-preserved c = (
     simp length-set (omega arith),
     grown (pos 0) (λ (k : ℕ) (y : ℤ). y ≡ column c.args.lanes c.args.work.now (c.args.at + k) c.args.u) c.loop-i.x c.loop-i.i _
         (omega arith) c.loop-i.invariant.1.1
-        (plain (get_or c.args.work.now (c.args.u * c.args.lanes + c.args.at + c.loop-i.i) (pos 0)) (sfits_of c.x-1.given)
+        (plain (get_or c.args.work.now (c.args.u * c.args.lanes + c.args.at + c.loop-i.i) (pos 0)) (search rules)
         ∙ column_at c.args.lanes c.args.work.now c.args.u c.args.at c.loop-i.i),
   ),
 )
-
-pub returns : goal.returns
-returns c = λ k q. c.loop-i.invariant.1.1 k (omega (arith, q))

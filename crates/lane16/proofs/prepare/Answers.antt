@@ -19,21 +19,6 @@ use Rattle.lane16.proofs.prepare.Goals as goal
 small : (o x : ℤ) (m : ℕ) → x ≡ reduced o m → nat_abs x < 128
 small o x m e = subst (λ (y : ℤ). nat_abs y < 128) (sym e) (reduced_small false o m)
 
-pub loop-i-init : goal.loop-i-init
-loop-i-init c =
-    record {
-      in_range = search rules;
-      long = (refl, refl, refl);
-      least_is = λ k q. absurd (omega (arith, q));
-      m1_is = λ k q. absurd (omega (arith, q));
-      m2_is = λ k q. absurd (omega (arith, q));
-    }
-
-pub signed-requires : goal.signed-requires
-signed-requires c =
-    small (to_z w8 (of_z w8 c.args.offset)) _ (min (nat_at c.args.st.min1 c.loop-i.i) 127)
-    (plain c.reduce.result (sfits_of c.reduce.type_inv) ∙ c.reduce.ensures)
-
 pub signed-requires-in-loop-i : goal.signed-requires-in-loop-i
 signed-requires-in-loop-i c =
     small (to_z w8 (of_z w8 c.args.offset)) _ (min (nat_at c.args.st.min2 c.loop-i.i) 127)
@@ -42,7 +27,7 @@ signed-requires-in-loop-i c =
 pub loop-i-preserved : goal.loop-i-preserved
 loop-i-preserved c =
     let o = to_z w8 (of_z w8 c.args.offset) in
-    let s_is = plain (int_at c.args.st.sign c.loop-i.i) (sfits_of c.s-1.given) in
+    let s_is = plain (int_at c.args.st.sign c.loop-i.i) (search rules) in
     let r1 = plain c.reduce.result (sfits_of c.reduce.type_inv) ∙ c.reduce.ensures in
     let r2 = plain c.reduce-in-loop-i.result (sfits_of c.reduce-in-loop-i.type_inv) ∙ c.reduce-in-loop-i.ensures in
     record {
@@ -64,12 +49,3 @@ loop-i-preserved c =
           ∙ c.signed-in-loop-i.ensures
           ∙ (λ j. signed (negative (s_is j)) (r2 j)));
     }
-
-pub returns : goal.returns
-returns c =
-    readied_to (plain c.args.offset c.ranges.offset)
-    (record {
-      least_is = λ k q. c.loop-i.invariant.least_is k (omega (arith, q));
-      r1 = record { is = λ k q. c.loop-i.invariant.m1_is k (omega (arith, q)) };
-      r2 = record { is = λ k q. c.loop-i.invariant.m2_is k (omega (arith, q)) };
-    })

@@ -14,30 +14,10 @@ use Rattle.lane16.specs.Lanes.{int_at, nat_at}
 use Rattle.laws.specs.Stores.{grown}
 use Rattle.lane16.proofs.reply.Goals as goal
 
-pub loop-i-init : goal.loop-i-init
-loop-i-init c =
-    record {
-      in_range = search rules;
-      long = (refl, refl);
-      message_is = λ k q. absurd (omega (arith, q));
-      value_is = λ k q. absurd (omega (arith, q));
-    }
-
-pub reply-q-requires : goal.reply-q-requires
-reply-q-requires c =
-    record {
-      m1_bound =
-          rw (plain (int_at c.args.ready.m1 c.loop-i.i) (sfits_of c.reply-arg-in-loop-i-1.given))
-          (c.requires.0.is c.loop-i.i (omega arith));
-      m2_bound =
-          rw (plain (int_at c.args.ready.m2 c.loop-i.i) (sfits_of c.reply-arg-in-loop-i-2-1.given))
-          (c.requires.1.is c.loop-i.i (omega arith));
-    }
-
 pub loop-i-preserved : goal.loop-i-preserved
 loop-i-preserved c =
     let x_is : to_z w8 (of_z w8 (int_at c.args.t c.loop-i.i)) ≡ int_at c.args.t c.loop-i.i =
-    plain (int_at c.args.t c.loop-i.i) (sfits_of c.x-1.given) in
+    plain (int_at c.args.t c.loop-i.i) (search rules) in
     let qZ : ℤ =
     replied (int_at c.args.t c.loop-i.i) (nat_at c.args.ready.least c.loop-i.i) (int_at c.args.ready.m1 c.loop-i.i)
     (int_at c.args.ready.m2 c.loop-i.i) in
@@ -45,8 +25,8 @@ loop-i-preserved c =
     plain c.reply-q.result (sfits_of c.reply-q.type_inv)
     ∙ c.reply-q.ensures
     ∙ (λ j. replied (x_is j) (nat_at c.args.ready.least c.loop-i.i)
-    (plain (int_at c.args.ready.m1 c.loop-i.i) (sfits_of c.reply-arg-in-loop-i-1.given) j)
-    (plain (int_at c.args.ready.m2 c.loop-i.i) (sfits_of c.reply-arg-in-loop-i-2-1.given) j)) in
+    (plain (int_at c.args.ready.m1 c.loop-i.i) (search rules) j)
+    (plain (int_at c.args.ready.m2 c.loop-i.i) (search rules) j)) in
     record {
       in_range = search rules;
       long = (simp length-set (omega arith), simp length-set (omega arith));
@@ -61,11 +41,4 @@ loop-i-preserved c =
           x ≡ sat_z (int_at c.args.t k +ℤ replied (int_at c.args.t k) (nat_at c.args.ready.least k) (int_at c.args.ready.m1 k) (int_at c.args.ready.m2 k)))
           c.loop-i.y c.loop-i.i _ (omega arith) c.loop-i.invariant.value_is
           (plain c.sat_add.result (sfits_of c.sat_add.type_inv) ∙ c.sat_add.ensures ∙ (λ j. sat_z (x_is j +ℤ q_is j)));
-    }
-
-pub returns : goal.returns
-returns c =
-    record {
-      message_is = λ k q. c.loop-i.invariant.message_is k (omega (arith, q));
-      value_is = λ k q. c.loop-i.invariant.value_is k (omega (arith, q));
     }

@@ -14,20 +14,6 @@ use Rattle.lane16.specs.Lanes.{int_at, nat_at}
 use Rattle.laws.specs.Stores.{grown, kept}
 use Rattle.lane16.proofs.scan.Goals as goal
 
-pub loop-i-init : goal.loop-i-init
-loop-i-init c =
-    record {
-      in_range = search rules;
-      long = (search rules, search rules, search rules, refl);
-      t_is = λ k q. absurd (omega (arith, q));
-      min1_is = λ k q. absurd (omega (arith, q));
-      min2_is = λ k q. absurd (omega (arith, q));
-      sign_is = λ k q. absurd (omega (arith, q));
-      min1_kept = λ k q. refl;
-      min2_kept = λ k q. refl;
-      sign_kept = λ k q. refl;
-    }
-
 pub loop-i-preserved : goal.loop-i-preserved
 loop-i-preserved c =
     let tZ : ℤ = sat_z (int_at c.args.lv c.loop-i.i -ℤ int_at c.args.rv c.loop-i.i) in
@@ -35,8 +21,8 @@ loop-i-preserved c =
     plain c.sat_sub-x.result (sfits_of c.sat_sub-x.type_inv)
     ∙ c.sat_sub-x.ensures
     ∙ (λ i. sat_z
-    (plain (int_at c.args.lv c.loop-i.i) (sfits_of c.sat_sub-arg-1.given) i -ℤ plain (int_at c.args.rv c.loop-i.i)
-    (sfits_of c.sat_sub-arg-in-loop-i-1.given) i)) in
+    (plain (int_at c.args.lv c.loop-i.i) (search rules) i -ℤ plain (int_at c.args.rv c.loop-i.i)
+    (search rules) i)) in
     let a_is : c.mag-a.result ≡ nat_abs tZ = c.mag-a.ensures ∙ ap nat_abs x_is in
     let m1 : ℕ = nat_at c.args.st.min1 c.loop-i.i in
     let min1_step : (c.minu-in-loop-i.result ≡ min m1 (nat_abs tZ)) =
@@ -51,7 +37,7 @@ loop-i-preserved c =
     ∙ c.flip.ensures
     ∙ (λ i. times
     (negative
-    ((plain (int_at c.loop-i.sign c.loop-i.i) (sfits_of c.flip-arg-1.given)
+    ((plain (int_at c.loop-i.sign c.loop-i.i) (search rules)
     ∙ c.loop-i.invariant.sign_kept c.loop-i.i (omega arith)) i)) (negative (x_is i))) in
     record {
       in_range = search rules;
@@ -81,13 +67,4 @@ loop-i-preserved c =
       min1_kept = kept 0 c.loop-i.min1 c.args.st.min1 c.loop-i.i _ c.loop-i.invariant.min1_kept;
       min2_kept = kept 0 c.loop-i.min2 c.args.st.min2 c.loop-i.i _ c.loop-i.invariant.min2_kept;
       sign_kept = kept (pos 0) c.loop-i.sign c.args.st.sign c.loop-i.i _ c.loop-i.invariant.sign_kept;
-    }
-
-pub returns : goal.returns
-returns c =
-    record {
-      t_is = λ k q. c.loop-i.invariant.t_is k (omega (arith, q));
-      min1_is = λ k q. c.loop-i.invariant.min1_is k (omega (arith, q));
-      min2_is = λ k q. c.loop-i.invariant.min2_is k (omega (arith, q));
-      sign_is = λ k q. c.loop-i.invariant.sign_is k (omega (arith, q));
     }

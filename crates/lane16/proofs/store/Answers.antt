@@ -9,14 +9,11 @@ use Rattle.lane16.specs.Lanes.{int_at}
 use Rattle.lane16.specs.ColumnLaws.{storing_start, storing_again, storing_end}
 use Rattle.lane16.proofs.store.Goals as goal
 
-pub loop-i-init : goal.loop-i-init
-loop-i-init c = (search rules, storing_start (c.args.u * c.args.lanes + c.args.at) c.args.x c.args.work.now)
-
 pub loop-i-preserved : goal.loop-i-preserved
 loop-i-preserved c = (
   search rules,
   storing_again _ c.loop-i.invariant.1 (omega arith) (simp length-set) refl
-      (plain (int_at c.args.x c.loop-i.i) (sfits_of c.work-1.given)),
+      (plain (int_at c.args.x c.loop-i.i) (search rules)),
 )
 
 pub returns : goal.returns

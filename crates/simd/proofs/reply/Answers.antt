@@ -18,41 +18,6 @@ loop-k-init c = (
   ),
 )
 
-pub load-x-requires : goal.load-x-requires
-load-x-requires c = omega (arith, c.requires.w_bound.1.1, c.requires.check_memory.degree, c.loop-k-test.true)
-
-pub reply-p-requires : goal.reply-p-requires
-reply-p-requires c = c.requires.small
-
-pub store_lanes-requires : goal.store_lanes-requires
-store_lanes-requires c =
-    let edge_in : (c.args.s + c.loop-k.k < length c.args.rows.now) =
-    omega (arith, c.requires.check_memory.edges, c.loop-k-test.true) in
-    record {
-      lanes_in_bounds =
-          omega (
-            arith,
-            row_room c.requires.check_memory (c.args.n + (c.args.s + c.loop-k.k)) (omega (arith, edge_in)),
-            c.loop-k.invariant.1.0,
-          );
-      w_bound = (c.requires.w_bound.0, c.requires.w_bound.1.0);
-    }
-
-pub store_lanes-requires-in-loop-k : goal.store_lanes-requires-in-loop-k
-store_lanes-requires-in-loop-k c =
-    let q : c.variable-v.result < c.args.n =
-    omega (arith, c.variable-v.ensures, value_row c.requires.check_memory c.loop-k.k c.loop-k-test.true) in
-    record {
-      lanes_in_bounds =
-          omega (
-            arith,
-            row_room c.requires.check_memory c.variable-v.result (omega arith),
-            c.store_lanes.auto,
-            c.loop-k.invariant.1.0,
-          );
-      w_bound = (c.requires.w_bound.0, c.requires.w_bound.1.0);
-    }
-
 pub loop-k-preserved : goal.loop-k-preserved
 loop-k-preserved c = (
   omega (arith, c.loop-k-test.true),
@@ -62,6 +27,3 @@ loop-k-preserved c = (
         c.store_lanes.ensures c.store_lanes-in-loop-k.ensures,
   ),
 )
-
-pub returns : goal.returns
-returns c = replied_end (omega arith) c.loop-k.invariant.1.1

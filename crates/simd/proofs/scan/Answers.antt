@@ -20,27 +20,6 @@ loop-k-init c = (
   ),
 )
 
-pub load-lv-requires : goal.load-lv-requires
-load-lv-requires c =
-    let v : c.variable-v.result < c.args.n =
-    omega (arith, c.variable-v.ensures, value_row c.requires.check_memory c.loop-k.k c.loop-k-test.true) in
-    load_room c.requires.check_memory c.variable-v.result c.args.at (omega arith) c.requires.at_lt_lanes.0
-
-pub load-rv-requires : goal.load-rv-requires
-load-rv-requires c =
-    let edge_in : (c.args.s + c.loop-k.k < length c.args.rows.now) =
-    omega (arith, c.requires.check_memory.edges, c.loop-k-test.true) in
-    load_room c.requires.check_memory (c.args.n + (c.args.s + c.loop-k.k)) c.args.at (omega (arith, edge_in))
-    c.requires.at_lt_lanes.0
-
-pub store-requires : goal.store-requires
-store-requires c =
-    record {
-      lanes_in_bounds =
-          omega (arith, c.loop-k.invariant.1.0, c.requires.at_lt_lanes.1, c.requires.check_memory.degree, c.loop-k-test.true);
-      w_bound = (omega arith, omega arith);
-    }
-
 pub loop-k-preserved : goal.loop-k-preserved
 loop-k-preserved c = (
   omega (arith, c.loop-k-test.true),
@@ -49,6 +28,3 @@ loop-k-preserved c = (
     scan_again c.loop-k.invariant.1.1 c.variable-v.ensures c.load-lv.ensures c.load-rv.ensures c.scan-st.ensures c.store.ensures,
   ),
 )
-
-pub returns : goal.returns
-returns c = scan_end (omega arith) c.loop-k.invariant.1.1

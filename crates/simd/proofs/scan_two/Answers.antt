@@ -25,53 +25,6 @@ loop-k-init c = (
   ),
 )
 
-pub load-lv-requires : goal.load-lv-requires
-load-lv-requires c =
-    let value_in : c.variable-v.result < c.args.n =
-    omega (arith, c.variable-v.ensures, value_row c.requires.check_memory c.loop-k.k c.loop-k-test.true) in
-    load_room c.requires.check_memory c.variable-v.result c.args.at (omega (arith, value_in))
-    (omega (arith, c.requires.at_bound.0))
-
-pub load-rv-requires : goal.load-rv-requires
-load-rv-requires c =
-    let edge_in : (c.args.s + c.loop-k.k < length c.args.rows.now) =
-    omega (arith, c.requires.check_memory.edges, c.loop-k-test.true) in
-    load_room c.requires.check_memory (c.args.n + (c.args.s + c.loop-k.k)) c.args.at (omega (arith, edge_in))
-    (omega (arith, c.requires.at_bound.0))
-
-pub load-lw-requires : goal.load-lw-requires
-load-lw-requires c =
-    let value_in : c.variable-v.result < c.args.n =
-    omega (arith, c.variable-v.ensures, value_row c.requires.check_memory c.loop-k.k c.loop-k-test.true) in
-    load_room c.requires.check_memory c.variable-v.result (c.args.at + 16) (omega (arith, value_in))
-    (omega (arith, c.requires.at_bound.0))
-
-pub load-rw-requires : goal.load-rw-requires
-load-rw-requires c =
-    let edge_in : (c.args.s + c.loop-k.k < length c.args.rows.now) =
-    omega (arith, c.requires.check_memory.edges, c.loop-k-test.true) in
-    load_room c.requires.check_memory (c.args.n + (c.args.s + c.loop-k.k)) (c.args.at + 16) (omega (arith, edge_in))
-    (omega (arith, c.requires.at_bound.0))
-
-pub store-requires : goal.store-requires
-store-requires c =
-    record {
-      lanes_in_bounds =
-          omega (arith, c.loop-k.invariant.1.0.0, c.requires.at_bound.1.0, c.requires.check_memory.degree, c.loop-k-test.true);
-      w_bound = (omega arith, omega arith);
-    }
-
-pub store-requires-in-loop-k : goal.store-requires-in-loop-k
-store-requires-in-loop-k c =
-    record {
-      lanes_in_bounds =
-          omega (arith, c.loop-k.invariant.1.0.1, c.requires.at_bound.1.1, c.requires.check_memory.degree, c.loop-k-test.true);
-      w_bound = (omega arith, omega arith);
-    }
-
-pub loop-k-smaller : goal.loop-k-smaller
-loop-k-smaller c = omega (arith, c.loop-k-test.true)
-
 pub loop-k-preserved : goal.loop-k-preserved
 loop-k-preserved c = (
   omega (arith, c.loop-k-test.true),
@@ -85,6 +38,3 @@ loop-k-preserved c = (
     ),
   ),
 )
-
-pub returns : goal.returns
-returns c = (scan_end (omega arith) c.loop-k.invariant.1.1.0, scan_end (omega arith) c.loop-k.invariant.1.1.1)

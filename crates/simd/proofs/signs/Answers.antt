@@ -15,15 +15,6 @@ loop-k-init c = (
       (λ k q. get_or-replicate 16 k (pos 0) (pos 0) q),
 )
 
-pub load-x-requires : goal.load-x-requires
-load-x-requires c =
-    let v : c.variable-v.result < c.args.n =
-    omega (arith, c.variable-v.ensures, value_row c.requires.0 c.loop-k.k c.loop-k-test.true) in
-    load_room c.requires.0 c.variable-v.result c.args.at (omega arith) c.requires.1
-
 pub loop-k-preserved : goal.loop-k-preserved
 loop-k-preserved c =
     (omega (arith, c.loop-k-test.true), signs_again c.loop-k.invariant.1 c.variable-v.ensures c.load-x.ensures c.flip-y.ensures)
-
-pub returns : goal.returns
-returns c = signs_end (omega arith) c.loop-k.invariant.1
