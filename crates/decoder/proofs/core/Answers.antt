@@ -13,20 +13,58 @@ use Rattle.decoder.proofs.core.Goals as goal
 
 pub returns-then-number-ne0 : goal.returns-then-number-ne0
 unfolding run_refusal
-returns-then-number-ne0 c = refused_so c.args.n c.args.lens.now c.args.addrs.now c.args.soft.now c.args.set c.args.out.now c.args.records.now c.args.work.now c.args.lists.now _ _ c.refused.ensures ((let h1 : (c.refusal-number.result ≡ run_refusal c.args.n c.args.lens.now c.args.addrs.now c.args.soft.now c.args.set (length c.args.records.now / fields) c.args.out.now c.args.work.now c.args.lists.now) = c.refusal-number.ensures in h1)) c.if-number-ne0.true
+returns-then-number-ne0 c =
+    let number_is :
+    c.refusal-number.result ≡ run_refusal c.args.n c.args.lens.now c.args.addrs.now c.args.soft.now c.args.set (length c.args.records.now / fields) c.args.out.now c.args.work.now c.args.lists.now =
+    c.refusal-number.ensures in
+    refused_so c.args.n c.args.lens.now c.args.addrs.now c.args.soft.now c.args.set c.args.out.now c.args.records.now c.args.work.now c.args.lists.now
+    _ _ c.refused.ensures number_is c.if-number-ne0.true
 
 pub sizes_of-sizes-requires : goal.sizes_of-sizes-requires
 unfolding run_refusal
-sizes_of-sizes-requires c = (fine c.args.n c.args.lens.now c.args.addrs.now c.args.soft.now c.args.set c.args.out.now c.args.records.now c.args.work.now c.args.lists.now ((let h3 : (run_refusal c.args.n c.args.lens.now c.args.addrs.now c.args.soft.now c.args.set (length c.args.records.now / fields) c.args.out.now c.args.work.now c.args.lists.now ≡ 0) = sym ((let h2 : (c.refusal-number.result ≡ run_refusal c.args.n c.args.lens.now c.args.addrs.now c.args.soft.now c.args.set (length c.args.records.now / fields) c.args.out.now c.args.work.now c.args.lists.now) = c.refusal-number.ensures in h2)) ∙ c.if-number-ne0.false in h3))).code
+sizes_of-sizes-requires c =
+    let number_is :
+    c.refusal-number.result ≡ run_refusal c.args.n c.args.lens.now c.args.addrs.now c.args.soft.now c.args.set (length c.args.records.now / fields) c.args.out.now c.args.work.now c.args.lists.now =
+    c.refusal-number.ensures in
+    let none :
+    run_refusal c.args.n c.args.lens.now c.args.addrs.now c.args.soft.now c.args.set (length c.args.records.now / fields) c.args.out.now c.args.work.now c.args.lists.now ≡ 0 =
+    sym number_is ∙ c.if-number-ne0.false in
+    (fine c.args.n c.args.lens.now c.args.addrs.now c.args.soft.now c.args.set c.args.out.now c.args.records.now c.args.work.now c.args.lists.now none).code
 
 pub plan_of-plan-requires : goal.plan_of-plan-requires
 unfolding run_refusal
-plan_of-plan-requires c = omega (arith, n_some c.args.n c.args.lens.now c.args.addrs.now c.args.soft.now c.args.set c.args.out.now c.args.records.now c.args.work.now c.args.lists.now ((let h5 : (run_refusal c.args.n c.args.lens.now c.args.addrs.now c.args.soft.now c.args.set (length c.args.records.now / fields) c.args.out.now c.args.work.now c.args.lists.now ≡ 0) = sym ((let h4 : (c.refusal-number.result ≡ run_refusal c.args.n c.args.lens.now c.args.addrs.now c.args.soft.now c.args.set (length c.args.records.now / fields) c.args.out.now c.args.work.now c.args.lists.now) = c.refusal-number.ensures in h4)) ∙ c.if-number-ne0.false in h5)), ap (λ (of : Sizes). of.n) c.sizes_of-sizes.ensures)
+plan_of-plan-requires c =
+    let number_is :
+    c.refusal-number.result ≡ run_refusal c.args.n c.args.lens.now c.args.addrs.now c.args.soft.now c.args.set (length c.args.records.now / fields) c.args.out.now c.args.work.now c.args.lists.now =
+    c.refusal-number.ensures in
+    let none :
+    run_refusal c.args.n c.args.lens.now c.args.addrs.now c.args.soft.now c.args.set (length c.args.records.now / fields) c.args.out.now c.args.work.now c.args.lists.now ≡ 0 =
+    sym number_is ∙ c.if-number-ne0.false in
+    omega (
+      arith,
+      n_some c.args.n c.args.lens.now c.args.addrs.now c.args.soft.now c.args.set c.args.out.now c.args.records.now c.args.work.now
+          c.args.lists.now none,
+      ap (λ (of : Sizes). of.n) c.sizes_of-sizes.ensures,
+    )
 
 pub accepted-requires : goal.accepted-requires
 unfolding run_refusal
-accepted-requires c = planned _ _ _ _ _ _ _ _ _ ((let h7 : (run_refusal c.args.n c.args.lens.now c.args.addrs.now c.args.soft.now c.args.set (length c.args.records.now / fields) c.args.out.now c.args.work.now c.args.lists.now ≡ 0) = sym ((let h6 : (c.refusal-number.result ≡ run_refusal c.args.n c.args.lens.now c.args.addrs.now c.args.soft.now c.args.set (length c.args.records.now / fields) c.args.out.now c.args.work.now c.args.lists.now) = c.refusal-number.ensures in h6)) ∙ c.if-number-ne0.false in h7)) _ _ c.sizes_of-sizes.ensures c.plan_of-plan.ensures
+accepted-requires c =
+    let number_is :
+    c.refusal-number.result ≡ run_refusal c.args.n c.args.lens.now c.args.addrs.now c.args.soft.now c.args.set (length c.args.records.now / fields) c.args.out.now c.args.work.now c.args.lists.now =
+    c.refusal-number.ensures in
+    let none :
+    run_refusal c.args.n c.args.lens.now c.args.addrs.now c.args.soft.now c.args.set (length c.args.records.now / fields) c.args.out.now c.args.work.now c.args.lists.now ≡ 0 =
+    sym number_is ∙ c.if-number-ne0.false in
+    planned _ _ _ _ _ _ _ _ _ none _ _ c.sizes_of-sizes.ensures c.plan_of-plan.ensures
 
 pub returns : goal.returns
 unfolding run_refusal
-returns c = accepted_so _ _ _ _ _ _ _ _ _ ((let h9 : (run_refusal c.args.n c.args.lens.now c.args.addrs.now c.args.soft.now c.args.set (length c.args.records.now / fields) c.args.out.now c.args.work.now c.args.lists.now ≡ 0) = sym ((let h8 : (c.refusal-number.result ≡ run_refusal c.args.n c.args.lens.now c.args.addrs.now c.args.soft.now c.args.set (length c.args.records.now / fields) c.args.out.now c.args.work.now c.args.lists.now) = c.refusal-number.ensures in h8)) ∙ c.if-number-ne0.false in h9)) _ _ c.sizes_of-sizes.ensures c.plan_of-plan.ensures _ _ _ _ _ c.accepted.ensures
+returns c =
+    let number_is :
+    c.refusal-number.result ≡ run_refusal c.args.n c.args.lens.now c.args.addrs.now c.args.soft.now c.args.set (length c.args.records.now / fields) c.args.out.now c.args.work.now c.args.lists.now =
+    c.refusal-number.ensures in
+    let none :
+    run_refusal c.args.n c.args.lens.now c.args.addrs.now c.args.soft.now c.args.set (length c.args.records.now / fields) c.args.out.now c.args.work.now c.args.lists.now ≡ 0 =
+    sym number_is ∙ c.if-number-ne0.false in
+    accepted_so _ _ _ _ _ _ _ _ _ none _ _ c.sizes_of-sizes.ensures c.plan_of-plan.ensures _ _ _ _ _ c.accepted.ensures

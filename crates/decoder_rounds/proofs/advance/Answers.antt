@@ -9,8 +9,17 @@ use Rattle.decoder_lanes.specs.Lane.{memory_of, working_to}
 use Rattle.decoder_rounds.specs.Rounds.{judged, turned_so}
 use Rattle.decoder_rounds.proofs.advance.Goals as goal
 
-enough-sums : {lanes l : ℕ} → lanes ≤ 64 → 23936 ≤ l → 374 * lanes ≤ l
-enough-sums few long = omega (arith, few, long)
+-- the sums that the layered iteration keeps
+enough_sums : {lanes l : ℕ} → lanes ≤ 64 → 23936 ≤ l → 374 * lanes ≤ l
+enough_sums few long = omega (arith, few, long)
 
 pub retire-requires : goal.retire-requires
-retire-requires c = record { working = working_to c.iterate.auto.work c.requires.working.0; room = c.requires.room; sized = c.requires.sized; judged = judged c.args.plan c.args.lists.now _ c.args.at.held _ _ c.requires.working.0.edges c.requires.working.0.stored.fair.few_lanes c.flags.ensures c.met-verdict.ensures }
+retire-requires c =
+    record {
+      working = working_to c.iterate.auto.work c.requires.working.0;
+      room = c.requires.room;
+      sized = c.requires.sized;
+      judged =
+          judged c.args.plan c.args.lists.now _ c.args.at.held _ _ c.requires.working.0.edges c.requires.working.0.stored.fair.few_lanes c.flags.ensures
+          c.met-verdict.ensures;
+    }

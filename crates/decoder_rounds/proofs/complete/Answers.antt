@@ -9,10 +9,17 @@ use Rattle.decoder_rounds.specs.Rounds.{finishes}
 use Rattle.decoder_rounds.proofs.complete.Goals as goal
 
 pub shape_of-out : goal.shape_of-out
-shape_of-out c = ((let h1 : (Same (book c.args.records.now c.args.out.now) (book c.close.new.records c.close.new.out)) = same_on c.rounds-ended.ensures.same c.close.ensures.same in h1)).out
+shape_of-out c =
+    let same : (Same (book c.args.records.now c.args.out.now) (book c.close.new.records c.close.new.out)) =
+    same_on c.rounds-ended.ensures.same c.close.ensures.same in
+    same.out
 
 pub shape_of-records : goal.shape_of-records
-shape_of-records c = ((let h2 : (Same (book c.args.records.now c.args.out.now) (book c.close.new.records c.close.new.out)) = same_on c.rounds-ended.ensures.same c.close.ensures.same in h2)).records
+shape_of-records c =
+    let same : (Same (book c.args.records.now c.args.out.now) (book c.close.new.records c.close.new.out)) =
+    same_on c.rounds-ended.ensures.same c.close.ensures.same in
+    same.records
 
 pub returns : goal.returns
-returns c = finishes _ _ _ _ _ _ _ _ _ _ _ _ _ _ c.requires.once c.requires.given.0.fair.some_lanes c.rounds-ended.ensures c.close.ensures
+returns c =
+    finishes _ _ _ _ _ _ _ _ _ _ _ _ _ _ c.requires.once c.requires.given.0.fair.some_lanes c.rounds-ended.ensures c.close.ensures
