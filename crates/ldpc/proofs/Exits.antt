@@ -22,6 +22,10 @@ use Rattle.ldpc.specs.declared.Written.TheVariants as written
 use Rattle.ldpc.specs.Answers.{or_else, short_of, other_of, beyond_of, in_front, new_refusal, check_refusal, parity_refusal, encode_refusal, weight_refusal, new_answer, check_answer, parity_answer, encode_answer, weight_answer, new_into, check_into, parity_into, encode_into}
 use Rattle.ldpc.specs.AnswersLaws.{or_first, or_next}
 
+-- ---- an answer with its number
+pub with_number : {A X : Type 0} (number : A → ℕ) {a b : A} {f : ℕ} → number b ≡ f → (a ≡ b) × X → ((a ≡ b) × X) × (number a ≡ f)
+with_number number e h = (h, ap number h.0 ∙ e)
+
 -- ---- which number it is
 short : (needed size : ℕ) → size < needed → 13 ≡ short_of needed size
 unfolding short_of
