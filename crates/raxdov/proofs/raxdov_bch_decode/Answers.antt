@@ -1,8 +1,7 @@
 -- `raxdov::raxdov_bch_decode` meets its contract. Assumes nothing.
 use mathlib.Core.List.{List}
-use mathlib.Core.Path.{◌≡◌, sym, ap, ◌∙◌, subst}
+use mathlib.Core.Path.{sym, ap, ◌∙◌, subst}
 use Prim.Native.Nat.{ℕ}
-use borrow.Author.Rules.{rules}
 use Rattle.outcome.specs.Outcome.{lost, bch_result}
 use Rattle.bch.specs.declared.Decoded.{Decoded}
 use Rattle.bch.specs.Answers.{decoded_number, decoded_of, Decodes}

@@ -1,7 +1,6 @@
 -- `raxdov::raxdov_ldpc_sizes` meets its contract. Assumes nothing.
 use mathlib.Core.Path.{◌≡◌, sym, ◌∙◌}
 use native.Mathlib.Omega.{arith}
-use borrow.Author.Rules.{rules}
 use Rattle.ldpc_shape.specs.Shape.{code_refusal}
 use Rattle.ldpc_shape.specs.Accepted.{Bounded}
 use Rattle.raxdov.proofs.Sizes.{sizes_refused, sizes_bounded, lists_small, sizes_accepted}

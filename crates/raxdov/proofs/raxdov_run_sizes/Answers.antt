@@ -1,7 +1,6 @@
 -- `raxdov::raxdov_run_sizes` meets its contract. Assumes nothing.
-use mathlib.Core.Path.{◌≡◌, sym, ◌∙◌}
+use mathlib.Core.Path.{sym, ◌∙◌}
 use native.Mathlib.Omega.{arith}
-use borrow.Author.Rules.{rules}
 use Rattle.raxdov.proofs.Sizes.{sizes_bounded, run_refused, no_lanes, many_lanes, run_sizes}
 use Rattle.raxdov.proofs.raxdov_run_sizes.Goals as goal
 
@@ -33,5 +32,5 @@ lists_need-requires c = sizes_bounded c.args.n c.args.lens.now c.args.addrs.now 
 pub returns : goal.returns
 returns c =
     let t = run_sizes c.args.n c.args.lens.now c.args.addrs.now c.args.lanes c.args.sizes.now (sym c.refusal-number.ensures ∙ c.if-number-ne0.false) c.if-lanes-eq0.false c.if-lanes-gt64.false c.sizes_of-of.result
-            c.work_need-work.result c.lists_need.result c.wide.result c.sizes_of-of.ensures c.wide.ensures c.work_need-work.ensures c.lists_need.ensures in
+    c.work_need-work.result c.lists_need.result c.wide.result c.sizes_of-of.ensures c.wide.ensures c.work_need-work.ensures c.lists_need.ensures in
     record { answer = t.0; sizes = t.1 }

@@ -2,12 +2,11 @@
 use mathlib.Core.List.{List}
 use mathlib.Core.Path.{◌≡◌, sym, ap, ◌∙◌, subst}
 use Prim.Native.Nat.{ℕ}
-use borrow.Author.Rules.{rules}
 use Rattle.decoder_words.specs.declared.Noted.{Noted}
 use Rattle.decoder_words.specs.Fields.{record_at}
 use Rattle.window.specs.declared.Window.{Window}
 use Rattle.window.specs.declared.Pushed.{Pushed}
-use Rattle.window.specs.Push.{pushed_number, pushed_of, ring_out, Afresh, Pushes}
+use Rattle.window.specs.Push.{pushed_number, Afresh, Pushes}
 use Rattle.window.proofs.PushLaws.{now_is}
 use Rattle.raxdov.specs.Numbers.{window_of, handed_of, record_of, window_into}
 use Rattle.raxdov.proofs.raxdov_window_push.Goals as goal
