@@ -15,7 +15,8 @@ pub returns-then-number-ne0 : goal.returns-then-number-ne0
 unfolding run_refusal
 returns-then-number-ne0 c =
     let number_is :
-    c.refusal-number.result ≡ run_refusal c.args.n c.args.lens.now c.args.addrs.now c.args.soft.now c.args.set (length c.args.records.now / fields) c.args.out.now c.args.work.now c.args.lists.now =
+    c.refusal-number.result ≡ run_refusal c.args.n c.args.lens.now c.args.addrs.now c.args.soft.now c.args.set
+    (length c.args.records.now / fields) c.args.out.now c.args.work.now c.args.lists.now =
     c.refusal-number.ensures in
     refused_so c.args.n c.args.lens.now c.args.addrs.now c.args.soft.now c.args.set c.args.out.now c.args.records.now c.args.work.now c.args.lists.now
     _ _ c.refused.ensures number_is c.if-number-ne0.true
@@ -24,10 +25,12 @@ pub sizes_of-sizes-requires : goal.sizes_of-sizes-requires
 unfolding run_refusal
 sizes_of-sizes-requires c =
     let number_is :
-    c.refusal-number.result ≡ run_refusal c.args.n c.args.lens.now c.args.addrs.now c.args.soft.now c.args.set (length c.args.records.now / fields) c.args.out.now c.args.work.now c.args.lists.now =
+    c.refusal-number.result ≡ run_refusal c.args.n c.args.lens.now c.args.addrs.now c.args.soft.now c.args.set
+    (length c.args.records.now / fields) c.args.out.now c.args.work.now c.args.lists.now =
     c.refusal-number.ensures in
     let none :
-    run_refusal c.args.n c.args.lens.now c.args.addrs.now c.args.soft.now c.args.set (length c.args.records.now / fields) c.args.out.now c.args.work.now c.args.lists.now ≡ 0 =
+    run_refusal c.args.n c.args.lens.now c.args.addrs.now c.args.soft.now c.args.set
+    (length c.args.records.now / fields) c.args.out.now c.args.work.now c.args.lists.now ≡ 0 =
     sym number_is ∙ c.if-number-ne0.false in
     (fine c.args.n c.args.lens.now c.args.addrs.now c.args.soft.now c.args.set c.args.out.now c.args.records.now c.args.work.now c.args.lists.now none).code
 
@@ -35,10 +38,12 @@ pub plan_of-plan-requires : goal.plan_of-plan-requires
 unfolding run_refusal
 plan_of-plan-requires c =
     let number_is :
-    c.refusal-number.result ≡ run_refusal c.args.n c.args.lens.now c.args.addrs.now c.args.soft.now c.args.set (length c.args.records.now / fields) c.args.out.now c.args.work.now c.args.lists.now =
+    c.refusal-number.result ≡ run_refusal c.args.n c.args.lens.now c.args.addrs.now c.args.soft.now c.args.set
+    (length c.args.records.now / fields) c.args.out.now c.args.work.now c.args.lists.now =
     c.refusal-number.ensures in
     let none :
-    run_refusal c.args.n c.args.lens.now c.args.addrs.now c.args.soft.now c.args.set (length c.args.records.now / fields) c.args.out.now c.args.work.now c.args.lists.now ≡ 0 =
+    run_refusal c.args.n c.args.lens.now c.args.addrs.now c.args.soft.now c.args.set
+    (length c.args.records.now / fields) c.args.out.now c.args.work.now c.args.lists.now ≡ 0 =
     sym number_is ∙ c.if-number-ne0.false in
     omega (
       arith,
@@ -51,10 +56,12 @@ pub accepted-requires : goal.accepted-requires
 unfolding run_refusal
 accepted-requires c =
     let number_is :
-    c.refusal-number.result ≡ run_refusal c.args.n c.args.lens.now c.args.addrs.now c.args.soft.now c.args.set (length c.args.records.now / fields) c.args.out.now c.args.work.now c.args.lists.now =
+    c.refusal-number.result ≡ run_refusal c.args.n c.args.lens.now c.args.addrs.now c.args.soft.now c.args.set
+    (length c.args.records.now / fields) c.args.out.now c.args.work.now c.args.lists.now =
     c.refusal-number.ensures in
     let none :
-    run_refusal c.args.n c.args.lens.now c.args.addrs.now c.args.soft.now c.args.set (length c.args.records.now / fields) c.args.out.now c.args.work.now c.args.lists.now ≡ 0 =
+    run_refusal c.args.n c.args.lens.now c.args.addrs.now c.args.soft.now c.args.set
+    (length c.args.records.now / fields) c.args.out.now c.args.work.now c.args.lists.now ≡ 0 =
     sym number_is ∙ c.if-number-ne0.false in
     planned _ _ _ _ _ _ _ _ _ none _ _ c.sizes_of-sizes.ensures c.plan_of-plan.ensures
 
@@ -62,9 +69,11 @@ pub returns : goal.returns
 unfolding run_refusal
 returns c =
     let number_is :
-    c.refusal-number.result ≡ run_refusal c.args.n c.args.lens.now c.args.addrs.now c.args.soft.now c.args.set (length c.args.records.now / fields) c.args.out.now c.args.work.now c.args.lists.now =
+    c.refusal-number.result ≡ run_refusal c.args.n c.args.lens.now c.args.addrs.now c.args.soft.now c.args.set
+    (length c.args.records.now / fields) c.args.out.now c.args.work.now c.args.lists.now =
     c.refusal-number.ensures in
     let none :
-    run_refusal c.args.n c.args.lens.now c.args.addrs.now c.args.soft.now c.args.set (length c.args.records.now / fields) c.args.out.now c.args.work.now c.args.lists.now ≡ 0 =
+    run_refusal c.args.n c.args.lens.now c.args.addrs.now c.args.soft.now c.args.set
+    (length c.args.records.now / fields) c.args.out.now c.args.work.now c.args.lists.now ≡ 0 =
     sym number_is ∙ c.if-number-ne0.false in
     accepted_so _ _ _ _ _ _ _ _ _ none _ _ c.sizes_of-sizes.ensures c.plan_of-plan.ensures _ _ _ _ _ c.accepted.ensures

@@ -48,7 +48,9 @@ overflow_add-b c =
 
 pub changed-changed-requires : goal.changed-changed-requires
 changed-changed-requires c =
-    let out_lent : (length (take (c.args.w * c.args.plan.sizes.n + c.args.plan.sizes.n - c.args.w * c.args.plan.sizes.n) (drop (c.args.w * c.args.plan.sizes.n) c.args.out.now)) ≡ c.args.plan.sizes.n) =
+    let out_lent :
+    length (take (c.args.w * c.args.plan.sizes.n + c.args.plan.sizes.n - c.args.w * c.args.plan.sizes.n) (drop (c.args.w * c.args.plan.sizes.n) c.args.out.now))
+    ≡ c.args.plan.sizes.n =
     middle c.args.plan.sizes.n c.args.w c.args.out.now c.args.plan.words c.requires.fair.1 c.requires.room.out in (
       middle c.args.plan.sizes.n c.args.w c.args.soft.now c.args.plan.words c.requires.fair.1 (omega (arith, c.requires.fair.2)),
       out_lent,
@@ -57,7 +59,9 @@ changed-changed-requires c =
 
 pub finish-result-requires : goal.finish-result-requires
 finish-result-requires c =
-    let out_lent : (length (take (c.args.w * c.args.plan.sizes.n + c.args.plan.sizes.n - c.args.w * c.args.plan.sizes.n) (drop (c.args.w * c.args.plan.sizes.n) c.args.out.now)) ≡ c.args.plan.sizes.n) =
+    let out_lent :
+    length (take (c.args.w * c.args.plan.sizes.n + c.args.plan.sizes.n - c.args.w * c.args.plan.sizes.n) (drop (c.args.w * c.args.plan.sizes.n) c.args.out.now))
+    ≡ c.args.plan.sizes.n =
     middle c.args.plan.sizes.n c.args.w c.args.out.now c.args.plan.words c.requires.fair.1 c.requires.room.out in
     omega (arith, out_lent, c.requires.fair.0.part_within)
 
@@ -71,7 +75,9 @@ note-requires c =
 
 pub returns : goal.returns
 returns c =
-    let out_lent : (length (take (c.args.w * c.args.plan.sizes.n + c.args.plan.sizes.n - c.args.w * c.args.plan.sizes.n) (drop (c.args.w * c.args.plan.sizes.n) c.args.out.now)) ≡ c.args.plan.sizes.n) =
+    let out_lent :
+    length (take (c.args.w * c.args.plan.sizes.n + c.args.plan.sizes.n - c.args.w * c.args.plan.sizes.n) (drop (c.args.w * c.args.plan.sizes.n) c.args.out.now))
+    ≡ c.args.plan.sizes.n =
     middle c.args.plan.sizes.n c.args.w c.args.out.now c.args.plan.words c.requires.fair.1 c.requires.room.out in
     let B : Book = book c.args.records.now c.args.out.now in
     let was : Noted = c.read-was.result in

@@ -1,4 +1,5 @@
--- `decoder_lanes::load` meets its contract. The loop's invariant: values of the fresh lanes below l are loaded, nothing else has changed, and `fresh` says which they are.
+-- `decoder_lanes::load` meets its contract. The loop's invariant: values of the fresh lanes below l are loaded, nothing else has changed, and `fresh`
+-- says which they are.
 -- Assumes nothing.
 use mathlib.Core.Path.{◌≡◌}
 use Prim.Native.Nat.{◌-◌, ◌≤◌}

@@ -9,7 +9,10 @@ use Rattle.decoder_retire.specs.Close.{Closes}
 use Rattle.decoder_retire.proofs.write_held.Given as goal
 
 abbrev pub invariant-loop-l : goal.invariant-loop-l
-invariant-loop-l l = (l.lanes ≡ l.plan.lanes) × (l.l ≤ l.lanes) × Closes (code_by l.plan l.lists) l.plan l.held l.iters (lane_word l.plan l.work) (book l.initial.records l.initial.out) l.l (book l.records l.out)
+invariant-loop-l l =
+    (l.lanes ≡ l.plan.lanes)
+    × (l.l ≤ l.lanes)
+    × Closes (code_by l.plan l.lists) l.plan l.held l.iters (lane_word l.plan l.work) (book l.initial.records l.initial.out) l.l (book l.records l.out)
 
 abbrev pub decreases-loop-l : goal.decreases-loop-l
 decreases-loop-l l = l.lanes - l.l

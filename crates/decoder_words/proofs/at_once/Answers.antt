@@ -30,7 +30,9 @@ soft_met-requires c = own_lent _ _ _ c.requires.0 c.args.w c.requires.1
 
 pub returns-then-soft_met : goal.returns-then-soft_met
 returns-then-soft_met c =
-    let met_is : (met_of (code_by c.args.plan c.args.lists.now) c.args.plan.sizes.p (begin c.args.plan.sizes.n (own_part c.args.plan.sizes.n c.args.w c.args.soft.now)) ≡ c.soft_met.result) =
+    let met_is :
+    met_of (code_by c.args.plan c.args.lists.now) c.args.plan.sizes.p (begin c.args.plan.sizes.n (own_part c.args.plan.sizes.n c.args.w c.args.soft.now))
+    ≡ c.soft_met.result =
     ap₂ (λ (n : ℕ) (r : List ℤ). met_of (code_by c.args.plan c.args.lists.now) c.args.plan.sizes.p (begin n r))
     (sym (own_long _ _ _ c.requires.0 c.args.w c.requires.1)) (sym (own c.args.plan.sizes.n c.args.w c.args.soft.now))
     ∙ sym c.soft_met.ensures in
@@ -38,7 +40,9 @@ returns-then-soft_met c =
 
 pub returns : goal.returns
 returns c =
-    let met_is : (met_of (code_by c.args.plan c.args.lists.now) c.args.plan.sizes.p (begin c.args.plan.sizes.n (own_part c.args.plan.sizes.n c.args.w c.args.soft.now)) ≡ c.soft_met.result) =
+    let met_is :
+    met_of (code_by c.args.plan c.args.lists.now) c.args.plan.sizes.p (begin c.args.plan.sizes.n (own_part c.args.plan.sizes.n c.args.w c.args.soft.now))
+    ≡ c.soft_met.result =
     ap₂ (λ (n : ℕ) (r : List ℤ). met_of (code_by c.args.plan c.args.lists.now) c.args.plan.sizes.p (begin n r))
     (sym (own_long _ _ _ c.requires.0 c.args.w c.requires.1)) (sym (own c.args.plan.sizes.n c.args.w c.args.soft.now))
     ∙ sym c.soft_met.ensures in
