@@ -335,21 +335,21 @@ module _ (n : ℕ) (lens addrs : List ℕ) (A : Accepted n lens addrs) (lists : 
             split = λ g e x k a b.
                 let v = (code_in (p_of n lens) lists).rows ((code_in (p_of n lens) lists).row_start (l + x * q_of n lens) + k) in
                 let s = hit_of v (l + x * q_of n lens) k (check_in x a) b refl in
-                split_of x k a g v e s.0 s.1 (listed.variables _ (in-lists (l + x * q_of n lens) k (check_in x a) b));
+                split_of x k a g v e s.0 s.1 (listed.variables _ (in_lists (l + x * q_of n lens) k (check_in x a) b));
           }
         where
           listed : Lists n (p_of n lens) lists
           listed = lists_in n lens addrs A lists is
 
-          in-lists : (c k : ℕ) → c < p_of n lens → k < degree (code_in (p_of n lens) lists) c → (code_in (p_of n lens) lists).row_start c + k < edges_in (p_of n lens) lists
-          in-lists c k a b =
+          in_lists : (c k : ℕ) → c < p_of n lens → k < degree (code_in (p_of n lens) lists) c → (code_in (p_of n lens) lists).row_start c + k < edges_in (p_of n lens) lists
+          in_lists c k a b =
               omega (arith, start_in (p_of n lens) lists c (omega arith), degree_in (p_of n lens) lists c (get_or lists c 0) (get_or lists (c + 1) 0 - get_or lists c 0) a refl (omega (arith, listed.ascend c a)), listed.ascend c a, listed.within (c + 1) (omega arith))
 
           go : (v : ℕ) → shared_in flags v ≡ false → Dec (v < k_of lens) → Dec (v < n) → Once (code_in (p_of n lens) lists) (λ x. l + x * q_of n lens) 374 v
           go v e (yes b) d = bit_once v b e
           go v e (no b) (yes d) = parity_once_in v (omega arith) d e
           go v e (no b) (no d) =
-              record { one = λ x k y j x' y' q r f g. absurd (omega (arith, listed.variables ((code_in (p_of n lens) lists).row_start (l + x * q_of n lens) + k) (in-lists (l + x * q_of n lens) k (check_in x x') q), f, d)) }
+              record { one = λ x k y j x' y' q r f g. absurd (omega (arith, listed.variables ((code_in (p_of n lens) lists).row_start (l + x * q_of n lens) + k) (in_lists (l + x * q_of n lens) k (check_in x x') q), f, d)) }
 
           below : (g : ℕ) → get_or flags g false ≡ true → Dec (g < length lens) → Dec (g ≡ length lens) → 374 * g + 374 ≤ n
           below g e (yes i) d = omega (arith, n_is n lens addrs A)

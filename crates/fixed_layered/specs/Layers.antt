@@ -95,12 +95,12 @@ pub record InLayer (n p lanes q s l : ℕ) (lists : List ℕ) (a : List ℤ) : T
   pub step : 0 < s
   pub small_step : s ≤ 4294967295
 
-pub in-layer-to : {n p lanes q s l : ℕ} {lists : List ℕ} {a b : List ℤ} → length b ≡ length a → InLayer n p lanes q s l lists a → InLayer n p lanes q s l lists b
-in-layer-to e r =
+pub in_layer_to : {n p lanes q s l : ℕ} {lists : List ℕ} {a b : List ℤ} → length b ≡ length a → InLayer n p lanes q s l lists a → InLayer n p lanes q s l lists b
+in_layer_to e r =
     record { memory = memory_to e r.memory; whole = r.whole; layer = r.layer; few_edges = r.few_edges; few_checks = r.few_checks; few_bits = r.few_bits; step = r.step; small_step = r.small_step }
 
-pub in-run : {n p lanes q s l : ℕ} {lists : List ℕ} {a : List ℤ} (at m : ℕ) → at + m ≤ 374 → InLayer n p lanes q s l lists a → InRun n p lanes (l + at * q) q m lists a
-in-run {n} {p} {lanes} {q} {s} {l} at m h r =
+pub in_run_lem : {n p lanes q s l : ℕ} {lists : List ℕ} {a : List ℤ} (at m : ℕ) → at + m ≤ 374 → InLayer n p lanes q s l lists a → InRun n p lanes (l + at * q) q m lists a
+in_run_lem {n} {p} {lanes} {q} {s} {l} at m h r =
     record {
       memory = r.memory;
       inside =

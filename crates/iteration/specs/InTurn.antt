@@ -2,7 +2,7 @@
 -- where no variable has several edges, the run is its checks in turn.
 --
 -- In order: checks in turn that leave the values of shared variables; what the run gathers, and that those checks make it (`checks_run`);
--- `in-turn-run`.
+-- `in_turn_run`.
 --
 -- Not here: the same on memory (fixed_layered, Checks).
 use Rattle.std.specs.Prelude.{◌≡◌, Bool, true, false, cond, eqb, ℤ, pos, ◌+ℤ◌, ◌-ℤ◌}
@@ -181,8 +181,8 @@ checks_word o code c (suc x) f =
     check_unless_lem o code.rows (code.row_start (c x)) (degree code (c x)) (checks_full (λ v. false) o code c x f).word
     ∙ ap (check o code.rows (code.row_start (c x)) (degree code (c x))) (checks_word o code c x f)
 
-pub in-turn-run : (o : ℤ) (code : Code) (c : ℕ → ℕ) (m E n : ℕ) → Order code c m E n → ((v : ℕ) → Once code c m v) → (w : Word) → in_turn o code c m w ≡ run o code c m w
+pub in_turn_run : (o : ℤ) (code : Code) (c : ℕ → ℕ) (m E n : ℕ) → Order code c m E n → ((v : ℕ) → Once code c m v) → (w : Word) → in_turn o code c m w ≡ run o code c m w
 unfolding run
-in-turn-run o code c m E n ord once w =
+in_turn_run o code c m E n ord once w =
     let f : Full = record { word = w; t = λ e. pos 0; old = λ e. pos 0 } in
     sym (checks_word o code c m f) ∙ ap (λ (g : Full). g.word) (checks_run o code c m E n ord (λ v. false) (λ v e. once v) f)

@@ -6,7 +6,7 @@ use lib.ListN.{length}
 use mir.Syntax.{w8}
 use mir.Val.{to_z, of_z}
 use Rattle.laws.specs.Signed.{plain}
-use Rattle.fixed_layered.specs.Layers.{LayersMade, layers_start, layers_again, layers_end, in-layer-to}
+use Rattle.fixed_layered.specs.Layers.{LayersMade, layers_start, layers_again, layers_end, in_layer_to}
 use Rattle.fixed_layered.proofs.layers.Goals as goal
 
 pub loop-l-init : goal.loop-l-init
@@ -25,7 +25,7 @@ loop-l-init c = (
 pub runs-requires : goal.runs-requires
 runs-requires c =
     record {
-      in_layer = in-layer-to c.loop-l.invariant.1.0 (c.requires.layers.0 c.loop-l.l c.loop-l-test.true);
+      in_layer = in_layer_to c.loop-l.invariant.1.0 (c.requires.layers.0 c.loop-l.l c.loop-l-test.true);
       sharing = c.requires.layers.1;
       in_bounds = (
         omega (arith, c.loop-l.invariant.1.1.0.0, c.requires.in_bounds.0),

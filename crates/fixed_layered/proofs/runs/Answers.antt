@@ -7,7 +7,7 @@ use lib.ListN.{length}
 use mir.Syntax.{w8}
 use mir.Val.{to_z, of_z}
 use Rattle.laws.specs.Signed.{plain}
-use Rattle.fixed_layered.specs.Layers.{RunsMade, runs_start, runs_again, runs_end, in-layer-to, in-run, shares_part}
+use Rattle.fixed_layered.specs.Layers.{RunsMade, runs_start, runs_again, runs_end, in_layer_to, in_run_lem, shares_part}
 use Rattle.fixed_layered.proofs.runs.Goals as goal
 
 pub shared-sharing-requires : goal.shared-sharing-requires
@@ -52,7 +52,7 @@ pub run-requires : goal.run-requires
 run-requires c =
     let room : c.loop-at.at + c.least-m.result ≤ 374 = omega (arith, c.least-m.ensures, c.loop-at-test.true) in
     record {
-      in_run = in-run c.loop-at.at c.least-m.result room (in-layer-to c.loop-at.invariant.1.1.0 c.requires.in_layer);
+      in_run = in_run_lem c.loop-at.at c.least-m.result room (in_layer_to c.loop-at.invariant.1.1.0 c.requires.in_layer);
       shares = (
         shares_part c.loop-at.at c.least-m.result room
             (c.requires.sharing.shares c.args.l c.requires.in_layer.layer c.shared-sharing.result.rows

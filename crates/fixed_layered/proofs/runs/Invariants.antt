@@ -8,7 +8,7 @@ use lib.ListN.{length}
 use mir.Syntax.{w8}
 use mir.Val.{to_z, of_z}
 use Rattle.laws.specs.Signed.{plain}
-use Rattle.fixed_layered.specs.Layers.{RunsMade, runs_start, runs_again, runs_end, in-layer-to, in-run, shares_part}
+use Rattle.fixed_layered.specs.Layers.{RunsMade, runs_start, runs_again, runs_end, in_layer_to, in_run_lem, shares_part}
 use Rattle.fixed_layered.proofs.runs.Given as goal
 
 abbrev pub invariant-loop-at : goal.invariant-loop-at

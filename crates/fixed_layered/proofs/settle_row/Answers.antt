@@ -6,7 +6,7 @@ use Prim.Native.Nat.{ℕ, ◌+◌, ◌-◌, ◌≤◌, ◌<◌}
 use lib.ListN.{length}
 use Rattle.iteration.specs.Lists.{var, edges_in, code_in}
 use Rattle.iteration.specs.Once.{stepped}
-use Rattle.fixed_layered.specs.RunMemory.{few_turns, in-run-to}
+use Rattle.fixed_layered.specs.RunMemory.{few_turns, in_run_to}
 use Rattle.fixed_layered.specs.Layers.{RowPart, row_part}
 use Rattle.fixed_layered.specs.Rows.{CheckSettled, RowSettled, settled_row_start, settled_row_again, settled_row_end}
 use Rattle.fixed_layered.proofs.settle_row.Goals as goal
@@ -48,7 +48,7 @@ degree-d-requires c =
 pub overflow_add-s : goal.overflow_add-s
 overflow_add-s c =
     let part : (RowPart c.args.of.n c.args.of.p c.args.of.lanes c.args.run.first c.args.of.q c.args.row.base c.args.row.from c.args.row.upto c.loop-x.x c.start-s.result c.degree-d.result c.least-end.result c.args.lists.now c.args.rows.now c.loop-x.work) =
-    row_part (in-run-to {b = c.loop-x.work} c.loop-x.invariant.1.0 c.requires.in_run.0) c.requires.in_run.1
+    row_part (in_run_to {b = c.loop-x.work} c.loop-x.invariant.1.0 c.requires.in_run.0) c.requires.in_run.1
     c.requires.grouped.0 c.loop-x-test.true c.start-s.ensures (omega (arith, c.start-s.ensures, c.degree-d.ensures))
     c.least-end.ensures in
     let w = part in
@@ -57,7 +57,7 @@ overflow_add-s c =
 pub overflow_sub-end : goal.overflow_sub-end
 overflow_sub-end c =
     let part : (RowPart c.args.of.n c.args.of.p c.args.of.lanes c.args.run.first c.args.of.q c.args.row.base c.args.row.from c.args.row.upto c.loop-x.x c.start-s.result c.degree-d.result c.least-end.result c.args.lists.now c.args.rows.now c.loop-x.work) =
-    row_part (in-run-to {b = c.loop-x.work} c.loop-x.invariant.1.0 c.requires.in_run.0) c.requires.in_run.1
+    row_part (in_run_to {b = c.loop-x.work} c.loop-x.invariant.1.0 c.requires.in_run.0) c.requires.in_run.1
     c.requires.grouped.0 c.loop-x-test.true c.start-s.ensures (omega (arith, c.start-s.ensures, c.degree-d.ensures))
     c.least-end.ensures in
     part.least
@@ -65,7 +65,7 @@ overflow_sub-end c =
 pub settle_check-requires : goal.settle_check-requires
 settle_check-requires c =
     let part : (RowPart c.args.of.n c.args.of.p c.args.of.lanes c.args.run.first c.args.of.q c.args.row.base c.args.row.from c.args.row.upto c.loop-x.x c.start-s.result c.degree-d.result c.least-end.result c.args.lists.now c.args.rows.now c.loop-x.work) =
-    row_part (in-run-to {b = c.loop-x.work} c.loop-x.invariant.1.0 c.requires.in_run.0) c.requires.in_run.1
+    row_part (in_run_to {b = c.loop-x.work} c.loop-x.invariant.1.0 c.requires.in_run.0) c.requires.in_run.1
     c.requires.grouped.0 c.loop-x-test.true c.start-s.ensures (omega (arith, c.start-s.ensures, c.degree-d.ensures))
     c.least-end.ensures in
     let w = part in (w.part_room, (c.requires.grouped.1, w.in_row))
@@ -79,7 +79,7 @@ loop-x-smaller c = omega (arith, c.loop-x-test.true)
 pub loop-x-preserved : goal.loop-x-preserved
 loop-x-preserved c =
     let part : (RowPart c.args.of.n c.args.of.p c.args.of.lanes c.args.run.first c.args.of.q c.args.row.base c.args.row.from c.args.row.upto c.loop-x.x c.start-s.result c.degree-d.result c.least-end.result c.args.lists.now c.args.rows.now c.loop-x.work) =
-    row_part (in-run-to {b = c.loop-x.work} c.loop-x.invariant.1.0 c.requires.in_run.0) c.requires.in_run.1
+    row_part (in_run_to {b = c.loop-x.work} c.loop-x.invariant.1.0 c.requires.in_run.0) c.requires.in_run.1
     c.requires.grouped.0 c.loop-x-test.true c.start-s.ensures (omega (arith, c.start-s.ensures, c.degree-d.ensures))
     c.least-end.ensures in
     let w = part in (

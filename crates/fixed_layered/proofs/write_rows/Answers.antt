@@ -5,7 +5,7 @@ use Prim.Native.Nat.{◌-◌, ◌≤◌}
 use lib.ListN.{length}
 use Rattle.iteration.specs.Lists.{edges_in, code_in}
 use Rattle.iteration.specs.Once.{stepped}
-use Rattle.fixed_layered.specs.RunMemory.{in-run-to}
+use Rattle.fixed_layered.specs.RunMemory.{in_run_to}
 use Rattle.fixed_layered.specs.Rows.{Written, written_start, written_again, written_end}
 use Rattle.fixed_layered.proofs.write_rows.Goals as goal
 
@@ -25,7 +25,7 @@ loop-g-init c = (
 pub write_row-requires : goal.write_row-requires
 write_row-requires c =
     record {
-      in_run = (in-run-to c.loop-g.invariant.1.0 c.requires.in_run.0, c.requires.in_run.1);
+      in_run = (in_run_to c.loop-g.invariant.1.0 c.requires.in_run.0, c.requires.in_run.1);
       shares =
           (c.requires.shares.0, (c.requires.shares.1.0, (c.requires.shares.1.1.0, (c.loop-g-test.true, c.requires.shares.1.1.1))));
       lanes_in_bounds = omega (arith, c.loop-g.invariant.1.1.0, c.requires.lanes_in_bounds);

@@ -6,7 +6,7 @@ use Prim.Native.Nat.{◌-◌, ◌≤◌}
 use lib.ListN.{length}
 use Rattle.iteration.specs.Lists.{edges_in, code_in}
 use Rattle.iteration.specs.Once.{stepped}
-use Rattle.fixed_layered.specs.RunMemory.{in-run-to}
+use Rattle.fixed_layered.specs.RunMemory.{in_run_to}
 use Rattle.fixed_layered.specs.Rows.{Written, written_start, written_again, written_end}
 use Rattle.fixed_layered.proofs.write_rows.Given as goal
 

@@ -4,7 +4,7 @@ use lib.ListN.{get_or, set}
 use Rattle.meter.specs.declared.WordRecord.{WordRecord}
 use Rattle.meter.specs.Metered.{record_of, records_from}
 use Rattle.meter.specs.Recording.{unwritten}
-use Rattle.meter.specs.Laws.{record-at, records_again, length_unwritten}
+use Rattle.meter.specs.Laws.{record_at_lem, records_again, length_unwritten}
 use Rattle.meter.proofs.write.Goals as goal
 
 blank : WordRecord
@@ -18,7 +18,7 @@ loop-w-preserved c =
     let lt : w < c.args.ran.ran.words = omega (arith, c.words_of-words.ensures) in
     let is : get_or c.records_of-made.result w blank ≡ record_of numbers w =
     ap (λ (rs : List WordRecord). get_or rs w blank) c.records_of-made.ensures
-    ∙ record-at numbers c.args.ran.ran.words w unwritten blank lt (omega (arith, length_unwritten)) in (
+    ∙ record_at_lem numbers c.args.ran.ran.words w unwritten blank lt (omega (arith, length_unwritten)) in (
       omega arith,
       ap (λ (r : WordRecord). set c.loop-w.records w r) is
           ∙ records_again numbers w c.args.records.now c.loop-w.records c.loop-w.invariant.1,
