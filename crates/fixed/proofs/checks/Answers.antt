@@ -26,43 +26,6 @@ loop-x-init c = (
   ),
 )
 
-pub overflow_mul-c : goal.overflow_mul-c
-overflow_mul-c c =
-    let inside : (stepped c.args.first c.args.q c.loop-x.x < c.args.p) = c.requires.inside c.loop-x.x c.loop-x-test.true in
-    record { fits = omega (arith, inside, c.ranges.p.fits) }
-
-pub overflow_add-c : goal.overflow_add-c
-overflow_add-c c =
-    let inside : (stepped c.args.first c.args.q c.loop-x.x < c.args.p) = c.requires.inside c.loop-x.x c.loop-x-test.true in
-    record { fits = omega (arith, inside, c.ranges.p.fits) }
-
-pub start-s-requires : goal.start-s-requires
-start-s-requires c =
-    let inside : (stepped c.args.first c.args.q c.loop-x.x < c.args.p) = c.requires.inside c.loop-x.x c.loop-x-test.true in
-    omega (arith, inside, c.requires.memory.0.lists_right.long)
-
-pub degree-d-requires : goal.degree-d-requires
-degree-d-requires c =
-    let inside : (stepped c.args.first c.args.q c.loop-x.x < c.args.p) = c.requires.inside c.loop-x.x c.loop-x-test.true in
-    (c.requires.memory.0.lists_right, inside)
-
-pub check_node-requires : goal.check_node-requires
-check_node-requires c =
-    let inside : (stepped c.args.first c.args.q c.loop-x.x < c.args.p) = c.requires.inside c.loop-x.x c.loop-x-test.true in
-    let ends : (c.start-s.result + c.degree-d.result ≡ get_or c.args.lists.now (stepped c.args.first c.args.q c.loop-x.x + 1) 0) =
-    omega (arith, c.start-s.ensures, c.degree-d.ensures) in
-    record {
-      check_memory =
-          subst (λ (l : List ℕ). CheckMemory l c.start-s.result c.degree-d.result c.args.n c.args.lanes c.loop-x.work)
-          (sym c.requires.memory.1)
-          (check_memory (stepped c.args.first c.args.q c.loop-x.x) c.start-s.result c.degree-d.result
-          (memory_to c.loop-x.invariant.1.0 c.requires.memory.0) inside c.start-s.ensures ends);
-      in_bounds = (
-        omega (arith, c.loop-x.invariant.1.1.0.0, c.requires.in_bounds.0),
-        omega (arith, c.loop-x.invariant.1.1.0.1, c.requires.in_bounds.1),
-      );
-    }
-
 pub loop-x-preserved : goal.loop-x-preserved
 loop-x-preserved c =
     let inside : (stepped c.args.first c.args.q c.loop-x.x < c.args.p) = c.requires.inside c.loop-x.x c.loop-x-test.true in
@@ -81,8 +44,3 @@ loop-x-preserved c =
         ),
       ),
     )
-
-pub returns : goal.returns
-returns c =
-    turn_end (plain c.args.offset c.ranges.offset) (omega (arith, c.loop-x.invariant.0, c.loop-x-test.false))
-    c.loop-x.invariant.1.1.1

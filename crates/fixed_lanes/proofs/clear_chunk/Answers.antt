@@ -4,9 +4,6 @@ use mathlib.Core.Path.{sym}
 use Rattle.fixed_lanes.specs.Part.{part_kept}
 use Rattle.fixed_lanes.proofs.clear_chunk.Goals as goal
 
-pub mask-q-requires : goal.mask-q-requires
-mask-q-requires c = (omega (arith, c.requires.lanes_in_bounds.1.1, c.requires.w_bound.0), c.requires.w_bound.1.few)
-
 pub returns-then-w-eq16 : goal.returns-then-w-eq16
 returns-then-w-eq16 c = part_kept (sym c.if-w-eq16.true) c.mask-q.ensures c.clear_part.ensures
 

@@ -7,15 +7,6 @@ use Rattle.laws.specs.Signed.{plain}
 use Rattle.fixed_lanes.specs.Clear.{on, row_start, row_again, row_end}
 use Rattle.fixed_lanes.proofs.clear_row.Goals as goal
 
-pub loop-i-init : goal.loop-i-init
-loop-i-init c = (search rules, (refl, row_start c.args.lanes c.args.u c.args.fresh.now c.args.work.now))
-
-pub value-x-requires : goal.value-x-requires
-value-x-requires c = omega (arith, c.requires.0, c.loop-i-test.true, c.loop-i.invariant.1.0)
-
-pub place-requires : goal.place-requires
-place-requires c = (omega (arith, c.requires.0, c.loop-i-test.true, c.loop-i.invariant.1.0), c.loop-i-test.true)
-
 pub loop-i-preserved : goal.loop-i-preserved
 loop-i-preserved c = (
   search rules,
@@ -28,6 +19,3 @@ loop-i-preserved c = (
         (plain c.value-x.result (record { sfits = c.value-x.type_inv }))) c.place.ensures,
   ),
 )
-
-pub returns : goal.returns
-returns c = row_end (omega (arith, c.loop-i.invariant.0, c.loop-i-test.false)) c.loop-i.invariant.1.1

@@ -11,13 +11,6 @@ use Rattle.fixed_lanes.specs.Read.{deciding_start, deciding_again, deciding_end}
 use Rattle.laws.specs.Signed.{plain}
 use Rattle.fixed_lanes.proofs.hard.Goals as goal
 
-pub loop-u-init : goal.loop-u-init
-loop-u-init c = (search rules, deciding_start _ _)
-
-pub value-x-requires : goal.value-x-requires
-value-x-requires c =
-    inside_rows c.loop-u.u c.args.n c.args.lanes c.args.lane _ c.loop-u-test.true c.requires.1.0 c.requires.0
-
 pub loop-u-preserved : goal.loop-u-preserved
 loop-u-preserved c = (
   search rules,
@@ -29,9 +22,6 @@ loop-u-preserved c = (
       ∙ sym (within_at c.args.n (column c.args.lanes c.args.work.now c.args.lane) c.loop-u.u c.loop-u-test.true)))
       (simp length-set) refl,
 )
-
-pub shape_of-out : goal.shape_of-out
-shape_of-out c = c.loop-u.invariant.1.long
 
 pub returns : goal.returns
 returns c =

@@ -12,22 +12,12 @@ use Rattle.fixed_lanes.proofs.load.Goals as goal
 pub loop-u-init : goal.loop-u-init
 loop-u-init c = (search rules, (refl, load_start c.args.lanes c.args.lane c.args.soft.now c.args.work.now))
 
-pub place-requires : goal.place-requires
-place-requires c = (
-  inside_rows c.loop-u.u c.args.n c.args.lanes c.args.lane _ c.loop-u-test.true c.requires.1.0
-      (omega (arith, c.loop-u.invariant.1.0, c.requires.0)),
-  c.requires.1.0,
-)
-
 pub loop-u-preserved : goal.loop-u-preserved
 loop-u-preserved c = (
   search rules,
   (
     omega (arith, c.loop-u.invariant.1.0),
     load_again c.loop-u.invariant.1.1
-        (plain (get_or c.args.soft.now c.loop-u.u (pos 0)) (sfits_of c.place-arg-in-loop-u-1.given)) c.place.ensures,
+        (plain (get_or c.args.soft.now c.loop-u.u (pos 0)) (search rules)) c.place.ensures,
   ),
 )
-
-pub returns : goal.returns
-returns c = load_end (omega (arith, c.loop-u.invariant.0, c.loop-u-test.false)) c.loop-u.invariant.1.1

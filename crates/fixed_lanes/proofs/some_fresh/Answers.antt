@@ -12,8 +12,3 @@ returns-then-fresh-i c = sym (some_at _ c.loop-i.i _ c.loop-i-test.true c.if-fre
 
 pub loop-i-preserved : goal.loop-i-preserved
 loop-i-preserved c = (search rules, none_again _ c.loop-i.i c.if-fresh-i.false c.loop-i.invariant.1)
-
-pub returns : goal.returns
-returns c =
-    let e : c.loop-i.i ≡ c.args.lanes = omega (arith, c.loop-i-test.false, c.loop-i.invariant.0) in
-    sym (ap (some_fresh _) (sym e) ∙ c.loop-i.invariant.1)

@@ -2,7 +2,7 @@
 use Prim.Native.Nat.{◌+◌, ◌*◌}
 use lib.ListN.{get_or}
 use lib.IntN.{pos}
-use borrow.Author.Rules.{sfits_of}
+use borrow.Author.Rules.{rules}
 use Rattle.laws.specs.Signed.{plain}
 use Rattle.lane16.specs.Column.{column}
 use Rattle.fixed_lanes.proofs.value.Goals as goal
@@ -10,4 +10,4 @@ use Rattle.fixed_lanes.proofs.value.Goals as goal
 pub returns : goal.returns
 unfolding column
 returns c =
-    plain (get_or c.args.work.now (c.args.u * c.args.lanes + c.args.lane) (pos 0)) (sfits_of c.result-1.given)
+    plain (get_or c.args.work.now (c.args.u * c.args.lanes + c.args.lane) (pos 0)) (search rules)

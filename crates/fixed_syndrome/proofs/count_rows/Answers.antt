@@ -17,16 +17,6 @@ loop-c-init c = (
       (λ k q. get_or-replicate 16 k 0 0 q) (λ k q. get_or-replicate 16 k 0 0 q),
 )
 
-pub sign_parity-bits-requires : goal.sign_parity-bits-requires
-sign_parity-bits-requires c =
-    let ends : (c.start-s.result + c.degree-d.result ≡ get_or c.args.lists.now (c.loop-c.c + 1) 0) =
-    omega (arith, c.start-s.ensures, c.degree-d.ensures) in (
-      subst (λ (l : List ℕ). CheckMemory l c.start-s.result c.degree-d.result c.args.n c.args.lanes c.args.work.now)
-          (sym c.requires.memory.1)
-          (check_memory c.loop-c.c c.start-s.result c.degree-d.result c.requires.memory.0 c.loop-c-test.true c.start-s.ensures ends),
-      c.requires.at_lt_lanes.0,
-    )
-
 pub added-u-requires : goal.added-u-requires
 added-u-requires c =
     let ends : (c.start-s.result + c.degree-d.result ≡ get_or c.args.lists.now (c.loop-c.c + 1) 0) =
@@ -52,6 +42,3 @@ loop-c-preserved c =
       omega (arith, c.loop-c-test.true),
       counting_again c.requires.memory.0 c.loop-c-test.true c.start-s.ensures ends c.loop-c.invariant.1 parities c.added-u.ensures,
     )
-
-pub returns : goal.returns
-returns c = counting_end (omega (arith, c.loop-c.invariant.0, c.loop-c-test.false)) c.loop-c.invariant.1

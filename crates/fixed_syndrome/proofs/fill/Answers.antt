@@ -6,14 +6,8 @@ use lib.ListN.{get_or}
 use Rattle.fixed_syndrome.specs.Chunk.{ChunkWritten, written_start, written_again, written_end}
 use Rattle.fixed_syndrome.proofs.fill.Goals as goal
 
-pub loop-i-init : goal.loop-i-init
-loop-i-init c = (search rules, written_start 0 _ _ _)
-
 pub loop-i-preserved : goal.loop-i-preserved
 loop-i-preserved c = (search rules, written_again _ c.loop-i.invariant.1 (omega arith) refl)
-
-pub shape_of-to : goal.shape_of-to
-shape_of-to c = c.loop-i.invariant.1.long
 
 pub returns : goal.returns
 returns c = written_end (omega arith) c.loop-i.invariant.1

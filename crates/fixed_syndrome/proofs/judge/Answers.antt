@@ -8,14 +8,8 @@ use lib.ListN.{get_or}
 use Rattle.fixed_syndrome.specs.Chunk.{ChunkWritten, written_start, written_again, written_end}
 use Rattle.fixed_syndrome.proofs.judge.Goals as goal
 
-pub loop-i-init : goal.loop-i-init
-loop-i-init c = (search rules, written_start false _ _ _)
-
 pub loop-i-preserved : goal.loop-i-preserved
 loop-i-preserved c = (search rules, written_again _ c.loop-i.invariant.1 (omega arith) refl)
-
-pub shape_of-verdict : goal.shape_of-verdict
-shape_of-verdict c = c.loop-i.invariant.1.long
 
 pub returns : goal.returns
 returns c = written_end (omega arith) c.loop-i.invariant.1

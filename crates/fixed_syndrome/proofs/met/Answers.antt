@@ -19,10 +19,6 @@ loop-j-init c = (
   ),
 )
 
-pub met_rows-v-requires : goal.met_rows-v-requires
-met_rows-v-requires c =
-    record { memory = (c.requires.0, rows_part c.args.p c.args.lists.now); at_lt_lanes = c.loop-j-test.true }
-
 pub loop-j-preserved : goal.loop-j-preserved
 loop-j-preserved c =
     let q : c.loop-j.j < 4 = omega (arith, c.loop-j-test.true, c.requires.1) in (
@@ -32,7 +28,3 @@ loop-j-preserved c =
         filled_again c.loop-j.j c.loop-j.invariant.1.1 c.judge.ensures (verdicts_in c.lanes16-first.ensures c.met_rows-v.ensures),
       ),
     )
-
-pub returns : goal.returns
-returns c =
-    met_end c.requires.1 (omega (arith, c.loop-j-test.false)) c.unheld_lanes-all.ensures c.loop-j.invariant.1.1

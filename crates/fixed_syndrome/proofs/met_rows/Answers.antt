@@ -15,15 +15,6 @@ use Rattle.fixed_syndrome.proofs.met_rows.Goals as goal
 pub loop-c-init : goal.loop-c-init
 loop-c-init c = (search rules, seen_start _ _)
 
-pub sign_parity-bits-requires : goal.sign_parity-bits-requires
-sign_parity-bits-requires c = (
-  subst (λ (l : List ℕ). CheckMemory l c.start-s.result c.degree-d.result c.args.n c.args.lanes c.args.work.now)
-      (sym c.requires.memory.1)
-      (check_memory c.loop-c.c c.start-s.result c.degree-d.result c.requires.memory.0 c.loop-c-test.true c.start-s.ensures
-      (omega (arith, c.start-s.ensures, c.degree-d.ensures))),
-  c.requires.at_lt_lanes,
-)
-
 pub returns-then-none_left : goal.returns-then-none_left
 returns-then-none_left c =
     let seen_more : Seen c.args.n c.args.p c.args.lanes c.args.lists.now c.args.work.now c.args.at c.args.first (c.loop-c.c + 1) c.larger-more.result =
@@ -49,6 +40,3 @@ loop-c-preserved c =
     SignParity l c.start-s.result c.degree-d.result c.args.lanes c.args.at c.args.work.now c.sign_parity-bits.result)
     c.requires.memory.1 c.sign_parity-bits.ensures) c.larger-more.ensures in
     (omega (arith, c.loop-c-test.true), seen_more)
-
-pub returns : goal.returns
-returns c = seen_end (omega (arith, c.loop-c.invariant.0, c.loop-c-test.false)) c.loop-c.invariant.1

@@ -10,8 +10,3 @@ loop-i-init c = (search rules, least_start c.args.a)
 
 pub loop-i-preserved : goal.loop-i-preserved
 loop-i-preserved c = (search rules, c.minu-m.ensures ∙ least_again c.args.a c.loop-i.i c.loop-i.m c.loop-i.invariant.1)
-
-pub returns : goal.returns
-returns c =
-    let e : c.loop-i.i ≡ 16 = omega (arith, c.loop-i.invariant.0, c.loop-i-test.false) in
-    c.loop-i.invariant.1 ∙ ap (least c.args.a) e

@@ -14,40 +14,6 @@ use Rattle.iteration.specs.Lists.{var}
 use Rattle.simd_layered.specs.Checked.{run_column, Checked, checked}
 use Rattle.simd_layered.proofs.check_shared.Goals as goal
 
-pub loop-at-init : goal.loop-at-init
-loop-at-init c = (
-  search rules,
-  (
-    refl,
-    (
-      (refl, refl),
-      upto_start
-          (run_column (shared_in c.args.flags.now) (to_z w8 (of_z w8 c.args.offset)) (var c.args.rows.now) c.args.s c.args.d
-          c.args.n (length c.args.rows.now) c.args.place) c.args.lanes c.args.work.now,
-    ),
-  ),
-)
-
-pub chunk-w-requires : goal.chunk-w-requires
-chunk-w-requires c =
-    record {
-      check_memory = (check_memory_to c.loop-at.invariant.1.0 c.requires.check_memory.0, c.requires.check_memory.1);
-      at_lt_lanes = (
-        c.loop-at-test.true,
-        (
-          omega (arith, c.loop-at.invariant.1.1.0.0, c.requires.in_bounds.0),
-          omega (arith, c.loop-at.invariant.1.1.0.1, c.requires.in_bounds.1.0),
-        ),
-      );
-      d_in_bounds = c.requires.in_bounds.1.1;
-    }
-
-pub overflow_add-at : goal.overflow_add-at
-overflow_add-at c = record { fits = omega (arith, c.chunk-w.ensures.0.1, c.ranges.lanes.fits) }
-
-pub loop-at-smaller : goal.loop-at-smaller
-loop-at-smaller c = omega (arith, c.chunk-w.ensures.0, c.loop-at-test.true)
-
 pub loop-at-preserved : goal.loop-at-preserved
 loop-at-preserved c = (
   omega (arith, c.chunk-w.ensures.0.1),

@@ -13,24 +13,6 @@ use Rattle.simd.specs.Pass.{scan_to}
 use Rattle.simd_layered.specs.Checked.{run_column, two_parts}
 use Rattle.simd_layered.proofs.two_chunks.Goals as goal
 
-sixteen : Width 16
-sixteen = record { some = omega arith; few = omega arith; one_of = λ no eight four. absurd (no refl) }
-
-pub scan_two-p-requires : goal.scan_two-p-requires
-scan_two-p-requires c = record { check_memory = c.requires.check_memory.0; at_bound = c.requires.at_bound }
-
-pub finish-requires : goal.finish-requires
-finish-requires c =
-    record {
-      check_memory = c.requires.check_memory;
-      w_bound = (omega (arith, c.requires.at_bound.0), (sixteen, omega (arith, c.requires.at_bound.1.0)));
-      d_in_bounds = c.requires.d_in_bounds;
-      scan = c.scan_two-p.ensures.0;
-    }
-
-pub overflow_add-at : goal.overflow_add-at
-overflow_add-at c = record { fits = omega (arith, c.requires.at_bound.0, c.ranges.lanes.fits) }
-
 pub returns : goal.returns
 returns c =
     part_offset
