@@ -1,6 +1,6 @@
 #!/usr/bin/env bash
 # The report program under hostile use: input and output that are closed, cut, slow, huge or full, little memory and stack, signals.
-#   hostile.sh            runs every case on target/bin/report (or the program that REPORT names)
+#   hostile.sh            runs every case on crates/report/out/report (or the program that REPORT names)
 #   hostile.sh --wrong    runs every case on programs that are wrong, and asks that each case be failed by one of them
 # A case has what must stand on both outputs and the exit status, and limits of time and memory. One line a case, then a count.
 # Needs cc, perl, script and GNU time.
@@ -8,9 +8,9 @@ set -u
 export LC_ALL=C
 here=$(cd "$(dirname "$0")" && pwd)
 top=$(cd "$here/.." && pwd)
-REPORT=$(readlink -f "${REPORT:-$top/target/bin/report}")
+REPORT=$(readlink -f "${REPORT:-$top/crates/report/out/report}")
 export REPORT
-[ -x "$REPORT" ] || { echo "no program at $REPORT: rt check report" >&2; exit 2; }
+[ -x "$REPORT" ] || { echo "no program at $REPORT: rt run in crates/report" >&2; exit 2; }
 tmp=$(mktemp -d)
 trap 'rm -rf "$tmp"' EXIT
 cd "$tmp" || exit 2

@@ -1,4 +1,4 @@
-/* Raxdov for C and C++: the functions of libraxdov.a, which `rt staticlib raxdov` writes to target/staticlib.
+/* Raxdov for C and C++: the functions of libraxdov.a, which `rt lib` in crates/raxdov writes to its folder out.
    What each promises is proved of its source, crates/raxdov/src/lib.rt; this header repeats its signatures.
 
    Slices. A slice is lent as a pointer and, in the next argument, the number of its elements (NAME and NAME_len).

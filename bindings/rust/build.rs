@@ -1,4 +1,4 @@
-//! Finds libraxdov.a: in RAXDOV_LIB, the archive or its folder, or in ../../target/staticlib.
+//! Finds libraxdov.a: in RAXDOV_LIB, the archive or its folder, or in ../../crates/raxdov/out.
 
 use std::path::PathBuf;
 use std::{env, process};
@@ -9,7 +9,7 @@ fn main() {
     let here = PathBuf::from(env::var_os("CARGO_MANIFEST_DIR").expect("cargo names the folder"));
     let at = match &set {
         Some(path) => path.clone(),
-        None => here.join("../../target/staticlib"),
+        None => here.join("../../crates/raxdov/out"),
     };
     let file = if at.is_dir() {
         at.join("libraxdov.a")
@@ -32,8 +32,8 @@ fn main() {
             "RAXDOV_LIB is not set"
         };
         refuse(format!(
-            "no archive at {} ({how}): run `rt staticlib raxdov` in Raxdov's repository, which writes \
-             target/staticlib/libraxdov.a, or set RAXDOV_LIB to where it is",
+            "no archive at {} ({how}): run `rt lib` in crates/raxdov of Raxdov's repository, which writes \
+             crates/raxdov/out/libraxdov.a, or set RAXDOV_LIB to where it is",
             file.display()
         ));
     }

@@ -8,15 +8,15 @@ top=$(cd "$here/../.." && pwd)
 copy=$(mktemp -d)
 trap 'rm -rf "$copy"' EXIT
 cp -r "$top/crates" "$top/crates.txt" "$copy"
-[ ! -d "$top/target" ] || cp -r "$top/target" "$copy"
 mkdir -p "$copy/crates/bench_lanes/src"
 cp "$here/bench_lanes/lib.rt.txt" "$copy/crates/bench_lanes/src/lib.rt"
 for proof in "$here"/bench_lanes/*.antt.txt; do
+    [ -f "$proof" ] || continue
     name=$(basename "$proof" .antt.txt)
     mkdir -p "$copy/crates/bench_lanes/proofs/$name"
-    cp "$proof" "$copy/crates/bench_lanes/proofs/$name/Proof.antt"
+    cp "$proof" "$copy/crates/bench_lanes/proofs/$name/Answers.antt"
 done
-echo "bench_lanes: laws ldpc_shape ldpc_edges iteration fixed_code lane_math lane16 simd simd_layered fixed fixed_lanes fixed_conflicts fixed_layered fixed_syndrome" >> "$copy/crates.txt"
-(cd "$copy" && rt staticlib bench_lanes)
+echo "bench_lanes staticlib: laws ldpc_shape ldpc_edges iteration fixed_code lane_math lane16 simd simd_layered fixed fixed_lanes fixed_conflicts fixed_layered fixed_syndrome" >> "$copy/crates.txt"
+(cd "$copy/crates/bench_lanes" && rt lib)
 mkdir -p "$top/target/staticlib"
-cp "$copy/target/staticlib/libbench_lanes.a" "$top/target/staticlib/"
+cp "$copy/crates/bench_lanes/out/libbench_lanes.a" "$top/target/staticlib/"

@@ -28,8 +28,8 @@ fi
 clang=${CLANG:-clang-22} opt=${OPT:-opt-22} objcopy=${OBJCOPY:-llvm-objcopy-22}
 mkdir -p "$out"
 if [ -z "$module" ]; then
-    [ -f "$top/target/staticlib/libraxdov.a" ] || (cd "$top" && rt staticlib raxdov)
-    cc -O2 -I"$top/bindings/c" "$here/$target.c" "$here/scope.c" "$top/target/staticlib/libraxdov.a" -pthread -lm -o "$out/$target"
+    [ -f "$top/crates/raxdov/out/libraxdov.a" ] || (cd "$top/crates/raxdov" && rt lib)
+    cc -O2 -I"$top/bindings/c" "$here/$target.c" "$here/scope.c" "$top/crates/raxdov/out/libraxdov.a" -pthread -lm -o "$out/$target"
     "$out/$target" "$seconds"
     exit
 fi

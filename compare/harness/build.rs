@@ -1,4 +1,4 @@
-//! Links the archive: the one that `RAXDOV_LIB` names, the file or its folder, or `target/staticlib/libraxdov.a` of the repository.
+//! Links the archive: the one that `RAXDOV_LIB` names, the file or its folder, or `crates/raxdov/out/libraxdov.a` of the repository.
 
 use std::env;
 use std::path::PathBuf;
@@ -8,7 +8,7 @@ fn main() {
     let here = PathBuf::from(env::var("CARGO_MANIFEST_DIR").unwrap());
     let file = match env::var_os("RAXDOV_LIB") {
         Some(file) => PathBuf::from(file),
-        None => here.join("../../target/staticlib/libraxdov.a"),
+        None => here.join("../../crates/raxdov/out/libraxdov.a"),
     };
     let file = if file.is_dir() {
         file.join("libraxdov.a")
@@ -17,7 +17,7 @@ fn main() {
     };
     let Ok(file) = file.canonicalize() else {
         panic!(
-            "no archive at {}: run `rt staticlib raxdov` at the repository's root, or set RAXDOV_LIB to a libraxdov.a",
+            "no archive at {}: run `rt lib` in crates/raxdov, or set RAXDOV_LIB to a libraxdov.a",
             file.display()
         );
     };

@@ -1,20 +1,19 @@
 -- A shortest register and the errors that have its syndromes: one of at most half as many places as there are syndromes is wrong exactly
--- at the register's roots, as many as it is long (`found`); a register with so many roots has such an error (`corrected`); and the error is
--- binary if the syndromes are those of a binary word (`binary`).
-use Rattle.std.specs.Prelude.{◌≡◌, ◌≢◌, ◌⊎◌, ℕ, suc, ◌+◌, ◌*◌, ◌≤◌, ◌<◌}
+-- at the register's roots, as many as it is long (`found`); and a register with so many roots has such an error (`corrected`). That the error
+-- is binary if the syndromes are those of a binary word is in proofs/Binary.antt.
+use Rattle.std.specs.Prelude.{◌≡◌, ◌≢◌, ℕ, suc, ◌+◌, ◌≤◌, ◌<◌}
 use Rattle.std.proofs.Math.Path.{sym, ap, subst}
-use Rattle.std.proofs.Common.{ap₂, ◌∙◌, arith}
+use Rattle.std.proofs.Common.{◌∙◌, arith}
 use Rattle.std.proofs.Math.Decide.{dec_le}
 use Rattle.algebra.specs.Ring.{Ring, Field}
-use Rattle.algebra.specs.RingLaws.{zero-⊠, ⊠-swap, ⊞-cancel, dist-⊠}
+use Rattle.algebra.specs.RingLaws.{zero-⊠}
 use Rattle.algebra.specs.Series.{pow, zeros}
-use Rattle.algebra.specs.SeriesLaws.{sum, sum_ext, sum_add, sum_square, pow_add}
-use Rattle.algebra.specs.Power.{square_pow}
-use Rattle.algebra.specs.Roots.{Distinct, domain, pow_nz, inv_inj, roots, square_inj, idempotent}
+use Rattle.algebra.specs.SeriesLaws.{sum_ext}
+use Rattle.algebra.specs.Roots.{Distinct, pow_nz, inv_inj, roots}
 use Rattle.algebra.specs.Register.{Shortest}
 use Rattle.algebra.specs.Locator.{syndrome}
 use Rattle.algebra.specs.Split.{split}
-use Rattle.algebra.specs.Errors.{weight, weight_mono, weight_strict, Listing, listing, Syndromes, chien, shift, no_longer, length_right, found_wrong, found_right, min_distance}
+use Rattle.algebra.specs.Errors.{weight, weight_strict, Listing, listing, Syndromes, chien, shift, no_longer, length_right, found_wrong, found_right}
 use Rattle.algebra.specs.Places.{spread, spread_at, spread_off, mark, mark_zero, zero_mark, zeros_mark, zeros_weight}
 
 module _ {F : Type 0} (K : Field F) where
@@ -24,15 +23,6 @@ module _ {F : Type 0} (K : Field F) where
   infixl 70 ◌⊠◌
   abbrev R₃ : Ring F
   R₃ = K.ring
-
-  -- ---- squares of syndromes
-  double : (u : F) (m i : ℕ) → m ≡ 2 * (1 + i) → pow R₃ u m ≡ pow R₃ (u ⊠ u) (1 + i)
-  double u m i e = ap (pow R₃ u) e ∙ sym (square_pow R₃ u (1 + i))
-
-  square_term : (a u : F) (i : ℕ) → a ⊠ pow R₃ u (1 + i) ⊠ (a ⊠ pow R₃ u (1 + i)) ≡ a ⊠ a ⊠ pow R₃ (u ⊠ u) (1 + i)
-  square_term a u i =
-      let e : (1 + i) + (1 + i) ≡ 2 * (1 + i) = omega arith in
-      ⊠-swap R₃ a _ a _ ∙ ap (λ w. a ⊠ a ⊠ w) (sym (pow_add R₃ u (1 + i) (1 + i)) ∙ double u _ i e)
 
   -- ---- the error ε has the k syndromes s, as many places as the register c is long, and those are c's roots among the n places
   pub record Found (n : ℕ) (x : ℕ → F) (b k : ℕ) (s c : ℕ → F) (l : ℕ) (ε : ℕ → F) : Type 0 where
@@ -68,11 +58,12 @@ module _ {F : Type 0} (K : Field F) where
       -- an error of at most half as many places as there are syndromes is found,
       pub found : (ε : ℕ → F) → Syndromes K n x b k ε s → weight K n ε + weight K n ε ≤ k → Found n x b k s c l ε
       found ε s-is enough =
+          let fit : weight K n ε + weight K n ε ≤ k = omega arith in
           record {
             syndromes = s-is;
-            count = sym (length_right K n x x-nz b k ε s s-is x-d enough c l S);
-            wrong = found_wrong K n x x-nz b k ε s s-is x-d enough c l S;
-            right = found_right K n x x-nz b k ε s s-is x-d enough c l S;
+            count = sym (length_right K n x x-nz b k ε s s-is x-d fit c l S);
+            wrong = found_wrong K n x x-nz b k ε s s-is x-d fit c l S;
+            right = found_right K n x x-nz b k ε s s-is x-d fit c l S;
           }
 
       -- and a found error's places are the register's roots, as many as it is long
@@ -146,35 +137,3 @@ module _ {F : Type 0} (K : Field F) where
             right = all_roots;
           },
         )
-
-    -- ---- if S_2i = S_i² for i = 1 .. t, S_1 being s_0, at most t errors with these syndromes are all 1
-    pub binary : (k t : ℕ) (ε s : ℕ → F) → Syndromes K n x 1 k ε s → t + t ≤ k → weight K n ε ≤ t
-        → ((i : ℕ) → i < t → s (suc (i + i)) ≡ s i ⊠ s i) → (p : ℕ) → p < n → (ε p ≡ 𝟘) ⊎ (ε p ≡ 𝟙)
-    binary k t ε s s-is enough light squares p h = idempotent K (ε p) (⊞-cancel R₃ _ _ (none p h))
-      where
-        η : ℕ → F
-        η p = ε p ⊠ ε p ⊞ ε p
-
-        X : ℕ → F
-        X p = x p ⊠ x p
-
-        η_light : weight K n η ≤ t
-        η_light =
-            let a = weight_mono K n η ε (λ p _ ne z. ne (ap₂ ◌⊞◌ (ap (λ w. w ⊠ ε p) z ∙ zero-⊠ R₃ (ε p)) z ∙ ⊞-zero 𝟘)) in
-            omega arith
-
-        zero_at : (i : ℕ) → i < t → sum R₃ n (λ p. η p ⊠ pow R₃ (X p) (1 + i)) ≡ 𝟘
-        zero_at i a =
-            let e : 1 + suc (i + i) ≡ 2 * (1 + i) = omega arith in
-            sum_ext R₃ n _ _ (λ p _. dist-⊠ R₃ (ε p ⊠ ε p) (ε p) (pow R₃ (X p) (1 + i)))
-            ∙ sum_add R₃ n (λ p. ε p ⊠ ε p ⊠ pow R₃ (X p) (1 + i)) (λ p. ε p ⊠ pow R₃ (X p) (1 + i))
-            ∙ ap₂ ◌⊞◌
-            (sum_ext R₃ n _ _ (λ p _. sym (square_term (ε p) (x p) i)) ∙ sym (sum_square R₃ n (λ p. ε p ⊠ pow R₃ (x p) (1 + i)))
-            ∙ ap (λ w. w ⊠ w) (sym (s-is i (omega arith))))
-            (sum_ext R₃ n _ _ (λ p _. ap (λ w. ε p ⊠ w) (sym (double (x p) _ i e))) ∙ sym (s-is (suc (i + i)) (omega arith)) ∙ squares i a)
-            ∙ ⊞-self _
-
-        none : (p : ℕ) → p < n → η p ≡ 𝟘
-        none =
-            min_distance K n X (λ p a e. x-nz p a (domain K (x p) (x p) e (x-nz p a)))
-            (λ i j a a' e. x-d i j a a' (square_inj K (x i) (x j) e)) 1 t η η_light zero_at

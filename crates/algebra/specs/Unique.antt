@@ -101,7 +101,7 @@ module _ {F : Type 0} (K : Field F) where
   -- the shortest register is one, when its length is at most half of what it generates
   pub only_register : (s : ℕ → F) (k : ℕ) (c : ℕ → F) (l : ℕ) (c' : ℕ → F) (l' : ℕ)
       → Shortest R s k c l → Shortest R s k c' l' → l + l ≤ k → (l ≡ l') × (c ≡ c')
-  only_register s k c l c' l' S S' half = (same, fun_ext (only_at s k c l S half c' gen'))
+  only_register s k c l c' l' S S' half = (same, fun_ext (only_at s k c l S (omega arith) c' gen'))
     where
       same : l ≡ l'
       same = same_length s k c l S c' l' S'

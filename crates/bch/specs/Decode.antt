@@ -44,7 +44,7 @@ pub record Located (w w' : List ℕ) (r : Decoded) : Type 0 where
   pub answer : (c : ℕ → El 15) (l : ℕ) → Shortest R16 (syndrome w) 24 c l → r ≡ answer_by c l w
   pub word : (c : ℕ → El 15) (l : ℕ) → Shortest R16 (syndrome w) 24 c l → w' ≡ left_by c l w
 
--- ---- as functions of a word of an accepted length: by some shortest register. `decodes` (AnswersLaws) says that it does not matter which
+-- ---- as functions of a word of an accepted length: by some shortest register. `decodes` (proofs/Decodes.antt) says that it does not matter which
 unfoldable pub register : (w : List ℕ) → (c : ℕ → El 15) × (l : ℕ) × Shortest R16 (syndrome w) 24 c l
 register w = shortest_exists gf16 (syndrome w) 24
 

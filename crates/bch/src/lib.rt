@@ -1,5 +1,7 @@
 // The outer code of ISDB-S3: BCH(65,535, 65,343) over GF(2^16), shortened, correcting 12 bits (ARIB STD-B44 3.4 (1), Table 3.4-1).
 // One byte a bit, highest power first: the message, then 192 parity bits. Only the low bit of a byte counts.
+#![tactic(auto)]
+
 ghost use Rattle.std.specs.Prelude.{◌≡◌, ℕ, ◌+◌, ◌≤◌, ◌<◌, eqb, length, get_or};
 ghost use Rattle.bch_table.specs.Step.{value_of};
 ghost use Rattle.bch_remainder.specs.Word.{remainder_of};
@@ -59,7 +61,7 @@ pub fn encode(message: &[u8], out: &mut [u8]) -> Encoded
     if out.len() < k + 192 {
         return Encoded::Refused(13);
     }
-    bytes::copy(message, out);
+    out[..k].copy_from_slice(message);
     let r = bch_remainder::parity_register(message);
     bch_remainder::write_parity(r, &mut out[k..]);
     Encoded::Done

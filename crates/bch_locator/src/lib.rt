@@ -1,4 +1,6 @@
 // From the remainder of a BCH word to the places to flip.
+#![tactic(auto)]
+
 ghost use Rattle.std.specs.Prelude.{◌≡◌, ℕ, suc, ◌+◌, ◌<◌, ◌≤◌, get_or, length};
 ghost use Rattle.algebra.specs.SeriesLaws.{sum};
 ghost use Rattle.algebra.specs.Series.{ev};

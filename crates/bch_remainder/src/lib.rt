@@ -1,4 +1,6 @@
 // Words of the BCH code and their remainders by the generator, a byte at a time.
+#![tactic(auto)]
+
 ghost use Rattle.std.specs.Prelude.{◌≡◌, ◌++◌, ◌+◌, ◌≤◌, length, take, drop};
 ghost use Rattle.std.proofs.Math.Seq.{paste};
 ghost use Rattle.bch_table.specs.Step.{value_of};

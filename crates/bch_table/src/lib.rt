@@ -1,4 +1,6 @@
 // The generator of the BCH code from Table 3.4-1, and the 256 registers of three u64 that divide by it a byte at a time.
+#![tactic(auto)]
+
 ghost use Rattle.std.specs.Prelude.{◌≡◌, ◌*◌, ◌<◌, length};
 ghost use Rattle.laws.specs.Definitions.{◌⊕◌, clmul};
 ghost use Rattle.bch_table.specs.Generator.{generator};
@@ -846,7 +848,7 @@ pub fn word_at(table: &[u64], t: usize, w: usize) -> u64
 }
 
 // The 192-bit remainder, the highest word first.
-#[derive(Drop)]
+#[derive(Clone, Copy)]
 pub struct Reg {
     pub hi: u64,
     pub mid: u64,

@@ -10,8 +10,8 @@ use Rattle.schedule.specs.Run.{Result}
 use Rattle.schedule.specs.Alone.{after, ends}
 use Rattle.schedule.specs.Status.{Status, waiting, holding, done, status, spent, sum, largest}
 use Rattle.schedule.specs.WholeRun.{given, longest, WholeRun, AsAlone}
-use Rattle.schedule.specs.Places.{sum_ext}
-use Rattle.schedule.specs.Theorem.{spent_within}
+use Rattle.schedule.proofs.Places.{sum_ext}
+use Rattle.schedule.proofs.Theorem.{spent_within}
 use Rattle.outcome.specs.Outcome.{Outcome, met_of, bits_of, changed_of, outcome_of, alone}
 use Rattle.decoder_plan.specs.declared.Plan.{Plan}
 use Rattle.decoder_words.specs.Book.{View}

@@ -4,7 +4,7 @@ use Rattle.std.proofs.Common.{sym, ◌∙◌, arith, length-set, get_or-take, le
 use Rattle.std.proofs.lemmas.List.{length-replicate, get_or-replicate}
 use Rattle.laws.specs.Stores.{grown}
 use Rattle.schedule.specs.Run.{input_order}
-use Rattle.schedule.specs.Theorem.{length_counting, get_d_counting, input_is}
+use Rattle.schedule.proofs.Theorem.{length_counting, get_d_counting, input_is}
 
 -- ---- the first words of the input order
 pub input_length : (n : ℕ) → length (input_order n) ≡ n

@@ -1,4 +1,6 @@
 // The order in which lanes take words: "take words in input order".
+#![tactic(auto)]
+
 ghost use Rattle.std.specs.Prelude.{◌≡◌, ◌≤◌, length};
 ghost use Rattle.schedule.specs.Run.{input_order};
 

@@ -1,31 +1,33 @@
 // What a run is asked for, and what it goes by.
+#![tactic(auto)]
+
 ghost use Rattle.std.specs.Prelude.{◌≡◌, ◌<◌};
 ghost use Rattle.decoder_plan.specs.Plan.{is_layered, step_of, plan_of};
 
 use ldpc_shape::Sizes;
 
-#[derive(Drop)]
+#[derive(Clone, Copy)]
 pub enum Schedule {
     Sequential,
     Layered(u32),
 }
 
 // The iteration limit of a word, and the round limit of the run.
-#[derive(Drop)]
+#[derive(Clone, Copy)]
 pub struct Limits {
     pub iterations: u32,
     pub rounds: u32,
 }
 
 // The BCH part of a word: `length` bits from bit `first` on.
-#[derive(Drop)]
+#[derive(Clone, Copy)]
 pub struct Part {
     pub first: u32,
     pub length: u32,
 }
 
 // A run's settings.
-#[derive(Drop)]
+#[derive(Clone, Copy)]
 pub struct Settings {
     pub lanes: u32,
     pub limits: Limits,
@@ -35,7 +37,7 @@ pub struct Settings {
 }
 
 // What an accepted run goes by: the code's numbers, how many words there are, and the settings.
-#[derive(Drop)]
+#[derive(Clone, Copy)]
 pub struct Plan {
     pub sizes: Sizes,
     pub words: usize,

@@ -1,4 +1,6 @@
 // The refusals of a run: 2 to 6 of its code, 7 to 11 of its settings and soft values, 13 of the lent slices.
+#![tactic(auto)]
+
 ghost use Rattle.std.specs.Prelude.{◌≡◌, ◌/◌, ◌<◌, ◌≤◌};
 ghost use Rattle.ldpc_shape.specs.Accepted.{Bounded};
 ghost use Rattle.decoder_refuse.specs.Refusal.{bad_lanes, bad_words, bad_step, bad_part, too_short, work_need, lists_need, first_refusal};

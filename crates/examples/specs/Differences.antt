@@ -63,8 +63,8 @@ pub record Differences : Type 0 where
   -- the Rust allocates
   pub lists_short : new_refusal 374 [] [] 1121 ≡ 13
   pub bits_short : check_refusal 374 [] [] 1 1 ≡ 13
-  pub parity_out_lem : parity_refusal 374 [] [] 0 373 ≡ 13
-  pub encode_out_lem : encode_refusal 374 [] [] 0 373 ≡ 13
+  pub parity_out : parity_refusal 374 [] [] 0 373 ≡ 13
+  pub encode_out : encode_refusal 374 [] [] 0 373 ≡ 13
   pub soft_out : quantise_refusal (nan ∷ []) [] ≡ 13
   pub bch_parity_out : message_refusal 0 192 191 ≡ 13
   pub bch_encode_out : message_refusal 1 193 192 ≡ 13
@@ -102,8 +102,8 @@ differences =
       rows_apart = refl;
       lists_short = refl;
       bits_short = refl;
-      parity_out_lem = refl;
-      encode_out_lem = refl;
+      parity_out = refl;
+      encode_out = refl;
       soft_out = refl;
       bch_parity_out = refl;
       bch_encode_out = refl;

@@ -24,14 +24,14 @@ one = checked (pos 1) 1 (negsuc 3 ∷ [])
 
 -- two checks of one run, 0 with 1 and 1 with 2, offset 0: messages 5, 3 and −2, 5; L of variable 1 is sat(5 + 3 + (−2 − 0))
 unfoldable pub shared : Code
-shared = record { rows = λ e. get_or (0 ∷ 1 ∷ 1 ∷ 2 ∷ []) e 0; row_start_lem = λ c. c + c }
+shared = record { rows = λ e. get_or (0 ∷ 1 ∷ 1 ∷ 2 ∷ []) e 0; row_start = λ c. c + c }
 
 unfoldable pub two : Word
 two = run (pos 0) shared (λ i. i) 2 (fresh (pos 3 ∷ pos 5 ∷ negsuc 1 ∷ []))
 
 -- variable 0 twice in one check, with values 3 and 5, offset 0
 unfoldable pub twice : Code
-twice = record { rows = λ e. get_or (0 ∷ 0 ∷ 1 ∷ []) e 0; row_start_lem = λ c. c + c + c }
+twice = record { rows = λ e. get_or (0 ∷ 0 ∷ 1 ∷ []) e 0; row_start = λ c. c + c + c }
 
 unfoldable pub zeros : ℕ → List ℕ
 zeros n = replicate n 0

@@ -6,7 +6,8 @@ use Rattle.algebra.specs.Series.{pow}
 use Rattle.gf16.specs.Field16.{R16, α}
 use Rattle.ldpc_shape.specs.Shape.{k_of, p_of, q_of, e_of, rows_of, total, any_over, count_mod, counts_mod, bad_length, code_refusal}
 use Rattle.ldpc_edges.specs.Code.{met, of_bits, of_rows, meets, only, stairs, check, flip, flips, sums, parity}
-use Rattle.ldpc_edges.specs.Modulo.{mods, check_mods, parity_mods}
+use Rattle.ldpc_edges.specs.Modulo.{mods}
+use Rattle.ldpc_edges.proofs.Modulo.{check_mods, parity_mods}
 use Rattle.ldpc.specs.declared.Made.TheVariants as made
 use Rattle.ldpc.specs.Answers.{or_else, short_of, new_refusal, new_answer}
 use Rattle.iteration.specs.Value.{magnitude}

@@ -1,1 +1,2 @@
 // The scope's starred bench examples: the theorem stands in specs/.
+#![tactic(auto)]

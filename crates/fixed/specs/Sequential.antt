@@ -35,7 +35,7 @@ turn_again {n} {p} {lanes} {o} {lists} {first} {q} {a} {a'} {a''} {x} {s} {d} h 
       rest = λ i b u r. k.rest i b u r ∙ v.rest i b u r;
     })
   where
-    same_start : s ≡ (code_in p lists).row_start_lem (stepped first q x)
+    same_start : s ≡ (code_in p lists).row_start (stepped first q x)
     same_start = e ∙ sym (start_in p lists (stepped first q x) (omega arith))
 
     same_degree : d ≡ degree (code_in p lists) (stepped first q x)

@@ -1,5 +1,7 @@
 // Checks in turn on interleaved memory, for every lane count; one iteration of the sequential schedule.
 // `lists` are the code's (fixed_code); `work` n + 3E rows with stride `lanes` (simd).
+#![tactic(auto)]
+
 ghost use Rattle.std.specs.Prelude.{◌≡◌, ℕ, ◌≤◌, ◌<◌, length};
 ghost use Rattle.lane16.specs.Memory.{Memory};
 ghost use Rattle.iteration.specs.Lists.{rows_in};
@@ -22,7 +24,7 @@ pub fn checks(
     m: usize,
 )
     requires memory { Memory n p lanes lists.now work.old × (rows.now ≡ rows_in p lists.now) }
-    requires by_index { (x : ℕ) → x < m → stepped first q x < p }
+    requires inside { (x : ℕ) → x < m → stepped first q x < p }
     requires in_bounds { (2048 ≤ length t.old) × (2048 ≤ length u.old) }
     ensures { InTurn n p lanes offset lists.now first q work.old m work.new }
 {

@@ -1,4 +1,6 @@
 // A code's lists as the iteration reads them, from one lent slice: row_start (P + 1 numbers), then rows (E bits).
+#![tactic(auto)]
+
 ghost use Rattle.std.specs.Prelude.{◌≡◌, ◌+◌, ◌<◌, get_or, length};
 ghost use Rattle.iteration.specs.Lists.{Lists, var};
 

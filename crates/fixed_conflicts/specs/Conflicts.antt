@@ -19,7 +19,7 @@ use Rattle.iteration.specs.Once.{shared_in, Once}
 use Rattle.ldpc_shape.specs.Shape.{k_of, p_of, q_of, rows_of, total, count_mod}
 use Rattle.ldpc_shape.specs.Accepted.{Accepted, p_is, p_pos, q_pos, n_is}
 use Rattle.ldpc_edges.specs.Code.{only, meets, of_rows, stairs, check, edge_lists}
-use Rattle.ldpc_edges.specs.Degree.{met_by}
+use Rattle.ldpc_edges.proofs.Degree.{met_by}
 use Rattle.iteration.specs.ListsLaws.{start_in, degree_in}
 use Rattle.iteration.specs.Lists.{Lists, edges_in, code_in}
 use Rattle.iteration.specs.CodeLaws.{lists_in, laid_in}
@@ -64,7 +64,7 @@ module _ (n : ℕ) (lens addrs : List ℕ) (A : Accepted n lens addrs) (lists : 
   degree_is : (c : ℕ) → c < p_of n lens → degree (code_in (p_of n lens) lists) c ≡ length (check n lens addrs c)
   degree_is c h = degree_in (p_of n lens) lists c (get_or lists c 0) (length (check n lens addrs c)) h refl (sym ((laid_in n lens addrs A lists is).next c h))
 
-  edge_is : (c k : ℕ) → c < p_of n lens → k < length (check n lens addrs c) → (code_in (p_of n lens) lists).rows ((code_in (p_of n lens) lists).row_start_lem c + k) ≡ get_or (check n lens addrs c) k 0
+  edge_is : (c k : ℕ) → c < p_of n lens → k < length (check n lens addrs c) → (code_in (p_of n lens) lists).rows ((code_in (p_of n lens) lists).row_start c + k) ≡ get_or (check n lens addrs c) k 0
   edge_is c k h q =
       let d : get_or lists (c + 1) 0 - get_or lists c 0 ≡ length (check n lens addrs c) = omega (arith, (laid_in n lens addrs A lists is).next c h) in
       ap (λ (z : ℕ). get_or (drop (p_of n lens + 1) lists) (z + k) 0) (start_in (p_of n lens) lists c (omega arith))
@@ -73,7 +73,7 @@ module _ (n : ℕ) (lens addrs : List ℕ) (A : Accepted n lens addrs) (lists : 
       ∙ sym (get_or-take (get_or lists (c + 1) 0 - get_or lists c 0) (drop (get_or lists c 0) (drop (suc (p_of n lens)) lists)) k 0 (omega arith))
       ∙ ap (λ (l : List ℕ). get_or l k 0) ((laid_in n lens addrs A lists is).part c h)
 
-  hit_of : (u c k : ℕ) → c < p_of n lens → k < degree (code_in (p_of n lens) lists) c → (code_in (p_of n lens) lists).rows ((code_in (p_of n lens) lists).row_start_lem c + k) ≡ u
+  hit_of : (u c k : ℕ) → c < p_of n lens → k < degree (code_in (p_of n lens) lists) c → (code_in (p_of n lens) lists).rows ((code_in (p_of n lens) lists).row_start c + k) ≡ u
       → (k < length (check n lens addrs c)) × (get_or (check n lens addrs c) k 0 ≡ u)
   hit_of u c k h q e = let j : k < length (check n lens addrs c) = omega (arith, degree_is c h) in (j, sym (edge_is c k h j) ∙ e)
 
@@ -333,23 +333,23 @@ module _ (n : ℕ) (lens addrs : List ℕ) (A : Accepted n lens addrs) (lists : 
             low = λ g e. below g e (dec_lt g (length lens)) (ℕ_discrete g (length lens));
             fits = λ g e x a. let f = fits_of x 0 a g e in (omega (arith, f.0, degree_is (l + x * q_of n lens) (check_in x a)), f.1);
             split = λ g e x k a b.
-                let v = (code_in (p_of n lens) lists).rows ((code_in (p_of n lens) lists).row_start_lem (l + x * q_of n lens) + k) in
+                let v = (code_in (p_of n lens) lists).rows ((code_in (p_of n lens) lists).row_start (l + x * q_of n lens) + k) in
                 let s = hit_of v (l + x * q_of n lens) k (check_in x a) b refl in
-                split_of x k a g v e s.0 s.1 (listed.variables _ (in-lists (l + x * q_of n lens) k (check_in x a) b));
+                split_of x k a g v e s.0 s.1 (listed.variables _ (in_lists (l + x * q_of n lens) k (check_in x a) b));
           }
         where
           listed : Lists n (p_of n lens) lists
           listed = lists_in n lens addrs A lists is
 
-          in-lists : (c k : ℕ) → c < p_of n lens → k < degree (code_in (p_of n lens) lists) c → (code_in (p_of n lens) lists).row_start_lem c + k < edges_in (p_of n lens) lists
-          in-lists c k a b =
+          in_lists : (c k : ℕ) → c < p_of n lens → k < degree (code_in (p_of n lens) lists) c → (code_in (p_of n lens) lists).row_start c + k < edges_in (p_of n lens) lists
+          in_lists c k a b =
               omega (arith, start_in (p_of n lens) lists c (omega arith), degree_in (p_of n lens) lists c (get_or lists c 0) (get_or lists (c + 1) 0 - get_or lists c 0) a refl (omega (arith, listed.ascend c a)), listed.ascend c a, listed.within (c + 1) (omega arith))
 
           go : (v : ℕ) → shared_in flags v ≡ false → Dec (v < k_of lens) → Dec (v < n) → Once (code_in (p_of n lens) lists) (λ x. l + x * q_of n lens) 374 v
           go v e (yes b) d = bit_once v b e
           go v e (no b) (yes d) = parity_once_in v (omega arith) d e
           go v e (no b) (no d) =
-              record { one = λ x k y j x' y' q r f g. absurd (omega (arith, listed.variables ((code_in (p_of n lens) lists).row_start_lem (l + x * q_of n lens) + k) (in-lists (l + x * q_of n lens) k (check_in x x') q), f, d)) }
+              record { one = λ x k y j x' y' q r f g. absurd (omega (arith, listed.variables ((code_in (p_of n lens) lists).row_start (l + x * q_of n lens) + k) (in_lists (l + x * q_of n lens) k (check_in x x') q), f, d)) }
 
           below : (g : ℕ) → get_or flags g false ≡ true → Dec (g < length lens) → Dec (g ≡ length lens) → 374 * g + 374 ≤ n
           below g e (yes i) d = omega (arith, n_is n lens addrs A)

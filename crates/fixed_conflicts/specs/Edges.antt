@@ -8,7 +8,8 @@ use Rattle.std.proofs.Math.Decide.{dec_lt}
 use Rattle.std.proofs.Math.ListN.{length, length-append, get_or-append}
 use Rattle.ldpc_shape.specs.Shape.{k_of, p_of, total}
 use Rattle.ldpc_edges.specs.Code.{Edge, edge, meets, only, stairs, check}
-use Rattle.ldpc_edges.specs.Inside.{Inside, meets_inside}
+use Rattle.ldpc_edges.specs.Inside.{Inside}
+use Rattle.ldpc_edges.proofs.Inside.{meets_inside}
 
 -- the list has no u
 abbrev pub Without : ℕ → List ℕ → Type 0

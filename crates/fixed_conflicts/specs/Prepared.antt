@@ -3,7 +3,8 @@ use Rattle.std.specs.Prelude.{◌≡◌, Bool, List, ℕ, ◌*◌, ◌/◌, ◌<
 use Rattle.std.proofs.Common.{sym, subst, arith}
 use Rattle.ldpc_shape.specs.declared.Sizes.{Sizes}
 use Rattle.ldpc_shape.specs.Shape.{k_of, q_of, code_refusal, sizes_of}
-use Rattle.ldpc_shape.specs.Accepted.{accepted, Bounded, bounded}
+use Rattle.ldpc_shape.specs.Accepted.{Bounded}
+use Rattle.ldpc_shape.proofs.Accepted.{accepted, bounded}
 use Rattle.ldpc_edges.specs.Code.{edge_lists}
 use Rattle.iteration.specs.Lists.{edges_in, code_in}
 use Rattle.iteration.specs.CodeLaws.{edges_are}

@@ -10,10 +10,10 @@ use Rattle.std.proofs.Math.ListN.{length, get_or, length-append, get_or-append}
 use Rattle.std.proofs.Math.Seq.{get_or-append-add}
 use Rattle.ldpc_shape.specs.Shape.{rows_of, total, count_mod}
 use Rattle.ldpc_edges.specs.Code.{of_bits, of_rows, only}
-use Rattle.ldpc_edges.specs.Inside.{bits_inside, only_append}
-use Rattle.ldpc_edges.specs.Count.{only_inside}
+use Rattle.ldpc_edges.proofs.Inside.{bits_inside, only_append}
+use Rattle.ldpc_edges.proofs.Count.{only_inside}
 use Rattle.ldpc_edges.specs.Insert.{Rising}
-use Rattle.ldpc_edges.specs.Degree.{bits_count, count_split, rows_rising}
+use Rattle.ldpc_edges.proofs.Degree.{bits_count, count_split, rows_rising}
 use Rattle.fixed_conflicts.specs.Edges.{row_of, row_next}
 
 -- how many addresses equal to l modulo q the first g rows have

@@ -27,7 +27,7 @@ pub record Shares (n q : ℕ) (code : Code) (first m l : ℕ) (table : List ℕ)
   pub low : (g : ℕ) → get_or flags g false ≡ true → 374 * g + 374 ≤ n
   pub fits : (g : ℕ) → get_or flags g false ≡ true → (x : ℕ) → x < m → (span_at table l g ≤ degree code (first + x * q)) × (span_at table l g ≤ span_at table l (g + 1))
   pub split : (g : ℕ) → get_or flags g false ≡ true → (x k : ℕ) → x < m → k < degree code (first + x * q)
-      → Split (span_at table l g) (span_at table l (g + 1)) (374 * g) k (code.rows (code.row_start_lem (first + x * q) + k))
+      → Split (span_at table l g) (span_at table l (g + 1)) (374 * g) k (code.rows (code.row_start (first + x * q) + k))
 
 -- ---- the flags of a layer, as they are set: the first k rows
 pub record Flagged (table : List ℕ) (rows q l k : ℕ) (flags : List Bool) (any : Bool) : Type 0 where

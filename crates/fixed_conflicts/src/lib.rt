@@ -1,4 +1,6 @@
 // Where the edges of a row stand in the checks of a layer, and which rows' variables can have several edges in a run.
+#![tactic(auto)]
+
 ghost use Rattle.std.specs.Prelude.{◌≡◌, ◌||◌, ℕ, ◌<◌, ◌≤◌, ◌+◌, ◌*◌, get_or, length};
 ghost use Rattle.ldpc_shape.specs.Shape.{code_refusal, sizes_of};
 ghost use Rattle.fixed_conflicts.specs.Table.{spans_length, Flagged};
@@ -20,8 +22,8 @@ pub fn span(table: &[u8], g: usize, l: usize) -> usize
 
 // The next row's edges begin where those of row g end: one for each of its addresses that is l modulo q.
 fn advance(table: &mut [u8], counts: &[u32; MAX_Q], g: usize, q: usize)
-    requires table_len { (length table.old ≡ spans_length) × ((g ≤ 119) × (q ≤ 120)) }
-    requires by_index { (l : ℕ) → l < q → get_or table.old (g * 120 + l) 0 + get_or counts.now l 0 ≤ 255 }
+    requires sizes { (length table.old ≡ spans_length) × ((g ≤ 119) × (q ≤ 120)) }
+    requires fits { (l : ℕ) → l < q → get_or table.old (g * 120 + l) 0 + get_or counts.now l 0 ≤ 255 }
     ensures { NextRow table.old counts.now g q table.new }
 {
     let mut l: usize = 0;
@@ -35,8 +37,8 @@ fn advance(table: &mut [u8], counts: &[u32; MAX_Q], g: usize, q: usize)
 
 // Where the rows of an accepted code begin in the checks of each layer.
 pub fn spans(of: Sizes, lens: &[u32], addrs: &[u16], table: &mut [u8])
-    requires addrs_value { (code_refusal of.n lens.now addrs.now ≡ 0) × (of ≡ sizes_of of.n lens.now addrs.now) }
-    requires table_len { (length table.old ≡ spans_length) × ((l : ℕ) → l < 120 → get_or table.old l 0 ≡ 0) }
+    requires accepted { (code_refusal of.n lens.now addrs.now ≡ 0) × (of ≡ sizes_of of.n lens.now addrs.now) }
+    requires zeros { (length table.old ≡ spans_length) × ((l : ℕ) → l < 120 → get_or table.old l 0 ≡ 0) }
     ensures { Spanned of.n lens.now addrs.now table.new }
 {
     let few = of.q;

@@ -43,8 +43,8 @@ pub record RowCleared (lanes u : ℕ) (fresh : List Bool) (a : List ℤ) (k : �
   pub done : (i : ℕ) → i < k → i < lanes → column lanes a' i ≡ cond (on fresh i) (put (column lanes a i) u (pos 0)) (column lanes a i)
   pub still : (i : ℕ) → k ≤ i → i < lanes → column lanes a' i ≡ column lanes a i
 
-pub row_start_lem : (lanes u : ℕ) (fresh : List Bool) (a : List ℤ) → RowCleared lanes u fresh a 0 a
-row_start_lem lanes u fresh a = record { done = λ i q h. absurd (omega (arith, q)); still = λ i q h. refl }
+pub row_start : (lanes u : ℕ) (fresh : List Bool) (a : List ℤ) → RowCleared lanes u fresh a 0 a
+row_start lanes u fresh a = record { done = λ i q h. absurd (omega (arith, q)); still = λ i q h. refl }
 
 put_cond : (b : Bool) (f : ℕ → ℤ) (u : ℕ) → put f u (cond b (pos 0) (f u)) ≡ cond b (put f u (pos 0)) f
 put_cond true f u = refl

@@ -19,7 +19,7 @@ use Rattle.iteration.specs.Full.{check_unless, Full, place_of, part_full, checks
 use Rattle.iteration.specs.ListsLaws.{start_in, degree_in, order}
 use Rattle.fixed_layered.specs.Full.{full_of, full}
 use Rattle.fixed.specs.Sequential.{InTurn}
-use Rattle.iteration.specs.InTurn.{checks_run, in-turn-run}
+use Rattle.iteration.specs.InTurn.{checks_run, in_turn_run}
 use Rattle.fixed_layered.specs.Sent.{within_wrote, sent}
 use Rattle.fixed_layered.specs.Gather.{gather_run_at, run_gathers, run_none}
 use Rattle.fixed_layered.specs.Rows.{written_at, Written}
@@ -64,7 +64,7 @@ module _ {sh : ℕ → Bool} {n p lanes : ℕ} {o : ℤ} {lists : List ℕ} {fir
         rest = λ i b u r. k.rest i b u r ∙ v.rest i b u r;
       })
     where
-      S : s ≡ (code_in p lists).row_start_lem (stepped first q x)
+      S : s ≡ (code_in p lists).row_start (stepped first q x)
       S = e ∙ sym (start_in p lists (stepped first q x) (omega arith))
 
       D : d ≡ degree (code_in p lists) (stepped first q x)
@@ -89,7 +89,7 @@ turn_made {n} {p} {lanes} {o} {lists} {first} {q} {m} {a} {a'} r once v =
     record {
       words =
           λ i h. v.words i h
-          ∙ in-turn-run o (code_in p lists) (stepped first q) m (edges_in p lists) n (order r.memory.lists_right first q m r.step r.inside) once (word n (edges_in p lists) lanes a i);
+          ∙ in_turn_run o (code_in p lists) (stepped first q) m (edges_in p lists) n (order r.memory.lists_right first q m r.step r.inside) once (word n (edges_in p lists) lanes a i);
       rest = λ i h u k. v.rest i h u (omega (arith, k));
     }
 

@@ -21,30 +21,30 @@ gather_at n E v u s pl f (suc d) a =
 -- and from the first m checks of the run
 unfoldable pub gather_run_at : ℕ → ℕ → Code → (ℕ → ℕ) → ℕ → (ℕ → ℤ) → ℕ → Sum
 gather_run_at n E code c u f zero = nothing
-gather_run_at n E code c u f (suc m) = gather_at n E code.rows u (code.row_start_lem (c m)) (place_of code c m) f (degree code (c m)) (gather_run_at n E code c u f m)
+gather_run_at n E code c u f (suc m) = gather_at n E code.rows u (code.row_start (c m)) (place_of code c m) f (degree code (c m)) (gather_run_at n E code c u f m)
 
 -- ---- it is what the definition gathers
 module _ {n E : ℕ} {code : Code} {c : ℕ → ℕ} {m : ℕ} {w : Run} {f : ℕ → ℤ} (r : Sent n E code c m w f) (vs : w.v ≡ code.rows) where
-  check_gathers : (u x d : ℕ) (a : Sum) → x < m → d ≤ degree code (c x) → gather_at n E code.rows u (code.row_start_lem (c x)) (place_of code c x) f d a ≡ gather_check w u (code.row_start_lem (c x)) d a
+  check_gathers : (u x d : ℕ) (a : Sum) → x < m → d ≤ degree code (c x) → gather_at n E code.rows u (code.row_start (c x)) (place_of code c x) f d a ≡ gather_check w u (code.row_start (c x)) d a
   unfolding gather_at gather_check gather_edge
   check_gathers u x zero a h q = refl
   check_gathers u x (suc d) a h q =
-      go (eqb (code.rows (code.row_start_lem (c x) + d)) u) refl (check_gathers u x d a h (omega arith))
-      ∙ ap (λ (v : ℕ → ℕ). cond (eqb (v (code.row_start_lem (c x) + d)) u) (gather (sat_z (w.L u -ℤ w.old (code.row_start_lem (c x) + d))) (w.new (code.row_start_lem (c x) + d)) (w.old (code.row_start_lem (c x) + d)) (gather_check w u (code.row_start_lem (c x)) d a)) (gather_check w u (code.row_start_lem (c x)) d a)) (sym vs)
+      go (eqb (code.rows (code.row_start (c x) + d)) u) refl (check_gathers u x d a h (omega arith))
+      ∙ ap (λ (v : ℕ → ℕ). cond (eqb (v (code.row_start (c x) + d)) u) (gather (sat_z (w.L u -ℤ w.old (code.row_start (c x) + d))) (w.new (code.row_start (c x) + d)) (w.old (code.row_start (c x) + d)) (gather_check w u (code.row_start (c x)) d a)) (gather_check w u (code.row_start (c x)) d a)) (sym vs)
     where
-      go : (b : Bool) → eqb (code.rows (code.row_start_lem (c x) + d)) u ≡ b → gather_at n E code.rows u (code.row_start_lem (c x)) (place_of code c x) f d a ≡ gather_check w u (code.row_start_lem (c x)) d a
-          → cond b (gather (f (n + E + (place_of code c x + d))) (f (n + (code.row_start_lem (c x) + d))) (f (n + 2 * E + (place_of code c x + d))) (gather_at n E code.rows u (code.row_start_lem (c x)) (place_of code c x) f d a)) (gather_at n E code.rows u (code.row_start_lem (c x)) (place_of code c x) f d a)
-          ≡ cond b (gather (sat_z (w.L u -ℤ w.old (code.row_start_lem (c x) + d))) (w.new (code.row_start_lem (c x) + d)) (w.old (code.row_start_lem (c x) + d)) (gather_check w u (code.row_start_lem (c x)) d a)) (gather_check w u (code.row_start_lem (c x)) d a)
+      go : (b : Bool) → eqb (code.rows (code.row_start (c x) + d)) u ≡ b → gather_at n E code.rows u (code.row_start (c x)) (place_of code c x) f d a ≡ gather_check w u (code.row_start (c x)) d a
+          → cond b (gather (f (n + E + (place_of code c x + d))) (f (n + (code.row_start (c x) + d))) (f (n + 2 * E + (place_of code c x + d))) (gather_at n E code.rows u (code.row_start (c x)) (place_of code c x) f d a)) (gather_at n E code.rows u (code.row_start (c x)) (place_of code c x) f d a)
+          ≡ cond b (gather (sat_z (w.L u -ℤ w.old (code.row_start (c x) + d))) (w.new (code.row_start (c x) + d)) (w.old (code.row_start (c x) + d)) (gather_check w u (code.row_start (c x)) d a)) (gather_check w u (code.row_start (c x)) d a)
       go true e ih =
-          let k : code.rows (code.row_start_lem (c x) + d) ≡ u = eqb-true _ u e in
-          λ i. gather ((r.t_is x d h (omega arith) ∙ ap (λ (y : ℕ). sat_z (w.L y -ℤ w.old (code.row_start_lem (c x) + d))) k) i) (r.new_is x d h (omega arith) i) (r.old_is x d h (omega arith) i) (ih i)
+          let k : code.rows (code.row_start (c x) + d) ≡ u = eqb-true _ u e in
+          λ i. gather ((r.t_is x d h (omega arith) ∙ ap (λ (y : ℕ). sat_z (w.L y -ℤ w.old (code.row_start (c x) + d))) k) i) (r.new_is x d h (omega arith) i) (r.old_is x d h (omega arith) i) (ih i)
       go false e ih = ih
 
   pub run_gathers : (u x : ℕ) → x ≤ m → gather_run_at n E code c u f x ≡ gather_run w code c u x
   unfolding gather_run_at gather_run
   run_gathers u zero h = refl
   run_gathers u (suc x) h =
-      ap (gather_at n E code.rows u (code.row_start_lem (c x)) (place_of code c x) f (degree code (c x))) (run_gathers u x (omega arith))
+      ap (gather_at n E code.rows u (code.row_start (c x)) (place_of code c x) f (degree code (c x))) (run_gathers u x (omega arith))
       ∙ check_gathers u x (degree code (c x)) (gather_run w code c u x) h (omega arith)
 
 -- ---- only the rows behind the values count
@@ -58,7 +58,7 @@ at_same n E v u s pl f g (suc d) a b h e =
 pub run_same : (n E : ℕ) (code : Code) (c : ℕ → ℕ) (u : ℕ) (f g : ℕ → ℤ) (m : ℕ) → ((u : ℕ) → n ≤ u → f u ≡ g u) → gather_run_at n E code c u f m ≡ gather_run_at n E code c u g m
 unfolding gather_run_at
 run_same n E code c u f g zero h = refl
-run_same n E code c u f g (suc m) h = at_same n E code.rows u (code.row_start_lem (c m)) (place_of code c m) f g (degree code (c m)) _ _ h (run_same n E code c u f g m h)
+run_same n E code c u f g (suc m) h = at_same n E code.rows u (code.row_start (c m)) (place_of code c m) f g (degree code (c m)) _ _ h (run_same n E code c u f g m h)
 
 -- ---- a check that has no edge of u gathers nothing
 at_none : (n E : ℕ) (v : ℕ → ℕ) (u s pl : ℕ) (f : ℕ → ℤ) (d : ℕ) (a : Sum) → ((k : ℕ) → k < d → v (s + k) ≡ u → ⊥) → gather_at n E v u s pl f d a ≡ a
@@ -69,12 +69,12 @@ at_none n E v u s pl f (suc d) a h =
     ∙ at_none n E v u s pl f d a (λ k q. h k (omega arith))
 
 -- a variable of no edge gathers nothing
-pub run_none : (n E : ℕ) (code : Code) (c : ℕ → ℕ) (f : ℕ → ℤ) (u x : ℕ) → ((y k : ℕ) → y < x → k < degree code (c y) → code.rows (code.row_start_lem (c y) + k) ≡ u → ⊥)
+pub run_none : (n E : ℕ) (code : Code) (c : ℕ → ℕ) (f : ℕ → ℤ) (u x : ℕ) → ((y k : ℕ) → y < x → k < degree code (c y) → code.rows (code.row_start (c y) + k) ≡ u → ⊥)
     → gather_run_at n E code c u f x ≡ nothing
 unfolding gather_run_at
 run_none n E code c f u zero h = refl
 run_none n E code c f u (suc x) h =
-    at_none n E code.rows u (code.row_start_lem (c x)) (place_of code c x) f (degree code (c x)) (gather_run_at n E code c u f x) (λ k q. h x k (omega arith) q)
+    at_none n E code.rows u (code.row_start (c x)) (place_of code c x) f (degree code (c x)) (gather_run_at n E code c u f x) (λ k q. h x k (omega arith) q)
     ∙ run_none n E code c f u x (λ y k q. h y k (omega arith))
 
 -- ---- a part of the edges, the others being none of u

@@ -95,12 +95,12 @@ pub record InLayer (n p lanes q s l : ℕ) (lists : List ℕ) (a : List ℤ) : T
   pub step : 0 < s
   pub small_step : s ≤ 4294967295
 
-pub in-layer-to : {n p lanes q s l : ℕ} {lists : List ℕ} {a b : List ℤ} → length b ≡ length a → InLayer n p lanes q s l lists a → InLayer n p lanes q s l lists b
-in-layer-to e r =
+pub in_layer_to : {n p lanes q s l : ℕ} {lists : List ℕ} {a b : List ℤ} → length b ≡ length a → InLayer n p lanes q s l lists a → InLayer n p lanes q s l lists b
+in_layer_to e r =
     record { memory = memory_to e r.memory; whole = r.whole; layer = r.layer; few_edges = r.few_edges; few_checks = r.few_checks; few_bits = r.few_bits; step = r.step; small_step = r.small_step }
 
-pub in-run : {n p lanes q s l : ℕ} {lists : List ℕ} {a : List ℤ} (at m : ℕ) → at + m ≤ 374 → InLayer n p lanes q s l lists a → InRun n p lanes (l + at * q) q m lists a
-in-run {n} {p} {lanes} {q} {s} {l} at m h r =
+pub in_run_lem : {n p lanes q s l : ℕ} {lists : List ℕ} {a : List ℤ} (at m : ℕ) → at + m ≤ 374 → InLayer n p lanes q s l lists a → InRun n p lanes (l + at * q) q m lists a
+in_run_lem {n} {p} {lanes} {q} {s} {l} at m h r =
     record {
       memory = r.memory;
       inside =
@@ -119,13 +119,13 @@ shares_part {n} {q} {code} {l} {table} {flags} at m h v =
           λ u e. record {
             one =
                 λ x i y j a b c d f g. let o = (v.once u e).one (at + x) i (at + y) j (omega arith) (omega arith) (subst (λ (z : ℕ). i < degree code z) (there x) c) (subst (λ (z : ℕ). j < degree code z) (there y) d)
-                (subst (λ (z : ℕ). code.rows (code.row_start_lem z + i) ≡ u) (there x) f) (subst (λ (z : ℕ). code.rows (code.row_start_lem z + j) ≡ u) (there y) g) in
+                (subst (λ (z : ℕ). code.rows (code.row_start z + i) ≡ u) (there x) f) (subst (λ (z : ℕ). code.rows (code.row_start z + j) ≡ u) (there y) g) in
                 (omega (arith, o.0), o.1);
           };
       low = v.low;
       fits = λ g e x a. subst (λ (z : ℕ). (span_at table l g ≤ degree code z) × (span_at table l g ≤ span_at table l (g + 1))) (sym (there x)) (v.fits g e (at + x) (omega arith));
       split = λ g e x k a b.
-          subst (λ (z : ℕ). Split (span_at table l g) (span_at table l (g + 1)) (374 * g) k (code.rows (code.row_start_lem z + k))) (sym (there x)) (v.split g e (at + x) k (omega arith) (subst (λ (z : ℕ). k < degree code z) (there x) b));
+          subst (λ (z : ℕ). Split (span_at table l g) (span_at table l (g + 1)) (374 * g) k (code.rows (code.row_start z + k))) (sym (there x)) (v.split g e (at + x) k (omega arith) (subst (λ (z : ℕ). k < degree code z) (there x) b));
     }
   where
     there : (x : ℕ) → l + at * q + x * q ≡ l + (at + x) * q
@@ -147,7 +147,7 @@ pub record RowPart (n p lanes first q base from upto x s d end : ℕ) (lists row
   pub least : from ≤ end
   pub all : end < upto → end ≡ degree (code_in p lists) (stepped first q x)
   pub below : end ≤ d
-  pub start_is : s ≡ (code_in p lists).row_start_lem (stepped first q x)
+  pub start_is : s ≡ (code_in p lists).row_start (stepped first q x)
   pub part_room : CheckMemory rows (s + from) (end - from) n lanes a
   pub in_row : InRow (var rows) base (s + from) (end - from)
 
@@ -179,7 +179,7 @@ row_part {n} {p} {lanes} {first} {q} {m} {base} {from} {upto} {x} {s} {d} {end} 
           (part_in g n (edges_in p lists) h end (omega arith) (omega (arith, D)) (omega (arith, D, g.rises, g.begins x h)) (λ k. omega (arith, D))));
     }
   where
-    S : s ≡ (code_in p lists).row_start_lem (stepped first q x)
+    S : s ≡ (code_in p lists).row_start (stepped first q x)
     S = e ∙ sym (start_in p lists (stepped first q x) (omega (arith, r.inside x h)))
 
     D : degree (code_in p lists) (stepped first q x) ≡ d

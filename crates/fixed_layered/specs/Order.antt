@@ -13,7 +13,7 @@ use Rattle.iteration.specs.Full.{place_of, laid_out}
 
 module _ {code : Code} {c : ℕ → ℕ} {m E n : ℕ} (o : Order code c m E n) where
   -- a check's place is not behind its first edge
-  place_start : (x : ℕ) → x < m → place_of code c x ≤ code.row_start_lem (c x)
+  place_start : (x : ℕ) → x < m → place_of code c x ≤ code.row_start (c x)
   unfolding place_of
   place_start zero h = omega arith
   place_start (suc x) h = omega (arith, place_start x (omega arith), o.next x (suc x) (omega arith) h)

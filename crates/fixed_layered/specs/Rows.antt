@@ -31,7 +31,7 @@ InRow v base s d = (k : ℕ) → k < d → (base ≤ v (s + k)) × (v (s + k) < 
 
 -- in each check of the run the row's edges are those from `from` up to `upto`
 pub record Grouped (code : Code) (c : ℕ → ℕ) (m base from upto : ℕ) : Type 0 where
-  pub split : (x k : ℕ) → x < m → k < degree code (c x) → Split from upto base k (code.rows (code.row_start_lem (c x) + k))
+  pub split : (x k : ℕ) → x < m → k < degree code (c x) → Split from upto base k (code.rows (code.row_start (c x) + k))
   pub begins : (x : ℕ) → x < m → from ≤ degree code (c x)
   pub rises : from ≤ upto
 
@@ -115,9 +115,9 @@ module _ (n E lanes : ℕ) (v : ℕ → ℕ) (base s pl : ℕ) (a : List ℤ) (B
 -- ---- the row's edges of a whole check, u a variable of the row
 module _ {code : Code} {c : ℕ → ℕ} {m base from upto : ℕ} (g : Grouped code c m base from upto) (n E : ℕ) {x : ℕ} (h : x < m) (end : ℕ) (up : end ≤ upto) (most : end ≤ degree code (c x)) (least : from ≤ end) (all : end < upto → end ≡ degree code (c x)) where
   pub part_is : (u : ℕ) (f : ℕ → ℤ) (a : Sum) → base ≤ u → u < base + 374
-      → gather_at n E code.rows u (code.row_start_lem (c x)) (place_of code c x) f (degree code (c x)) a ≡ gather_at n E code.rows u (code.row_start_lem (c x) + from) (place_of code c x + from) f (end - from) a
+      → gather_at n E code.rows u (code.row_start (c x)) (place_of code c x) f (degree code (c x)) a ≡ gather_at n E code.rows u (code.row_start (c x) + from) (place_of code c x + from) f (end - from) a
   part_is u f a lo hi =
-      at_part n E code.rows u (code.row_start_lem (c x)) (place_of code c x) f a from end (degree code (c x)) least most
+      at_part n E code.rows u (code.row_start (c x)) (place_of code c x) f a from end (degree code (c x)) least most
       (λ k q e. omega (arith, (g.split x k h (omega arith)).before q, e))
       (λ k q r e. omega (arith, (g.split x k h r).behind (behind k q r (dec_lt end upto)), e))
     where
@@ -125,9 +125,9 @@ module _ {code : Code} {c : ℕ → ℕ} {m base from upto : ℕ} (g : Grouped c
       behind k q r (yes d) = absurd (omega (arith, all d))
       behind k q r (no d) = omega arith
 
-  pub part_in : InRow code.rows base (code.row_start_lem (c x) + from) (end - from)
+  pub part_in : InRow code.rows base (code.row_start (c x) + from) (end - from)
   part_in k q =
-      let e : code.row_start_lem (c x) + (from + k) ≡ code.row_start_lem (c x) + from + k = omega arith in
+      let e : code.row_start (c x) + (from + k) ≡ code.row_start (c x) + from + k = omega arith in
       let s = g.split x (from + k) h (omega arith) in
       let lo = s.from (omega arith) in
       let hi = s.upto (omega arith) in
@@ -137,10 +137,10 @@ module _ {code : Code} {c : ℕ → ℕ} {m base from upto : ℕ} (g : Grouped c
 abbrev pub run_sum : ℕ → ℕ → Code → (ℕ → ℕ) → ℕ → ℕ → List ℤ → ℕ → ℕ → ℕ → Sum
 run_sum n E code c base lanes a x i j = gather_run_at n E code c (base + j) (column lanes a i) x
 
-pub row_start_lem : (n E : ℕ) (code : Code) (c : ℕ → ℕ) (base lanes : ℕ) (a : List ℤ) (seen : List Bool) (sums : List ℤ) → ((j : ℕ) → get_or seen j false ≡ false)
+pub row_start : (n E : ℕ) (code : Code) (c : ℕ → ℕ) (base lanes : ℕ) (a : List ℤ) (seen : List Bool) (sums : List ℤ) → ((j : ℕ) → get_or seen j false ≡ false)
     → Gathers lanes (place_of code c 0) (run_sum n E code c base lanes a 0) seen sums
 unfolding gather_run_at
-row_start_lem n E code c base lanes a seen sums zeros =
+row_start n E code c base lanes a seen sums zeros =
     record {
       is = λ i j q r. record { seen = zeros j; total = λ e. absurd (true≢false (sym e ∙ zeros j)) };
       small = λ j r e. absurd (true≢false (sym e ∙ zeros j));
@@ -148,7 +148,7 @@ row_start_lem n E code c base lanes a seen sums zeros =
 
 pub row_again : (n E : ℕ) {code : Code} {c : ℕ → ℕ} {m base from upto lanes : ℕ} (a : List ℤ) {x end s pl : ℕ} {seen seen' : List Bool} {sums sums' : List ℤ}
     → Grouped code c m base from upto → x < m → end ≤ upto → end ≤ degree code (c x)
-    → from ≤ end → (end < upto → end ≡ degree code (c x)) → s ≡ code.row_start_lem (c x) → pl ≡ place_of code c x → Gathers lanes (place_of code c x) (run_sum n E code c base lanes a x) seen sums
+    → from ≤ end → (end < upto → end ≡ degree code (c x)) → s ≡ code.row_start (c x) → pl ≡ place_of code c x → Gathers lanes (place_of code c x) (run_sum n E code c base lanes a x) seen sums
     → Gathers lanes (pl + from + (end - from)) (λ i j. gather_at n E code.rows (base + j) (s + from) (pl + from) (column lanes a i) (end - from) (sum_at lanes seen sums i j)) seen' sums'
     → Gathers lanes (place_of code c (x + 1)) (run_sum n E code c base lanes a (x + 1)) seen' sums'
 unfolding gather_run_at place_of
@@ -211,7 +211,7 @@ settled_row_start n E code c base lanes sums a = record { in_row = λ i u q l h.
 
 pub settled_row_again : {n E : ℕ} {code : Code} {c : ℕ → ℕ} {m base from upto lanes : ℕ} {sums a a' a'' : List ℤ} {x end s : ℕ} → Grouped code c m base from upto → x < m
     → end ≤ upto → end ≤ degree code (c x) → from ≤ end
-    → (end < upto → end ≡ degree code (c x)) → s ≡ code.row_start_lem (c x) → RowSettled n E code c base lanes sums a x a' → CheckSettled code.rows base (s + from) lanes sums a' (end - from) a''
+    → (end < upto → end ≡ degree code (c x)) → s ≡ code.row_start (c x) → RowSettled n E code c base lanes sums a x a' → CheckSettled code.rows base (s + from) lanes sums a' (end - from) a''
     → RowSettled n E code c base lanes sums a (x + 1) a''
 unfolding gather_run_at
 settled_row_again {n} {E} {code} {c} {m} {base} {from} {upto} {lanes} {sums} {a} {a'} {a''} {x} {end} {s} g h up most least all e r k =
@@ -229,7 +229,7 @@ settled_row_again {n} {E} {code} {c} {m} {base} {from} {upto} {lanes} {sums} {a}
     })
   where
     S : ℕ
-    S = code.row_start_lem (c x) + from
+    S = code.row_start (c x) + from
 
     here : (i : ℕ) → i < lanes → column lanes a'' i ≡ wrote (λ k. code.rows (S + k)) (λ k. sat_z (int_at sums ((code.rows (S + k) - base) * lanes + i))) (column lanes a' i) (end - from)
     here i q = k.is i q ∙ (λ y. wrote (λ k. code.rows (e y + from + k)) (λ k. sat_z (int_at sums ((code.rows (e y + from + k) - base) * lanes + i))) (column lanes a' i) (end - from))

@@ -18,8 +18,8 @@ pub record InRun (n p lanes first q m : ℕ) (lists : List ℕ) (a : List ℤ) :
   pub few_checks : p ≤ 44880
   pub few_bits : n ≤ 44880
 
-pub in-run-to : {n p lanes first q m : ℕ} {lists : List ℕ} {a b : List ℤ} → length b ≡ length a → InRun n p lanes first q m lists a → InRun n p lanes first q m lists b
-in-run-to e r = record { memory = memory_to e r.memory; inside = r.inside; step = r.step; few_edges = r.few_edges; few_checks = r.few_checks; few_bits = r.few_bits }
+pub in_run_to : {n p lanes first q m : ℕ} {lists : List ℕ} {a b : List ℤ} → length b ≡ length a → InRun n p lanes first q m lists a → InRun n p lanes first q m lists b
+in_run_to e r = record { memory = memory_to e r.memory; inside = r.inside; step = r.step; few_edges = r.few_edges; few_checks = r.few_checks; few_bits = r.few_bits }
 
 -- a run has few checks
 pub few_turns : {n p lanes first q m : ℕ} {lists : List ℕ} {a : List ℤ} (x : ℕ) → InRun n p lanes first q m lists a → x < m → x < 44880

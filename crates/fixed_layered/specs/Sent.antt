@@ -30,9 +30,9 @@ within_wrote E p d x f g h is = λ i e. go e (ltb e E) refl i
 
 -- ---- what a column holds of the edges of a run whose messages are sent
 pub record Sent (n E : ℕ) (code : Code) (c : ℕ → ℕ) (m : ℕ) (w : Run) (f : ℕ → ℤ) : Type 0 where
-  pub t_is : (x k : ℕ) → x < m → k < degree code (c x) → f (n + E + (place_of code c x + k)) ≡ sat_z (w.L (code.rows (code.row_start_lem (c x) + k)) -ℤ w.old (code.row_start_lem (c x) + k))
-  pub old_is : (x k : ℕ) → x < m → k < degree code (c x) → f (n + 2 * E + (place_of code c x + k)) ≡ w.old (code.row_start_lem (c x) + k)
-  pub new_is : (x k : ℕ) → x < m → k < degree code (c x) → f (n + (code.row_start_lem (c x) + k)) ≡ w.new (code.row_start_lem (c x) + k)
+  pub t_is : (x k : ℕ) → x < m → k < degree code (c x) → f (n + E + (place_of code c x + k)) ≡ sat_z (w.L (code.rows (code.row_start (c x) + k)) -ℤ w.old (code.row_start (c x) + k))
+  pub old_is : (x k : ℕ) → x < m → k < degree code (c x) → f (n + 2 * E + (place_of code c x + k)) ≡ w.old (code.row_start (c x) + k)
+  pub new_is : (x k : ℕ) → x < m → k < degree code (c x) → f (n + (code.row_start (c x) + k)) ≡ w.new (code.row_start (c x) + k)
 
 pub sent : {n E : ℕ} {code : Code} {c : ℕ → ℕ} {m : ℕ} (sh : ℕ → Bool) (o : ℤ) (f : ℕ → ℤ) (w : Full) → Order code c m E n → full_of n E f ≡ part_full o code c sh m w
     → Sent n E code c m (run_of o code c m w.word) f
@@ -43,13 +43,13 @@ sent {n} {E} {code} {c} {m} sh o f w ord is =
           λ x k h q. sym (within_at E (λ e. f (n + E + e)) (place_of code c x + k) (omega (arith, place_ends ord x h)))
           ∙ ap (λ (z : Full). z.t (place_of code c x + k)) is
           ∙ laid_at ord (t_sent o code c w.word) w.t m (omega arith) x k h q
-          ∙ ap (λ (z : ℤ). sat_z (w.word.L (code.rows (code.row_start_lem (c x) + k)) -ℤ z)) (before ord o w.word.L w.word.r x k h);
+          ∙ ap (λ (z : ℤ). sat_z (w.word.L (code.rows (code.row_start (c x) + k)) -ℤ z)) (before ord o w.word.L w.word.r x k h);
       old_is =
           λ x k h q. sym (within_at E (λ e. f (n + 2 * E + e)) (place_of code c x + k) (omega (arith, place_ends ord x h)))
           ∙ ap (λ (z : Full). z.old (place_of code c x + k)) is
           ∙ laid_at ord (old_sent o code c w.word) w.old m (omega arith) x k h q
           ∙ before ord o w.word.L w.word.r x k h;
       new_is =
-          λ x k h q. sym (within_at E (λ e. f (n + e)) (code.row_start_lem (c x) + k) (omega (arith, ord.last x h)))
-          ∙ ap (λ (z : Full). z.word.r (code.row_start_lem (c x) + k)) is;
+          λ x k h q. sym (within_at E (λ e. f (n + e)) (code.row_start (c x) + k) (omega (arith, ord.last x h)))
+          ∙ ap (λ (z : Full). z.word.r (code.row_start (c x) + k)) is;
     }

@@ -3,6 +3,8 @@
 // A run's checks are first + x * q, x below m; the t and old messages of its edges stand one check after the other.
 // In a layer in which variables can have several edges (fixed_conflicts), a run first leaves their values. Then row after row of 374 variables
 // is gathered into `sums`, 374 times `lanes` of them, and settled.
+#![tactic(auto)]
+
 ghost use Rattle.std.specs.Prelude.{◌≡◌, cond, true, false, ℕ, ◌<◌, ◌≤◌, ◌+◌, ◌*◌, ◌-◌, min, get_or, length, nat_abs, ◌+ℤ◌, ◌-ℤ◌};
 ghost use Rattle.laws.specs.Definitions.{min_z, max_z};
 ghost use Rattle.iteration.specs.Value.{sat_z};
@@ -28,7 +30,7 @@ use ldpc_shape::{GROUP, MAX_Q, Sizes};
 pub const SUMS: usize = 64 * GROUP;
 
 // What an iteration goes by: n variables, p checks in q layers, the rows of addresses, the lanes, and how many checks a run has.
-#[derive(Drop)]
+#[derive(Clone, Copy)]
 struct Layering {
     n: usize,
     p: usize,
@@ -39,7 +41,7 @@ struct Layering {
 }
 
 // A run of layer l: the checks first + x * q, x below m. `shared` if variables can have several edges in it.
-#[derive(Drop)]
+#[derive(Clone, Copy)]
 struct CheckRun {
     l: usize,
     first: usize,
@@ -48,7 +50,7 @@ struct CheckRun {
 }
 
 // The row of the 374 variables from `base` on. In each check of the run its edges are those from `from` up to `upto`.
-#[derive(Drop)]
+#[derive(Clone, Copy)]
 struct RowSpan {
     base: usize,
     from: usize,
@@ -85,8 +87,8 @@ fn gather(
     seen: bool,
     many: usize,
 )
-    requires lanes_in_bounds { (tu * lanes + lanes ≤ length work.now) × ((ru * lanes + lanes ≤ length work.now) × (ou * lanes + lanes ≤ length work.now)) }
-    requires lanes_in_bounds_2 { (at + lanes ≤ length sums.old) × ((many ≤ 7000000) × (seen ≡ true → SmallSums lanes at many sums.old)) }
+    requires rows { (tu * lanes + lanes ≤ length work.now) × ((ru * lanes + lanes ≤ length work.now) × (ou * lanes + lanes ≤ length work.now)) }
+    requires sums { (at + lanes ≤ length sums.old) × ((many ≤ 7000000) × (seen ≡ true → SmallSums lanes at many sums.old)) }
     ensures { EdgeGathered lanes at tu ru ou seen work.now sums.old lanes sums.new × SmallSums lanes at (many + 1) sums.new }
 {
     let mut i: usize = 0;
@@ -368,7 +370,7 @@ fn shared_run(
     run: CheckRun,
 )
     requires in_run { InRun of.n of.p of.lanes run.first of.q run.m lists.now work.old × (rows.now ≡ rows_in of.p lists.now) }
-    requires by_index { (v : ℕ) → shared_in flags.now v ≡ false → Once (code_in of.p lists.now) (stepped run.first of.q) run.m v }
+    requires once { (v : ℕ) → shared_in flags.now v ≡ false → Once (code_in of.p lists.now) (stepped run.first of.q) run.m v }
     requires in_bounds { (2048 ≤ length t.old) × (2048 ≤ length u.old) }
     ensures { PartMade (shared_in flags.now) of.n of.p of.lanes offset lists.now run.first of.q run.m work.old work.new }
 {
@@ -405,7 +407,7 @@ fn run(
 )
     requires in_run { InRun of.n of.p of.lanes run.first of.q run.m lists.now work.old }
     requires shares { Shares of.n of.q (code_in of.p lists.now) run.first run.m run.l table.now flags.now × ((length table.now ≡ spans_length) × ((run.l < 120) × (0 < run.m))) }
-    requires false_value { run.shared ≡ false → (g : ℕ) → get_or flags.now g false ≡ false }
+    requires unshared { run.shared ≡ false → (g : ℕ) → get_or flags.now g false ≡ false }
     requires in_bounds { (2048 ≤ length t.old) × ((2048 ≤ length u.old) × (374 * of.lanes ≤ length sums.old)) }
     ensures { RunMade of.n of.p of.lanes offset lists.now run.first of.q run.m work.old work.new }
 {
@@ -471,7 +473,7 @@ fn layers(
     of: Layering,
     offset: i8,
 )
-    requires by_index { ((l : ℕ) → l < of.q → InLayer of.n of.p of.lanes of.q of.step l lists.now work.old) × Sharing of.n of.p of.q of.rows lists.now table.now }
+    requires layers { ((l : ℕ) → l < of.q → InLayer of.n of.p of.lanes of.q of.step l lists.now work.old) × Sharing of.n of.p of.q of.rows lists.now table.now }
     requires in_bounds { (2048 ≤ length t.old) × ((2048 ≤ length u.old) × (374 * of.lanes ≤ length sums.old)) }
     ensures { LayersMade of.n of.p of.lanes offset lists.now of.q of.step work.old of.q work.new }
 {

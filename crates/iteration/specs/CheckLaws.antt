@@ -32,8 +32,10 @@ module _ (t u : ℕ → ℤ) where
   unfolding min2
   min2_same zero h = refl
   min2_same (suc n) h =
-      λ i. cond (ltb (magnitude (h n (omega arith) i)) (min1_same n (fewer n h) i)) (min1_same n (fewer n h) i)
-      (min (min2_same n (fewer n h) i) (magnitude (h n (omega arith) i)))
+      let a : min1 t n ≡ min1 u n = min1_same n (fewer n h) in
+      let b : min2 t n ≡ min2 u n = min2_same n (fewer n h) in
+      let c : t n ≡ u n = h n (omega arith) in
+      rw (a, b, c) refl
 
   first_same : (n : ℕ) → Agree n → first t n ≡ first u n
   unfolding first

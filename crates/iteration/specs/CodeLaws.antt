@@ -12,8 +12,9 @@ use Rattle.std.proofs.Math.Seq.{take_at, drop_at}
 use Rattle.ldpc_shape.specs.Shape.{p_of, e_of}
 use Rattle.ldpc_shape.specs.Accepted.{Accepted, p_is, q_pos}
 use Rattle.ldpc_edges.specs.Code.{check, joined, row_start, rows, edge_lists}
-use Rattle.ldpc_edges.specs.Count.{check_below}
-use Rattle.ldpc_edges.specs.Layout.{Laid, laid, start_length, rows_length, lists_length}
+use Rattle.ldpc_edges.proofs.Count.{check_below}
+use Rattle.ldpc_edges.specs.Layout.{Laid}
+use Rattle.ldpc_edges.proofs.Lists.{laid, start_length, rows_length, lists_length}
 use Rattle.iteration.specs.Lists.{Lists, rows_in, edges_in, code_in}
 use Rattle.iteration.specs.Code.{code_of}
 
@@ -32,7 +33,7 @@ module _ (n : ℕ) (lens addrs lists : List ℕ) (is : lists ≡ edge_lists n le
 
   pub code_in_is : code_in (p_of n lens) lists ≡ code_of n lens addrs
   unfolding code_of
-  code_in_is = λ i. record { rows = λ e. get_or (rows_are i) e 0; row_start_lem = λ c. get_or (starts_are i) c 0 }
+  code_in_is = λ i. record { rows = λ e. get_or (rows_are i) e 0; row_start = λ c. get_or (starts_are i) c 0 }
 
 big : (n : ℕ) (lens addrs : List ℕ) → Accepted n lens addrs → 747 ≤ e_of n lens addrs
 unfolding e_of

@@ -5,7 +5,7 @@ use Rattle.iteration.specs.Iteration.{Code, degree, unsatisfied, unsatisfied_cou
 
 -- whether the values L leave check c unsatisfied: 1, else 0
 abbrev pub unmet_at : Code → (ℕ → ℤ) → ℕ → ℕ
-unmet_at code L c = unsatisfied code.rows (code.row_start_lem c) (degree code c) L
+unmet_at code L c = unsatisfied code.rows (code.row_start c) (degree code c) L
 
 -- "one unsatisfied check (any; 0 if none)": what holds of the check that a record names, of p checks and the values x that were counted
 pub record Names (code : Code) (p : ℕ) (x : Word) (check : ℕ) : Type 0 where

@@ -8,8 +8,8 @@ use Rattle.iteration.specs.Iteration.{in_run, run_size, run_count}
 -- the iteration comes to check i of run j of layer l
 pub record Comes (q s l j i : ℕ) : Type 0 where
   pub layer : l < q
-  pub in-layer : j < run_count s
-  pub in-run : i < run_size s j
+  pub in_layer_lem : j < run_count s
+  pub in_run_lem : i < run_size s j
 
 pub record Covers (q s : ℕ) : Type 0 where
   -- every check is in a run,
@@ -71,16 +71,16 @@ module _ (q s : ℕ) (step : 0 < s) where
             let d = div-add-mod' c q in
             let e = div-add-mod' x s in (
               c % q,
-              (x / s, (x % s, (record { layer = mod-lt c (omega arith); in-layer = enough x (below c h); in-run = omega (arith, mod-lt x step, below c h, e) }, ap (λ (y : ℕ). c % q + y * q) e ∙ (omega (arith, d))))),
+              (x / s, (x % s, (record { layer = mod-lt c (omega arith); in_layer_lem = enough x (below c h); in_run_lem = omega (arith, mod-lt x step, below c h, e) }, ap (λ (y : ℕ). c % q + y * q) e ∙ (omega (arith, d))))),
             );
         once =
             λ l j i l' j' i' a b e. let f = same_digits q (j * s + i) (j' * s + i') l l' a.layer b.layer (omega arith) in
-            let g = same_digits s j j' i i' (omega (arith, a.in-run)) (omega (arith, b.in-run)) f.0 in
+            let g = same_digits s j j' i i' (omega (arith, a.in_run_lem)) (omega (arith, b.in_run_lem)) f.0 in
             (f.1, (g.0, g.1));
-        only = λ l j i a. let z : (j * s + i + 1) * q ≤ 374 * q = mul-le-mul_right q (omega (arith, a.in-run)) in omega (arith, a.layer);
+        only = λ l j i a. let z : (j * s + i + 1) * q ≤ 374 * q = mul-le-mul_right q (omega (arith, a.in_run_lem)) in omega (arith, a.layer);
         some = λ j h. omega (arith, counted j h);
         runs_ascend =
             λ l j i j' i' h a b. let z : (j + 1) * s ≤ j' * s = mul-le-mul_right s (omega arith) in
-            in_order l (j * s + i) (j' * s + i') a.layer (omega (arith, a.in-run));
+            in_order l (j * s + i) (j' * s + i') a.layer (omega (arith, a.in_run_lem));
         checks_ascend = λ l j i i' h a. in_order l (j * s + i) (j * s + i') a.layer (omega arith);
       }

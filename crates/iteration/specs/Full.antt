@@ -23,10 +23,10 @@ laid_out code c x f (suc i) = wrote (λ k. place_of code c i + k) (x i) (laid_ou
 
 -- t and the message before it, of edge k of check i
 abbrev pub t_sent : ℤ → Code → (ℕ → ℕ) → Word → ℕ → ℕ → ℤ
-t_sent o code c w i = t_of code.rows (code.row_start_lem (c i)) w.L (run_r o code c w.L w.r i)
+t_sent o code c w i = t_of code.rows (code.row_start (c i)) w.L (run_r o code c w.L w.r i)
 
 abbrev pub old_sent : ℤ → Code → (ℕ → ℕ) → Word → ℕ → ℕ → ℤ
-old_sent o code c w i k = run_r o code c w.L w.r i (code.row_start_lem (c i) + k)
+old_sent o code c w i k = run_r o code c w.L w.r i (code.row_start (c i) + k)
 
 -- a run's m checks, but for the values of shared variables
 abbrev pub part_full : ℤ → Code → (ℕ → ℕ) → (ℕ → Bool) → ℕ → Full → Full
@@ -62,9 +62,9 @@ check_unless sh o v s d w =
 abbrev pub part_check : (ℕ → Bool) → ℤ → Code → (ℕ → ℕ) → ℕ → Full → Full
 part_check sh o code c x g =
     record {
-      word = check_unless sh o code.rows (code.row_start_lem (c x)) (degree code (c x)) g.word;
-      t = wrote (λ k. place_of code c x + k) (t_of code.rows (code.row_start_lem (c x)) g.word.L g.word.r) g.t (degree code (c x));
-      old = wrote (λ k. place_of code c x + k) (λ k. g.word.r (code.row_start_lem (c x) + k)) g.old (degree code (c x));
+      word = check_unless sh o code.rows (code.row_start (c x)) (degree code (c x)) g.word;
+      t = wrote (λ k. place_of code c x + k) (t_of code.rows (code.row_start (c x)) g.word.L g.word.r) g.t (degree code (c x));
+      old = wrote (λ k. place_of code c x + k) (λ k. g.word.r (code.row_start (c x) + k)) g.old (degree code (c x));
     }
 
 -- the first x checks

@@ -2,7 +2,7 @@
 -- where no variable has several edges, the run is its checks in turn.
 --
 -- In order: checks in turn that leave the values of shared variables; what the run gathers, and that those checks make it (`checks_run`);
--- `in-turn-run`.
+-- `in_turn_run`.
 --
 -- Not here: the same on memory (fixed_layered, Checks).
 use Rattle.std.specs.Prelude.{◌≡◌, Bool, true, false, cond, eqb, ℤ, pos, ◌+ℤ◌, ◌-ℤ◌}
@@ -21,15 +21,15 @@ use Rattle.iteration.specs.Full.{Full, place_of, laid_out, t_sent, old_sent, par
 
 module _ {code : Code} {c : ℕ → ℕ} {m E n : ℕ} (o : Order code c m E n) where
   -- the messages of the run's first i checks leave the others
-  sent_other : (ofs : ℤ) (L r : ℕ → ℤ) (i e : ℕ) → i ≤ m → ((j : ℕ) → j < i → code.row_start_lem (c j) + degree code (c j) ≤ e) → run_r ofs code c L r i e ≡ r e
+  sent_other : (ofs : ℤ) (L r : ℕ → ℤ) (i e : ℕ) → i ≤ m → ((j : ℕ) → j < i → code.row_start (c j) + degree code (c j) ≤ e) → run_r ofs code c L r i e ≡ r e
   unfolding run_r new_r
   sent_other ofs L r zero e h b = refl
   sent_other ofs L r (suc i) e h b =
-      wrote_other (λ k. code.row_start_lem (c i) + k) _ (run_r ofs code c L r i) (degree code (c i)) e (λ k q y. omega (arith, b i (omega arith)))
+      wrote_other (λ k. code.row_start (c i) + k) _ (run_r ofs code c L r i) (degree code (c i)) e (λ k q y. omega (arith, b i (omega arith)))
       ∙ sent_other ofs L r i e (omega arith) (λ j q. b j (omega arith))
 
-  pub before : (ofs : ℤ) (L r : ℕ → ℤ) (x k : ℕ) → x < m → run_r ofs code c L r x (code.row_start_lem (c x) + k) ≡ r (code.row_start_lem (c x) + k)
-  before ofs L r x k h = sent_other ofs L r x (code.row_start_lem (c x) + k) (omega arith) (λ j q. omega (arith, o.next j x q h))
+  pub before : (ofs : ℤ) (L r : ℕ → ℤ) (x k : ℕ) → x < m → run_r ofs code c L r x (code.row_start (c x) + k) ≡ r (code.row_start (c x) + k)
+  before ofs L r x k h = sent_other ofs L r x (code.row_start (c x) + k) (omega arith) (λ j q. omega (arith, o.next j x q h))
 
 -- ---- what the definition gathers: nothing from checks that have no edge of u
 check_none : (w : Run) (u s d : ℕ) (a : Sum) → ((k : ℕ) → k < d → w.v (s + k) ≡ u → ⊥) → gather_check w u s d a ≡ a
@@ -47,7 +47,7 @@ module _ (o : ℤ) (code : Code) (c : ℕ → ℕ) (m E n : ℕ) (ord : Order co
   W = run_of o code c m w
 
   abbrev start : ℕ → ℕ
-  start x = code.row_start_lem (c x)
+  start x = code.row_start (c x)
 
   none_run : (u x : ℕ) → ((y k : ℕ) → y < x → k < degree code (c y) → code.rows (start y + k) ≡ u → ⊥) → gather_run W code c u x ≡ nothing
   unfolding gather_run
@@ -178,11 +178,11 @@ checks_word : (o : ℤ) (code : Code) (c : ℕ → ℕ) (x : ℕ) (f : Full) →
 unfolding checks_full in_turn
 checks_word o code c zero f = refl
 checks_word o code c (suc x) f =
-    check_unless_lem o code.rows (code.row_start_lem (c x)) (degree code (c x)) (checks_full (λ v. false) o code c x f).word
-    ∙ ap (check o code.rows (code.row_start_lem (c x)) (degree code (c x))) (checks_word o code c x f)
+    check_unless_lem o code.rows (code.row_start (c x)) (degree code (c x)) (checks_full (λ v. false) o code c x f).word
+    ∙ ap (check o code.rows (code.row_start (c x)) (degree code (c x))) (checks_word o code c x f)
 
-pub in-turn-run : (o : ℤ) (code : Code) (c : ℕ → ℕ) (m E n : ℕ) → Order code c m E n → ((v : ℕ) → Once code c m v) → (w : Word) → in_turn o code c m w ≡ run o code c m w
+pub in_turn_run : (o : ℤ) (code : Code) (c : ℕ → ℕ) (m E n : ℕ) → Order code c m E n → ((v : ℕ) → Once code c m v) → (w : Word) → in_turn o code c m w ≡ run o code c m w
 unfolding run
-in-turn-run o code c m E n ord once w =
+in_turn_run o code c m E n ord once w =
     let f : Full = record { word = w; t = λ e. pos 0; old = λ e. pos 0 } in
     sym (checks_word o code c m f) ∙ ap (λ (g : Full). g.word) (checks_run o code c m E n ord (λ v. false) (λ v e. once v) f)

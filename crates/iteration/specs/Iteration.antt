@@ -4,18 +4,18 @@ use Rattle.laws.specs.Definitions.{negative}
 use Rattle.iteration.specs.Value.{sat_z}
 use Rattle.iteration.specs.Check.{Word, check, new_r}
 
--- The code as the iteration sees it: edge e's variable, and check c's edges, which are row_start_lem c up to row_start_lem (c + 1).
+-- The code as the iteration sees it: edge e's variable, and check c's edges, which are row_start c up to row_start (c + 1).
 pub record Code : Type 0 where
   pub rows : ℕ → ℕ
-  pub row_start_lem : ℕ → ℕ
+  pub row_start : ℕ → ℕ
 
 abbrev pub degree : Code → ℕ → ℕ
-degree code c = code.row_start_lem (suc c) - code.row_start_lem c
+degree code c = code.row_start (suc c) - code.row_start c
 
 -- The checks c 0, .., c (m − 1), each reading what the ones before it wrote.
 unfoldable pub in_turn : ℤ → Code → (ℕ → ℕ) → ℕ → Word → Word
 in_turn offset code c zero w = w
-in_turn offset code c (suc m) w = check offset code.rows (code.row_start_lem (c m)) (degree code (c m)) (in_turn offset code c m w)
+in_turn offset code c (suc m) w = check offset code.rows (code.row_start (c m)) (degree code (c m)) (in_turn offset code c m w)
 
 -- Sequential: the checks 0 to p − 1.
 abbrev pub sequential : ℤ → Code → ℕ → Word → Word
@@ -24,7 +24,7 @@ sequential offset code p w = in_turn offset code (λ c. c) p w
 -- ---- Layered. A run, which here is one of checks (the Rust's step): the checks c 0, .., c (m − 1), all reading the run's starting L. Their messages:
 unfoldable pub run_r : ℤ → Code → (ℕ → ℕ) → (ℕ → ℤ) → (ℕ → ℤ) → ℕ → ℕ → ℤ
 run_r offset code c L r zero = r
-run_r offset code c L r (suc m) = new_r offset code.rows (code.row_start_lem (c m)) (degree code (c m)) L (run_r offset code c L r m)
+run_r offset code c L r (suc m) = new_r offset code.rows (code.row_start (c m)) (degree code (c m)) L (run_r offset code c L r m)
 
 -- What a variable has gathered from its edges so far: nothing; or t₁ + r₁ of its first, r₁ the new message, and (new − old) of each later one.
 pub record Sum : Type 0 where
@@ -58,7 +58,7 @@ gather_check w u s (suc d) a = gather_edge w u (s + d) (gather_check w u s d a)
 
 unfoldable pub gather_run : Run → Code → (ℕ → ℕ) → ℕ → ℕ → Sum
 gather_run w code c u zero = nothing
-gather_run w code c u (suc m) = gather_check w u (code.row_start_lem (c m)) (degree code (c m)) (gather_run w code c u m)
+gather_run w code c u (suc m) = gather_check w u (code.row_start (c m)) (degree code (c m)) (gather_run w code c u m)
 
 abbrev pub run_of : ℤ → Code → (ℕ → ℕ) → ℕ → Word → Run
 run_of offset code c m w = record { v = code.rows; L = w.L; old = w.r; new = run_r offset code c w.L w.r m }
@@ -114,4 +114,4 @@ unsatisfied v s d L = negatives v s d L % 2
 -- How many of the first p checks are unsatisfied.
 unfoldable pub unsatisfied_count : Code → ℕ → (ℕ → ℤ) → ℕ
 unsatisfied_count code zero L = 0
-unsatisfied_count code (suc p) L = unsatisfied_count code p L + unsatisfied code.rows (code.row_start_lem p) (degree code p) L
+unsatisfied_count code (suc p) L = unsatisfied_count code p L + unsatisfied code.rows (code.row_start p) (degree code p) L

@@ -13,7 +13,7 @@ abbrev pub edges_in : ℕ → List ℕ → ℕ
 edges_in p lists = length (rows_in p lists)
 
 abbrev pub code_in : ℕ → List ℕ → Code
-code_in p lists = record { rows = var (rows_in p lists); row_start_lem = λ c. get_or (take (p + 1) lists) c 0 }
+code_in p lists = record { rows = var (rows_in p lists); row_start = λ c. get_or (take (p + 1) lists) c 0 }
 
 -- What a call may count on: p starts that ascend and a last one, degrees of at most 128, variables below n. A code has 747 edges or more.
 pub record Lists (n p : ℕ) (lists : List ℕ) : Type 0 where

@@ -11,19 +11,19 @@ pub rows_part : (p : ℕ) (lists : List ℕ) → take (length lists - (p + 1)) (
 rows_part p lists = lent_from (p + 1) lists
 
 -- what the code says of check c
-pub start_in : (p : ℕ) (lists : List ℕ) (c : ℕ) → c ≤ p → (code_in p lists).row_start_lem c ≡ get_or lists c 0
+pub start_in : (p : ℕ) (lists : List ℕ) (c : ℕ) → c ≤ p → (code_in p lists).row_start c ≡ get_or lists c 0
 start_in p lists c h = get_or-take (p + 1) lists c 0 (omega arith)
 
 pub degree_in : (p : ℕ) (lists : List ℕ) (c s d : ℕ) → c < p → s ≡ get_or lists c 0 → s + d ≡ get_or lists (c + 1) 0 → degree (code_in p lists) c ≡ d
 degree_in p lists c s d h e f =
     let x = start_in p lists (c + 1) (omega arith) in
     let y = start_in p lists c (omega arith) in
-    let z : (code_in p lists).row_start_lem (suc c) ≡ (code_in p lists).row_start_lem (c + 1) = ap (code_in p lists).row_start_lem (sym (add-one c)) in
+    let z : (code_in p lists).row_start (suc c) ≡ (code_in p lists).row_start (c + 1) = ap (code_in p lists).row_start (sym (add-one c)) in
     omega arith
 
 -- where check c's edges begin and end, of lists
 module _ {n p : ℕ} {lists : List ℕ} (l : Lists n p lists) where
-  pub ends_at : (c : ℕ) → c < p → (code_in p lists).row_start_lem c + degree (code_in p lists) c ≡ get_or lists (c + 1) 0
+  pub ends_at : (c : ℕ) → c < p → (code_in p lists).row_start c + degree (code_in p lists) c ≡ get_or lists (c + 1) 0
   ends_at c h =
       omega (arith, start_in p lists c (omega arith), degree_in p lists c (get_or lists c 0) (get_or lists (c + 1) 0 - get_or lists c 0) h refl (omega (arith, l.ascend c h)), l.ascend c h)
 
@@ -48,6 +48,6 @@ module _ {n p : ℕ} {lists : List ℕ} (l : Lists n p lists) where
             omega (arith, ends_at (stepped first q j) (omega arith), start_in p lists (stepped first q x) (omega arith), rise (stepped first q j + 1) (stepped first q x) y (omega arith));
         last = λ x k. omega (arith, ends_at (stepped first q x) (inside x k), l.within (stepped first q x + 1) (omega (arith, inside x k)));
         below =
-            λ x k h q'. l.variables ((code_in p lists).row_start_lem (stepped first q x) + k)
+            λ x k h q'. l.variables ((code_in p lists).row_start (stepped first q x) + k)
             (omega (arith, ends_at (stepped first q x) (inside x h), l.within (stepped first q x + 1) (omega (arith, inside x h))));
       }

@@ -10,11 +10,12 @@ use lib.ListN.{length, take, drop}
 use lib.Seq.{length-take-le}
 use Rattle.ldpc_shape.specs.declared.Sizes.{Sizes}
 use Rattle.ldpc_shape.specs.Shape.{k_of, p_of, e_of, sizes_of, code_refusal}
-use Rattle.ldpc_shape.specs.Accepted.{accepted, p_pos}
+use Rattle.ldpc_shape.specs.Accepted.{p_pos}
+use Rattle.ldpc_shape.proofs.Accepted.{accepted}
 use Rattle.ldpc_edges.specs.Code.{check, edge_lists, parity, encode, weight}
-use Rattle.ldpc_edges.specs.Degree.{degree_le}
-use Rattle.ldpc_edges.specs.Layout.{lists_length}
-use Rattle.ldpc_edges.specs.Encoder.{parity_length, encode_length}
+use Rattle.ldpc_edges.proofs.Degree.{degree_le}
+use Rattle.ldpc_edges.proofs.Lists.{lists_length}
+use Rattle.ldpc_edges.proofs.Encoder.{parity_length, encode_length}
 use Rattle.ldpc.specs.declared.Made.TheVariants as made
 use Rattle.ldpc.specs.declared.Counted.TheVariants as counted
 use Rattle.ldpc.specs.declared.Written.TheVariants as written

@@ -1,5 +1,7 @@
 // Quasi-cyclic LDPC codes of an address table (ARIB STD-B44 v2.1 section 3.4 (2)): the entry points.
 // A code is lent as n, the length of each row, and the rows' addresses one after the other. None of these has a requires.
+#![tactic(auto)]
+
 ghost use Rattle.std.specs.Prelude.{◌≡◌, length};
 ghost use Rattle.ldpc.specs.Answers.{made_number, counted_number, written_number, new_refusal, check_refusal, parity_refusal, encode_refusal, weight_refusal, new_answer, new_into, check_answer, check_into, parity_answer, parity_into, encode_answer, encode_into, weight_answer};
 

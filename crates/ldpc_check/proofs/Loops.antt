@@ -13,12 +13,14 @@ use lib.Seq.{drop-cons, drop-drop, drop-length, drop-set-lt, take-suc, take-suc-
 use Rattle.laws.specs.Lists.{lent_from, back_from}
 use Rattle.ldpc_shape.specs.declared.Sizes.{Sizes}
 use Rattle.ldpc_shape.specs.Shape.{p_of, q_of, sizes_of, rows_of, total, count_mod, code_refusal}
-use Rattle.ldpc_shape.specs.Accepted.{Accepted, accepted, Bounded, sizes_bounded, rows_le, addrs_le}
+use Rattle.ldpc_shape.specs.Accepted.{Accepted, Bounded, rows_le, addrs_le}
+use Rattle.ldpc_shape.proofs.Accepted.{accepted, sizes_bounded}
 use Rattle.ldpc_shape.specs.Counts.{CountsBelow}
 use Rattle.ldpc_edges.specs.Code.{of_bits, of_rows, meets, only, stairs, check}
-use Rattle.ldpc_edges.specs.Inside.{only_append, rows_next, rows_none}
-use Rattle.ldpc_edges.specs.Insert.{insert, insert_length, place, row_cons}
-use Rattle.ldpc_edges.specs.Degree.{bits_none, bits_count, count_split, degree, degree_le}
+use Rattle.ldpc_edges.proofs.Inside.{only_append, rows_next, rows_none}
+use Rattle.ldpc_edges.specs.Insert.{insert, place}
+use Rattle.ldpc_edges.proofs.Insert.{insert_length, row_cons}
+use Rattle.ldpc_edges.proofs.Degree.{bits_none, bits_count, count_split, degree, degree_le}
 
 -- ---- one bit more among the ascending ones
 module _ (m n : ℕ) (out₀ : List ℕ) where

@@ -1,4 +1,6 @@
 // The list of one check of an accepted code, from the addresses alone: each address equal to c modulo q joins one bit of its row to check c.
+#![tactic(auto)]
+
 ghost use Rattle.std.specs.Prelude.{◌≡◌, ◌++◌, ◌+◌, ◌*◌, ◌<◌, ◌≤◌, length, take, drop};
 ghost use Rattle.ldpc_shape.specs.Shape.{p_of, rows_of, total, code_refusal};
 ghost use Rattle.ldpc_edges.specs.Code.{of_bits, of_rows, only, stairs, check};

@@ -1,75 +1,8 @@
--- Lists of edges: their parts, and where their checks and bits lie.
-use Rattle.std.specs.Prelude.{◌≡◌, refl, Bool, true, false, cond, List, [], ◌∷◌, ◌++◌, ℕ, zero, suc, ◌+◌, ◌*◌, ◌≤◌, ◌<◌, eqb, length, take, drop, get_or}
-use Rattle.std.proofs.Common.{sym, ap, ap₂, ◌∙◌, arith, mod-lt, add-one, eq-eqb, ne_eqb, length-append, drop_of_length-le, drop-cons, drop-drop}
-use Rattle.ldpc_shape.specs.Shape.{k_of, p_of, q_of, rows_of}
-use Rattle.ldpc_edges.specs.Code.{Edge, edge, met, of_bits, of_rows, meets, only}
+-- Where the checks and bits of a list of edges lie. What follows of it: proofs/Inside.
+use Rattle.std.specs.Prelude.{List, [], ◌∷◌, ℕ, ◌<◌}
+use Rattle.ldpc_edges.specs.Code.{Edge, edge}
 
 -- every check is below P and every bit below k
 abbrev pub Inside : ℕ → ℕ → List Edge → Type 0
 Inside P k [] = Unit {0}
 Inside P k (edge p m ∷ es) = (p < P) × (m < k) × Inside P k es
-
-pub inside_append : (P k : ℕ) (xs ys : List Edge) → Inside P k xs → Inside P k ys → Inside P k (xs ++ ys)
-inside_append P k [] ys I J = J
-inside_append P k (edge p m ∷ xs) ys I J = (I.0, I.1, inside_append P k xs ys I.2 J)
-
-pub met_inside : (P q k m j : ℕ) (row : List ℕ) → 0 < P → m < k → Inside P k (met P q m j row)
-unfolding met
-met_inside P q k m j [] pos h = tt
-met_inside P q k m j (a ∷ row) pos h = (mod-lt (a + j * q) pos, h, met_inside P q k m j row pos h)
-
-pub bits_inside : (P q k d m j : ℕ) (row : List ℕ) → 0 < P → m + d ≤ k → Inside P k (of_bits P q d m j row)
-unfolding of_bits
-bits_inside P q k zero m j row pos h = tt
-bits_inside P q k (suc d) m j row pos h =
-    inside_append P k (met P q m j row) _ (met_inside P q k m j row pos (omega arith)) (bits_inside P q k d (suc m) (suc j) row pos (omega arith))
-
-pub rows_inside : (P q k m : ℕ) (rows : List (List ℕ)) → 0 < P → m + 374 * length rows ≤ k → Inside P k (of_rows P q m rows)
-unfolding of_rows
-rows_inside P q k m [] pos h = tt
-rows_inside P q k m (row ∷ rows) pos h =
-    inside_append P k (of_bits P q 374 m 0 row) _ (bits_inside P q k 374 m 0 row pos (omega arith)) (rows_inside P q k (m + 374) rows pos (omega arith))
-
-rows_count : (lens addrs : List ℕ) → length (rows_of lens addrs) ≡ length lens
-unfolding rows_of
-rows_count [] addrs = refl
-rows_count (l ∷ lens) addrs = ap suc (rows_count lens (drop l addrs))
-
-pub meets_inside : (n : ℕ) (lens addrs : List ℕ) → 0 < p_of n lens → Inside (p_of n lens) (k_of lens) (meets n lens addrs)
-unfolding meets k_of
-meets_inside n lens addrs pos = rows_inside (p_of n lens) (q_of n lens) _ 0 (rows_of lens addrs) pos (omega (arith, rows_count lens addrs))
-
-pub only_append : (c : ℕ) (xs ys : List Edge) → only c (xs ++ ys) ≡ only c xs ++ only c ys
-unfolding only
-only_append c [] ys = refl
-only_append c (edge p m ∷ xs) ys = go (eqb p c) (only_append c xs ys)
-  where
-    go : (b : Bool) → only c (xs ++ ys) ≡ only c xs ++ only c ys → cond b (m ∷ only c (xs ++ ys)) (only c (xs ++ ys)) ≡ cond b (m ∷ only c xs) (only c xs) ++ only c ys
-    go true ih = ap (λ (z : List ℕ). m ∷ z) ih
-    go false ih = ih
-
-pub only_length : (c : ℕ) (xs ys : List Edge) → length (only c (xs ++ ys)) ≡ length (only c xs) + length (only c ys)
-only_length c xs ys = ap length (only_append c xs ys) ∙ length-append (only c xs) (only c ys)
-
--- ---- one edge more: it is check c's, or it is not
-pub only_hit : (p m c : ℕ) (es : List Edge) → p ≡ c → only c (edge p m ∷ es) ≡ m ∷ only c es
-unfolding only
-only_hit p m c es e = ap (λ b. cond b (m ∷ only c es) (only c es)) (eq-eqb p c e)
-
-pub only_miss : (p m c : ℕ) (es : List Edge) → (p ≡ c → ⊥) → only c (edge p m ∷ es) ≡ only c es
-unfolding only
-only_miss p m c es e = ap (λ b. cond b (m ∷ only c es) (only c es)) (ne_eqb p c e)
-
--- ---- the edges of the rows from row g on, whose addresses begin at `from`: those of row g first, and none where there is no row
-pub rows_next : (P q : ℕ) (lens addrs : List ℕ) (g from : ℕ) → g < length lens → of_rows P q (374 * g) (rows_of (drop g lens) (drop from addrs))
-    ≡ of_bits P q 374 (374 * g) 0 (take (get_or lens g 0) (drop from addrs)) ++ of_rows P q (374 * (g + 1)) (rows_of (drop (g + 1) lens) (drop (from + get_or lens g 0) addrs))
-unfolding of_rows rows_of
-rows_next P q lens addrs g from h =
-    let e : 374 * g + 374 ≡ 374 * (g + 1) = omega arith in
-    ap (λ (ls : List ℕ). of_rows P q (374 * g) (rows_of ls (drop from addrs))) (drop-cons lens g 0 h ∙ ap (λ (z : ℕ). get_or lens g 0 ∷ drop z lens) (sym (add-one g)))
-    ∙ ap₂ (λ (y : ℕ) (z : List ℕ). of_bits P q 374 (374 * g) 0 (take (get_or lens g 0) (drop from addrs)) ++ of_rows P q y (rows_of (drop (g + 1) lens) z)) e
-    (drop-drop (get_or lens g 0) from addrs)
-
-pub rows_none : (P q m g : ℕ) (lens addrs : List ℕ) → length lens ≤ g → of_rows P q m (rows_of (drop g lens) addrs) ≡ []
-unfolding of_rows rows_of
-rows_none P q m g lens addrs h = ap (λ (ls : List ℕ). of_rows P q m (rows_of ls addrs)) (drop_of_length-le lens {i = g} h)

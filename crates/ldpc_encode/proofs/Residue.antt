@@ -11,9 +11,10 @@ use Rattle.laws.specs.Modulo.{sum_to, sum_none, sum_more, sum_same, sum_grid}
 use Rattle.laws.specs.Stores.{set_at}
 use Rattle.laws.specs.Lists.{lent_from}
 use Rattle.ldpc_shape.specs.Shape.{k_of, p_of, q_of, rows_of, total, code_refusal}
-use Rattle.ldpc_shape.specs.Accepted.{Accepted, accepted, p_is, p_pos, n_is, q_pos, q_le}
+use Rattle.ldpc_shape.specs.Accepted.{Accepted, p_is, p_pos, n_is, q_pos, q_le}
+use Rattle.ldpc_shape.proofs.Accepted.{accepted}
 use Rattle.ldpc_edges.specs.Code.{of_rows, meets, only, ones, stairs, check, sums, parity, unmet, unmets, weight}
-use Rattle.ldpc_edges.specs.Encoder.{parity_from}
+use Rattle.ldpc_edges.proofs.Encoder.{parity_from}
 use Rattle.ldpc_encode.specs.Sums.{AddedToSums, info_bit, Scattered, stair_bit, unmet_at}
 use Rattle.ldpc_encode.proofs.Rows.{at_mod, at_lt, ones_append}
 

@@ -11,9 +11,10 @@ use lib.ListN.{length, take, drop, get_or}
 use lib.Seq.{get_or-take, get_or-drop}
 use Rattle.ldpc_shape.specs.Shape.{rows_of}
 use Rattle.ldpc_edges.specs.Code.{Edge, of_bits, of_rows, only, ones}
-use Rattle.ldpc_edges.specs.Inside.{only_append, rows_next, rows_none}
-use Rattle.ldpc_edges.specs.Insert.{insert, insert_ones, place, row_cons}
-use Rattle.ldpc_edges.specs.Degree.{bits_none}
+use Rattle.ldpc_edges.proofs.Inside.{only_append, rows_next, rows_none}
+use Rattle.ldpc_edges.specs.Insert.{insert, place}
+use Rattle.ldpc_edges.proofs.Insert.{insert_ones, row_cons}
+use Rattle.ldpc_edges.proofs.Degree.{bits_none}
 use Rattle.ldpc_encode.specs.Sums.{turned_bit, row_bit, info_bit, AddedToSums}
 use Rattle.ldpc_encode.proofs.Bits.{Left, left_add, left_none}
 

@@ -1,5 +1,7 @@
 // Parity, encoded word and syndrome weight of an accepted code.
 // The checks are taken by their residue modulo q, 374 at a time: an address adds its row's 374 bits, turned, to those of its residue.
+#![tactic(auto)]
+
 ghost use Rattle.std.specs.Prelude.{◌≡◌, ◌++◌, ℕ, ◌+◌, ◌*◌, ◌/◌, ◌%◌, ◌<◌, ◌≤◌, length, drop, get_or};
 ghost use Rattle.laws.specs.Modulo.{sum_to};
 ghost use Rattle.ldpc_shape.specs.Shape.{k_of, p_of, total, code_refusal};

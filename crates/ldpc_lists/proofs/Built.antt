@@ -12,12 +12,14 @@ use lib.Seq.{slice, get_or-take, length-take-le, ext_get_or, drop-drop}
 use Rattle.laws.specs.Lists.{drop_take}
 use Rattle.ldpc_shape.specs.declared.Sizes.{Sizes}
 use Rattle.ldpc_shape.specs.Shape.{k_of, p_of, q_of, e_of, sizes_of, rows_of, total, code_refusal}
-use Rattle.ldpc_shape.specs.Accepted.{Accepted, accepted, Bounded, sizes_bounded, p_pos, q_pos, addrs_le, few}
+use Rattle.ldpc_shape.specs.Accepted.{Accepted, Bounded, p_pos, q_pos, addrs_le, few}
+use Rattle.ldpc_shape.proofs.Accepted.{accepted, sizes_bounded}
 use Rattle.ldpc_shape.specs.Counts.{CountsBelow}
 use Rattle.ldpc_edges.specs.Code.{Edge, of_rows, meets, check, start_of, joined, row_start, rows, edge_lists}
-use Rattle.ldpc_edges.specs.Degree.{degree}
-use Rattle.ldpc_edges.specs.Count.{start, start_le, to_stairs, all_edges, all_check, all_inside, stairs_inside, all_start, start_of_lem}
-use Rattle.ldpc_edges.specs.Layout.{start_length, start_at}
+use Rattle.ldpc_edges.proofs.Degree.{degree}
+use Rattle.ldpc_edges.specs.Count.{start, to_stairs, all_edges}
+use Rattle.ldpc_edges.proofs.Count.{start_le, all_check, all_inside, stairs_inside, all_start, start_of_lem}
+use Rattle.ldpc_edges.proofs.Lists.{start_length, start_at}
 use Rattle.ldpc_lists.specs.Build.{Lists, parts, put_all, put_all_append, RoomForEdges, room_later, room_then, HoldsEdges, fill, empty, Listed, listed}
 use Rattle.ldpc_lists.specs.Ends.{Few, ending, EndsSet}
 

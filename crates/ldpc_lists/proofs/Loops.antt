@@ -8,7 +8,7 @@ use lib.ListN.{length, take, drop, get_or, length-take, length-drop, take-append
 use lib.Seq.{drop-cons, drop-length, drop-drop, take-suc, take-length}
 use Rattle.ldpc_shape.specs.Shape.{rows_of, total}
 use Rattle.ldpc_edges.specs.Code.{Edge, edge, met, of_bits, of_rows}
-use Rattle.ldpc_edges.specs.Inside.{met_inside, bits_inside, rows_inside, rows_next}
+use Rattle.ldpc_edges.proofs.Inside.{met_inside, bits_inside, rows_inside, rows_next}
 use Rattle.ldpc_lists.specs.Build.{Lists, parts, Ready, put, put_all, put_all_append, put_bits_length, put_at_length, RoomForEdges, room_next, room_later, room_then}
 
 pub shift_fits : (j q : ℕ) → j < 374 → q ≤ 120 → j * q ≤ 44880

@@ -4,7 +4,8 @@ use mathlib.Core.List.{List, [], ◌∷◌, ◌++◌, append_assoc}
 use Prim.Native.Nat.{ℕ, zero, suc, ◌+◌, ◌-◌, ◌≤◌, ◌<◌}
 use native.Mathlib.Omega.{arith}
 use Rattle.ldpc_edges.specs.Code.{Edge, edge, stairs}
-use Rattle.ldpc_edges.specs.Count.{to_bits, to_stairs, stairs_inside}
+use Rattle.ldpc_edges.specs.Count.{to_bits, to_stairs}
+use Rattle.ldpc_edges.proofs.Count.{stairs_inside}
 use Rattle.ldpc_lists.specs.Build.{Lists, Ready, put, put_all, put_all_append, RoomForEdges, room_next, room_later, room_then}
 
 -- ---- one check

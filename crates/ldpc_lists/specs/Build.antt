@@ -10,8 +10,10 @@ use Rattle.std.proofs.Math.Decide.{ℕ_discrete, dec_lt}
 use Rattle.std.proofs.Math.Seq.{slice, length-slice}
 use Rattle.laws.specs.Stores.{set_at}
 use Rattle.ldpc_edges.specs.Code.{Edge, edge, only}
-use Rattle.ldpc_edges.specs.Inside.{Inside, only_length, only_hit, only_miss}
-use Rattle.ldpc_edges.specs.Count.{start, start_le}
+use Rattle.ldpc_edges.specs.Inside.{Inside}
+use Rattle.ldpc_edges.proofs.Inside.{only_length, only_hit, only_miss}
+use Rattle.ldpc_edges.specs.Count.{start}
+use Rattle.ldpc_edges.proofs.Count.{start_le}
 
 -- the lists and their starts, which are cursors while they are filled
 pub record Lists : Type 0 where

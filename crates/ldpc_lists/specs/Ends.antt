@@ -2,7 +2,7 @@
 use Rattle.std.specs.Prelude.{◌≡◌, refl, cond, List, ℕ, zero, suc, ◌+◌, ◌*◌, ◌%◌, ◌≤◌, ◌<◌, eqb, get_or, set, length}
 use Rattle.std.proofs.Common.{sym, ap, ◌∙◌, arith, mod-lt, add-one, get_or-set_other}
 use Rattle.laws.specs.Stores.{grown}
-use Rattle.ldpc_edges.specs.Degree.{stairs_le}
+use Rattle.ldpc_edges.proofs.Degree.{stairs_le}
 
 -- where the list of check c ends, and that of check c + 1 begins
 unfoldable pub ending : List ℕ → ℕ → ℕ → ℕ

@@ -1,5 +1,7 @@
 // The lists of all checks in one lent slice: row_start (P + 1 numbers), then rows (E bits).
 // The slice is filled from the lists' ends: each start is first its list's end and goes down by one for each bit.
+#![tactic(auto)]
+
 ghost use Rattle.std.specs.Prelude.{◌≡◌, cond, suc, ◌+◌, ◌*◌, ◌%◌, ◌<◌, ◌≤◌, eqb, length, get_or};
 ghost use Rattle.ldpc_shape.specs.Shape.{sizes_of, rows_of, total, code_refusal};
 ghost use Rattle.ldpc_edges.specs.Code.{met, of_bits, of_rows, stairs, edge_lists};
@@ -146,8 +148,8 @@ fn ends(lists: &mut [u32], counts: &[u32; MAX_Q], q: usize, checks: usize)
 
 // The lists of all checks of an accepted code, in a slice of E + P + 1 numbers.
 pub fn build(of: Sizes, lens: &[u32], addrs: &[u16], lists: &mut [u32])
-    requires addrs_value { (code_refusal of.n lens.now addrs.now ≡ 0) × (of ≡ sizes_of of.n lens.now addrs.now) }
-    requires lists_len { length lists.old ≡ suc of.p + of.e }
+    requires accepted { (code_refusal of.n lens.now addrs.now ≡ 0) × (of ≡ sizes_of of.n lens.now addrs.now) }
+    requires size { length lists.old ≡ suc of.p + of.e }
     ensures { lists.new ≡ edge_lists of.n lens.now addrs.now }
 {
     let n = of.n as u32;

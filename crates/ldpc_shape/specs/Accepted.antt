@@ -1,10 +1,10 @@
 -- What it says of a code that no refusal applies.
-use Rattle.std.specs.Prelude.{◌≡◌, refl, Bool, true, false, cond, not, ◌||◌, List, [], ◌∷◌, ℕ, zero, suc, ◌+◌, ◌*◌, ◌%◌, ◌≤◌, ◌<◌, eqb, ltb, leb, length, drop, get_or}
-use Rattle.std.proofs.Common.{sym, ap, ◌∙◌, subst, arith, add-one, eqb-true, ltb-false, leb-false, drop-cons}
+use Rattle.std.specs.Prelude.{◌≡◌, false, List, [], ◌∷◌, ℕ, zero, suc, ◌+◌, ◌*◌, ◌%◌, ◌≤◌, ◌<◌, ltb, length, drop, get_or}
+use Rattle.std.proofs.Common.{sym, ap, ◌∙◌, subst, arith, add-one, ltb-false, drop-cons}
 use Rattle.std.proofs.Math.Decide.{ℕ_discrete}
 use Rattle.laws.specs.Choice.{or_left, or_right}
 use Rattle.ldpc_shape.specs.declared.Sizes.{Sizes}
-use Rattle.ldpc_shape.specs.Shape.{k_of, p_of, q_of, e_of, sizes_of, total, any_over, count_mod, counts_mod, bad_length, code_refusal}
+use Rattle.ldpc_shape.specs.Shape.{k_of, p_of, q_of, e_of, total, any_over, count_mod, counts_mod}
 
 pub record Accepted (n : ℕ) (lens addrs : List ℕ) : Type 0 where
   pub whole : n % 374 ≡ 0
@@ -13,26 +13,6 @@ pub record Accepted (n : ℕ) (lens addrs : List ℕ) : Type 0 where
   pub short : any_over 128 lens ≡ false
   pub adds : total lens ≡ length addrs
   pub few : any_over 126 (counts_mod (q_of n lens) addrs (q_of n lens)) ≡ false
-
-pub accepted : (n : ℕ) (lens addrs : List ℕ) → code_refusal n lens addrs ≡ 0 → Accepted n lens addrs
-unfolding code_refusal bad_length
-accepted n lens addrs h =
-    go (eqb n 0) (eqb (n % 374) 0) (ltb 44880 n) (leb n (374 * length lens)) (any_over 128 lens) (eqb (total lens) (length addrs))
-    (any_over 126 (counts_mod (q_of n lens) addrs (q_of n lens))) h refl refl refl refl refl refl
-  where
-    go : (a b c d e f g : Bool)
-        → ◌≡◌ {A = ℕ} (cond (a || (not b || c)) 2 (cond d 3 (cond e 4 (cond (not f) 5 (cond g 6 0))))) 0
-        → eqb (n % 374) 0 ≡ b → ltb 44880 n ≡ c → leb n (374 * length lens) ≡ d → any_over 128 lens ≡ e → eqb (total lens) (length addrs) ≡ f
-        → any_over 126 (counts_mod (q_of n lens) addrs (q_of n lens)) ≡ g → Accepted n lens addrs
-    go true b c d e f g z pb pc pd pe pf pg = absurd (omega arith)
-    go false false c d e f g z pb pc pd pe pf pg = absurd (omega arith)
-    go false true true d e f g z pb pc pd pe pf pg = absurd (omega arith)
-    go false true false true e f g z pb pc pd pe pf pg = absurd (omega arith)
-    go false true false false true f g z pb pc pd pe pf pg = absurd (omega arith)
-    go false true false false false false g z pb pc pd pe pf pg = absurd (omega arith)
-    go false true false false false true true z pb pc pd pe pf pg = absurd (omega arith)
-    go false true false false false true false z pb pc pd pe pf pg =
-        record { whole = eqb-true _ 0 pb; small = ltb-false _ _ pc; rows = leb-false _ _ pd; short = pe; adds = eqb-true _ _ pf; few = pg }
 
 -- the first of the lengths from row g on
 pub total_drop : (lens : List ℕ) (g : ℕ) → g < length lens → total (drop g lens) ≡ get_or lens g 0 + total (drop (g + 1) lens)
@@ -119,22 +99,3 @@ pub record Bounded (s : Sizes) : Type 0 where
   pub p_le : s.p ≤ s.n
   pub e_pos : 0 < s.e
   pub e_le : s.e ≤ 6000000
-
-pub bounded : (n : ℕ) (lens addrs : List ℕ) → code_refusal n lens addrs ≡ 0 → Bounded (sizes_of n lens addrs)
-bounded n lens addrs e =
-    let A = accepted n lens addrs e in
-    record {
-      n_is = sym (n_is n lens addrs A);
-      p_is = p_is n lens addrs A;
-      n_le = A.small;
-      q_pos = q_pos n lens addrs A;
-      q_le = q_le n lens addrs A;
-      p_pos = p_pos n lens addrs A;
-      p_le = omega (arith, n_is n lens addrs A);
-      e_pos = e_pos n lens addrs A;
-      e_le = e_le n lens addrs A;
-    }
-
--- the same of sizes as a program has them
-pub sizes_bounded : (s : Sizes) (n : ℕ) (lens addrs : List ℕ) → s ≡ sizes_of n lens addrs → code_refusal n lens addrs ≡ 0 → Bounded s
-sizes_bounded s n lens addrs d e = subst Bounded (sym d) (bounded n lens addrs e)

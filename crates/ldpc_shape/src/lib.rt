@@ -1,4 +1,6 @@
 // The shape of a code, lent as n, the rows' lengths and their addresses, and the refusals 2 to 6.
+#![tactic(auto)]
+
 ghost use Rattle.std.specs.Prelude.{◌≡◌, false, ◌%◌, ◌<◌, ◌≤◌, length};
 ghost use Rattle.ldpc_shape.specs.Shape.{sizes_of, total, any_over, bad_length, code_refusal};
 ghost use Rattle.ldpc_shape.specs.Counts.{CountsOf, tops};
@@ -12,7 +14,7 @@ pub const GROUP_U32: u32 = GROUP as u32;
 pub const MAX_Q: usize = 120;
 
 // The numbers of a code: its length, information bits, checks, P / 374 and edges.
-#[derive(Drop)]
+#[derive(Clone, Copy)]
 pub struct Sizes {
     pub n: usize,
     pub k: usize,

@@ -1,6 +1,6 @@
 -- What holds of a word's bits, of its corrected bits, and of words kept and lost.
-use Rattle.std.specs.Prelude.{◌≡◌, refl, Bool, true, false, cond, List, [], ◌∷◌, ◌++◌, ℕ, zero, suc, ◌+◌, ◌-◌, ◌≤◌, ◌<◌, length, get_or, take, drop, set}
-use Rattle.std.proofs.Common.{sym, ap, ap₂, ◌∙◌, arith, add-one, length-append, length-take, length-drop, take-suc-set, take_all, drop-drop}
+use Rattle.std.specs.Prelude.{◌≡◌, refl, Bool, true, false, cond, List, [], ◌∷◌, ◌++◌, ℕ, zero, suc, ◌+◌, ◌≤◌, ◌<◌, length, get_or, take, set}
+use Rattle.std.proofs.Common.{sym, ap, ap₂, ◌∙◌, arith, add-one, take-suc-set, take_all}
 use Rattle.std.proofs.Math.Logic.{if_pos, if_neg}
 use Rattle.std.proofs.Math.Decide.{ℕ_discrete, dec_le}
 use Rattle.iteration.specs.Check.{Word}
@@ -8,10 +8,8 @@ use Rattle.iteration.specs.Iteration.{hard}
 use Rattle.bch_remainder.specs.Word.{remainder_of}
 use Rattle.bch.specs.Decode.{register, left_by, left_of, flipped}
 use Rattle.bch.specs.Flips.{flipped_length}
-use Rattle.bch.specs.Answers.{out_if, word_refusal, word_out, decoded_of}
-use Rattle.bch.specs.declared.Decoded.{Decoded}
-use Rattle.decoder_plan.specs.declared.Part.{Part}
-use Rattle.outcome.specs.Outcome.{bits_from, bits_of, corrected, bch_result, bch_of, is_finished, is_lost, lost_of, kept_of}
+use Rattle.bch.specs.Answers.{out_if, word_refusal, word_out}
+use Rattle.outcome.specs.Outcome.{bits_from, bits_of, is_finished, is_lost, lost_of, kept_of}
 
 -- ---- hard decisions
 bits_from_length : (x : Word) (v m : ℕ) → length (bits_from x v m) ≡ m
@@ -78,35 +76,6 @@ word_length w = go (ℕ_discrete (word_refusal (length w)) 0)
     go : Dec (word_refusal (length w) ≡ 0) → length (out_if (word_refusal (length w)) (left_of w) w) ≡ length w
     go (yes h) = ap length (if_pos (ℕ_discrete (word_refusal (length w)) 0) h (left_of w) w) ∙ left_length w
     go (no h) = ap length (if_neg (ℕ_discrete (word_refusal (length w)) 0) h (left_of w) w)
-
-pub corrected_length : (part : Part) (b : List ℕ) → length (corrected part b) ≡ length b
-unfolding corrected
-corrected_length part b =
-    let first = part.first in
-    let size = part.length in
-    length-append (take first b) (word_out (take size (drop first b)) ++ drop (first + size) b)
-    ∙ ap (λ (z : ℕ). length (take first b) + z) (length-append (word_out (take size (drop first b))) (drop (first + size) b))
-    ∙ ap (λ (z : ℕ). length (take first b) + (z + length (drop (first + size) b))) (word_length (take size (drop first b)))
-    ∙ omega (arith, length-take first b, length-drop first b, length-take size (drop first b), length-drop (first + size) b)
-
--- the part that comes back from BCH, in the whole
-pub corrected_whole : (part : Part) (b back : List ℕ) → back ≡ word_out (take (part.first + part.length - part.first) (drop part.first b))
-    → take part.first b ++ (back ++ drop (part.first + part.length - part.first) (drop part.first b)) ≡ corrected part b
-unfolding corrected
-corrected_whole part b back e =
-    let first = part.first in
-    let size = part.length in
-    let m : first + size - first ≡ size = omega arith in
-    ap (λ (l : List ℕ). take first b ++ (l ++ drop (first + size - first) (drop first b))) e
-    ∙ ap (λ (k : ℕ). take first b ++ (word_out (take k (drop first b)) ++ drop k (drop first b))) m
-    ∙ ap (λ (l : List ℕ). take first b ++ (word_out (take size (drop first b)) ++ l)) (drop-drop size first b)
-
-pub result_whole : (part : Part) (b : List ℕ) (answer : Decoded) → answer ≡ decoded_of (take (part.first + part.length - part.first) (drop part.first b))
-    → bch_result answer ≡ bch_of part b
-unfolding bch_of
-result_whole part b answer e =
-    let m : part.first + part.length - part.first ≡ part.length = omega arith in
-    ap bch_result (e ∙ ap (λ (k : ℕ). decoded_of (take k (drop part.first b))) m)
 
 -- ---- a finished word is kept or lost, and no other is either
 pub kept_or_lost : (state bch : ℕ) → kept_of state bch + lost_of state bch ≡ cond (is_finished state) 1 0

@@ -40,7 +40,7 @@ part_of part b = take part.length (drop part.first b)
 unfoldable pub corrected : Part → List ℕ → List ℕ
 corrected part b = take part.first b ++ (word_out (part_of part b) ++ drop (part.first + part.length) b)
 
--- "BCH result (corrected count, or lost)": lost is 4,294,967,295. A run's part is never refused (Corrected: `answered`)
+-- "BCH result (corrected count, or lost)": lost is 4,294,967,295. A run's part is never refused (proofs/Corrected: `answered`)
 unfoldable pub lost : ℕ
 lost = 4294967295
 

@@ -10,10 +10,11 @@ use Rattle.iteration.specs.Check.{Word}
 use Rattle.iteration.specs.Iteration.{Code, hard, negatives, unsatisfied, unsatisfied_count}
 use Rattle.iteration.specs.Lists.{var, rows_in, code_in}
 use Rattle.ldpc_shape.specs.Shape.{k_of, p_of, code_refusal}
-use Rattle.ldpc_shape.specs.Accepted.{accepted}
+use Rattle.ldpc_shape.proofs.Accepted.{accepted}
 use Rattle.ldpc_edges.specs.Code.{check, edge_lists, encode, ones, unmet, unmets, weight}
-use Rattle.ldpc_edges.specs.Encoder.{encode_weight}
-use Rattle.ldpc_edges.specs.Layout.{Laid, laid}
+use Rattle.ldpc_edges.proofs.Encoder.{encode_weight}
+use Rattle.ldpc_edges.specs.Layout.{Laid}
+use Rattle.ldpc_edges.proofs.Lists.{laid}
 use Rattle.iteration.specs.ListsLaws.{start_in, degree_in}
 use Rattle.iteration.specs.CodeLaws.{code_in_is}
 use Rattle.iteration.specs.Code.{code_of}

@@ -1,4 +1,6 @@
 // One word of a run: its outcome from its values. What its soft values meet before any iteration, its bits, and its BCH part corrected.
+#![tactic(auto)]
+
 ghost use Rattle.std.specs.Prelude.{◌≡◌, ◌+◌, ◌<◌, ◌≤◌, eqb, length};
 ghost use Rattle.iteration.specs.Iteration.{negatives};
 ghost use Rattle.iteration.specs.Lists.{var, Lists, code_in};

@@ -1,4 +1,6 @@
 // Lengths of ISDB-S3 (ARIB STD-B44 v2.1 sections 3.2 to 3.4): the code, the slot, the frame, and the eleven rates r / 120.
+#![tactic(auto)]
+
 ghost use Rattle.std.specs.Prelude.{◌≡◌, get_or};
 ghost use Rattle.params.specs.Lengths.{rates, k_of, p_of, q_of, data_of};
 

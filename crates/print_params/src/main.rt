@@ -1,4 +1,6 @@
 // Prints the lengths of the eleven rates, a line each: r, k, P, q, D; then those of the slot and the frame.
+#![tactic(auto)]
+
 fn show(x: u32) {
     io::write_all(1, b" ");
     io::print_decimal(1, x as u64);

@@ -1,5 +1,7 @@
 // The soft word: one f32 product, rounded to the nearest whole number with halves away from zero,
 // clamped to ±127. A NaN gives 0.
+#![tactic(auto)]
+
 ghost use Rattle.std.specs.Prelude.{◌≡◌, ◌<◌, ◌≤◌, length};
 ghost use Rattle.quantise.specs.Soft.{soft_of, quantise_refusal, quantised_number, answer_of, written_of, output_of};
 ghost use Rattle.quantise.specs.Bits.{size_of};

@@ -10,7 +10,7 @@ use Rattle.window.specs.declared.Pushed.{Pushed}
 use Rattle.window.specs.Figures.{finished_in, Shows}
 use Rattle.window.specs.Push.{Handed, empty, pushed, series, Fit, pushed_number, pushed_of, ring_out}
 use Rattle.window.specs.Series.{series_shows, series_snoc}
-use Rattle.window.specs.PushLaws.{pushes_any, now_is, ring_on}
+use Rattle.window.proofs.PushLaws.{pushes_any, now_is, ring_on}
 use Rattle.raxdov.specs.Numbers.{window_of, handed_of, record_of, window_into}
 
 -- a word that an accepted run of some code finished, whatever run it was

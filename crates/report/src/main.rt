@@ -4,6 +4,7 @@ ghost use Rattle.std.specs.Int.Signed.{lt_z};
 ghost use Rattle.report_text.specs.Cut.{Answered};
 
 use report_text::Output;
+use std::io::{Read, Stdin};
 
 // What was read: what the last read answered (-1 failed, 0 at the input's end, else so many bytes), and how many bytes stand at the start
 // of the buffer.
@@ -22,9 +23,17 @@ fn part_end(start: usize, end: usize) -> usize
     if end - start < 16 { end } else { start + 16 }
 }
 
+// What a read answers: so many bytes, or -1 where it failed.
+fn read(input: &mut Stdin, buf: &mut [u8]) -> isize {
+    match input.read(buf) {
+        Ok(n) => n as isize,
+        Err(_) => -1,
+    }
+}
+
 // Reads until the buffer is full, the input ends or a read fails, also one that a signal ends before it moves a byte: where the last read
 // moved a byte, the buffer is full.
-fn read_input(buf: &mut [u8]) -> Input
+fn read_input(input: &mut Stdin, buf: &mut [u8]) -> Input
     ensures size_in_bounds { result.size ≤ length buf.old }
     ensures size_value { lt_z (pos 0) result.last ≡ true → result.size ≡ length buf.old }
 {
@@ -32,7 +41,7 @@ fn read_input(buf: &mut [u8]) -> Input
     let mut last: isize = 0;
     while size < buf.len() {
         let end = part_end(size, buf.len());
-        last = libc::read(0, &mut buf[size..end]);
+        last = read(input, &mut buf[size..end]);
         let more = io::count(last, &buf[size..end]);
         if more == 0 {
             break;
@@ -51,9 +60,10 @@ fn answer(buf: &[u8], size: usize) -> Output
     report_text::report(&buf[..size])
 }
 
-fn main() {
+fn main(rt: HostRuntime) {
     let mut buf = [0u8; 10502];
-    let input = read_input(&mut buf);
+    let mut stdin = rt.stdin();
+    let input = read_input(&mut stdin, &mut buf);
     let size = input.size;
     if input.last < 0 {
         io::write_all(2, b"report: standard input cannot be read\n");

@@ -102,8 +102,8 @@ soft_room n ws h l = omega (arith, soft_words_length n ws, mul-le-mul_right n l)
 joined : (n : ℕ) (a r s w : List ℕ) → a ++ (r ++ (s ++ ((w ++ []) ++ []))) ≡ a ++ ((r ++ (s ++ (w ++ []))) ++ [])
 joined n a r s w = simp (append_assoc, append-nil)
 
-module _ (n count : ℕ) (lengths : List ℕ) (total : ℕ) (places : List ℕ) (lanes iteration_limit : ℕ) (offset : ℤ) (steps : Bool) (step round_limit part_first part-length k : ℕ) {t u v w x : List ℕ}
-    (h : Found head_form (λ y. (y.0 ≡ n) × Unit) t u) (o : Ongoing rows RowsWithin rows_within (RowsSo count lengths total places) u v) (g : Found settings_form (SettingsSo lanes iteration_limit offset steps step round_limit part_first part-length) v w) (f : Found (words_form n) (λ y. length y.0 ≡ k) w x) where
+module _ (n count : ℕ) (lengths : List ℕ) (total : ℕ) (places : List ℕ) (lanes iteration_limit : ℕ) (offset : ℤ) (steps : Bool) (step round_limit part_first part_length k : ℕ) {t u v w x : List ℕ}
+    (h : Found head_form (λ y. (y.0 ≡ n) × Unit) t u) (o : Ongoing rows RowsWithin rows_within (RowsSo count lengths total places) u v) (g : Found settings_form (SettingsSo lanes iteration_limit offset steps step round_limit part_first part_length) v w) (f : Found (words_form n) (λ y. length y.0 ≡ k) w x) where
   described : Description
   described = description_of n (o.done, (g.it, f.it))
 
@@ -137,7 +137,7 @@ module _ (n count : ℕ) (lengths : List ℕ) (total : ℕ) (places : List ℕ) 
         step = step;
         round_limit = round_limit;
         part_first = part_first;
-        part_length = part-length;
+        part_length = part_length;
         words = k;
       }
 
@@ -177,7 +177,7 @@ module _ (n count : ℕ) (lengths : List ℕ) (total : ℕ) (places : List ℕ) 
         values = e ∙ laid_over (soft_words n f.it.0) l (omega (arith, soft_room n f.it.0 (head_bound n h) f.within.0.sixteen));
       }
 
-pub settings_as : {lanes iteration_limit : ℕ} {offset offset' : ℤ} {steps : Bool} {step round_limit part_first part-length : ℕ} {t u : List ℕ}
-    → Found settings_form (SettingsSo lanes iteration_limit offset steps step round_limit part_first part-length) t u → offset ≡ offset'
-    → Found settings_form (SettingsSo lanes iteration_limit offset' steps step round_limit part_first part-length) t u
-settings_as {lanes} {iteration_limit} {steps = steps} {step} {round_limit} {part_first} {part-length} {t} {u} f e = subst (λ (z : ℤ). Found settings_form (SettingsSo lanes iteration_limit z steps step round_limit part_first part-length) t u) e f
+pub settings_as : {lanes iteration_limit : ℕ} {offset offset' : ℤ} {steps : Bool} {step round_limit part_first part_length : ℕ} {t u : List ℕ}
+    → Found settings_form (SettingsSo lanes iteration_limit offset steps step round_limit part_first part_length) t u → offset ≡ offset'
+    → Found settings_form (SettingsSo lanes iteration_limit offset' steps step round_limit part_first part_length) t u
+settings_as {lanes} {iteration_limit} {steps = steps} {step} {round_limit} {part_first} {part_length} {t} {u} f e = subst (λ (z : ℤ). Found settings_form (SettingsSo lanes iteration_limit z steps step round_limit part_first part_length) t u) e f

@@ -6,7 +6,7 @@ use Rattle.std.proofs.Common.{sym, ap, ap₂, ◌∙◌, subst, arith, le-leb}
 use Rattle.std.proofs.lemmas.List.Edits.{sets}
 use Rattle.laws.specs.Decimal.{digit, Stops, decimal_unique, signed_unique, decimal_leads}
 use Rattle.laws.specs.Definitions.{decimal, signed}
-use Rattle.report_form.specs.Description.{flat, Schedule, sequential, layered, Settings, Pair, Word, All, Wide, Small, Ascending, RowWithin, ScheduleWithin, SettingsWithin, WordWithin, Within, each, schedule_text}
+use Rattle.report_form.specs.Description.{flat, Schedule, sequential, layered, Settings, Pair, Word, All, Wide, Small, Ascending, RowWithin, ScheduleWithin, SettingsWithin, WordWithin, each, schedule_text}
 use Rattle.report_form.specs.Reading.{is_layered, step_of}
 use Rattle.report_form.specs.Form.{Form, Reads, byte, end, seq, seq_reads, StandFor, via, via_reads, lead, lead_reads, Items, Apart, chain}
 

@@ -35,7 +35,7 @@ reading_of d =
       step = step_of d.settings.schedule;
       round_limit = d.settings.round_limit;
       part_first = d.settings.part_first;
-      part_length = d.settings.part-length;
+      part_length = d.settings.part_length;
       words = length d.words;
     }
 

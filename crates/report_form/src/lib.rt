@@ -1,4 +1,6 @@
 // Reads the report's text: a description within the limits, or refusal 1.
+#![tactic(auto)]
+
 ghost use Rattle.std.specs.Prelude.{◌≡◌, true, ◌&&◌, ℕ, ◌+◌, ◌-◌, ◌≤◌, ◌<◌, negsuc, ltb, eqb, List, length, drop, get_or, replicate};
 ghost use Rattle.std.proofs.lemmas.List.Edits.{sets};
 ghost use Rattle.laws.specs.Decimal.{digit};
@@ -10,7 +12,7 @@ ghost use Rattle.report_form.specs.Forms.{numbers, smalls, row_form, rows, RowsW
 
 // What a text says: refusal 1 and zeros, or refusal 0 and a description's numbers: the code's n, the number of rows, their lengths and
 // their addresses one after another, the settings, and the number of words.
-#[derive(Drop)]
+#[derive(Clone, Copy)]
 pub struct Reading {
     pub refusal: u32,
     pub n: u32,

@@ -1,4 +1,6 @@
 // Writes the report's lines into a lent slice.
+#![tactic(auto)]
+
 ghost use Rattle.std.specs.Prelude.{◌∷◌, [], ◌++◌, ◌+◌, ◌≤◌, ◌<◌, length};
 ghost use Rattle.laws.specs.Definitions.{decimal};
 ghost use Rattle.report_lines.specs.Lines.{ending_text, state_text, bch_text, first_line, result_line, refused_line};

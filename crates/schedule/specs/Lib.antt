@@ -6,16 +6,14 @@ pub mod Status
 -- what a word alone's end is; the claim about a whole run that joins the run and the word alone
 pub mod AloneLaws
 pub mod WholeRun
--- why it holds of every run; that a word's iterations are the rounds in which it is held; two runs, computed; the same run when lanes are
--- refilled in passes
+-- in which rounds a word is held; the same run when lanes are refilled in passes
+pub mod Iterations
+pub mod Together
+-- words that the theorems of proofs/ need: sums over lanes, queue and log, what is true of a run in every round, places
 pub mod Sums
 pub mod Rounds
 pub mod Places
-pub mod Theorem
-pub mod Iterations
-pub mod Example
-pub mod Together
--- what the loops of a run over real memory cite
+-- what the contracts of a run over real memory cite
 pub mod Lanes
 pub mod Refill
 pub mod Round

@@ -1,6 +1,8 @@
 // Writes the generator, then replays the Rust's BCH answers. Standard input has vectors of 148 bytes, described in
 // compare/oracle/src/bin/bch.rs: how to make a word, and what the Rust's `encode` and `decode` made of
 // it.
+#![tactic(auto)]
+
 ghost use Rattle.std.specs.Prelude.{◌≡◌, ◌+◌, ◌<◌, ◌≤◌, length};
 
 use bch::Decoded;

@@ -1,9 +1,11 @@
 // A case of vectors_run's input (compare/oracle/src/bin/run.rs): its numbers, the soft words that are made from its recipes, and what the lent slices
 // hold before a run and are asked for after it.
+#![tactic(auto)]
+
 ghost use Rattle.std.specs.Prelude.{◌<◌, ◌≤◌};
 
 // How a soft word is made.
-#[derive(Drop)]
+#[derive(Clone, Copy)]
 struct Recipe {
     start: usize,
     a: u64,
@@ -15,7 +17,7 @@ struct Recipe {
 }
 
 // Where the parts of a case start in the input, and the next case.
-#[derive(Drop)]
+#[derive(Clone, Copy)]
 pub struct Parts {
     pub head: usize,
     pub lens: usize,

@@ -1,6 +1,7 @@
 // Replays codes made from seeds and prints what the entry points answer; the file stdout holds the unchanged Rust's answers
 // (compare/oracle). A line: seed, n, rows, addresses, k, P, q, E, checksums of row_start and rows, of every `check`, of the
 // parity and of the encoded word, and the syndrome weights of the encoded word, of it with three bits flipped, and of random bytes.
+#![tactic(auto)]
 
 // The generator, and a draw below m.
 fn next(x: u64) -> u64 {

@@ -1,6 +1,8 @@
 // Replays the Rust's soft values. The inputs are made here, by the same rule as in
 // compare/oracle/src/bin/quantise.rs; standard input has the Rust's answers, a byte each: the size,
 // and 128 more where the soft value is negative.
+#![tactic(auto)]
+
 ghost use Rattle.std.specs.Prelude.{◌<◌, ◌≤◌, length};
 
 // 1, -1, 0.5, 6, 0.1, a third, 12.75, the smallest and the largest normal number, the smallest

@@ -1,5 +1,7 @@
 // Replays texts for the report. Standard input has each behind its length, four bytes, lowest first; the file stdout holds
 // their reports by the unchanged Rust's answers and the refusals of the form (compare/oracle/src/bin/report.rs).
+#![tactic(auto)]
+
 ghost use Rattle.std.specs.Prelude.{◌<◌, ◌≤◌, length};
 
 fn wide(b: u8) -> usize

@@ -2,6 +2,8 @@
 // checksum that a second model gives for it: of the refusal, words, lost, iterations and corrected after each record, and of what is left
 // in the ring. In a series, which begins with an empty window, the figures after each record are also compared with sums made afresh here
 // over the last finished records.
+#![tactic(auto)]
+
 ghost use Rattle.std.specs.Prelude.{◌<◌, ◌≤◌};
 
 use window::{Pushed, Record, Window};
@@ -27,7 +29,7 @@ const ALTERED: [u64; 16] = [
 ];
 
 // Kind 0 goes on with the series before, 1 begins one; 2 begins with a window that was altered, and 3 goes on with it.
-#[derive(Drop)]
+#[derive(Clone, Copy)]
 struct Block {
     number: u64,
     kind: u64,
@@ -54,14 +56,14 @@ struct Step {
 }
 
 // How many were compared, and how many of them differ.
-#[derive(Drop)]
+#[derive(Clone, Copy)]
 struct Compared {
     all: u64,
     differ: u64,
 }
 
 // The window, the finished records since a series began, and the checksum since a block began.
-#[derive(Drop)]
+#[derive(Clone, Copy)]
 struct Progress {
     now: Window,
     done: usize,

@@ -3,7 +3,6 @@ use Rattle.std.specs.Prelude.{◌≡◌, ℕ, List, [], ◌∷◌, refl}
 use Rattle.std.proofs.Common.{arith}
 use Rattle.outcome.specs.Outcome.{is_finished, is_lost, lost_of, lost}
 use Rattle.window.specs.declared.Record.{Record}
-use Rattle.window.specs.declared.Window.{Window}
 use Rattle.window.specs.Figures.{finished_in, last_of, lost_by, iterations_by, corrected_by}
 use Rattle.window.specs.Push.{record_in, written, slot_of, next_at, next_words, leaving, slid, moved, empty, taken, pushed, series, push_refusal, Fit}
 

@@ -1,11 +1,13 @@
 // Figures over the last so-many finished words of a long series, kept up record by record. The window itself goes by value; the records that it
 // covers stand in a ring of numbers that the caller lends, three to a record. The time for a record does not depend on the width.
+#![tactic(auto)]
+
 ghost use Rattle.std.specs.Prelude.{◌≡◌, ◌+◌, ◌*◌, ◌<◌, ◌≤◌, length};
 ghost use Rattle.window.specs.Figures.{corrected_by};
 ghost use Rattle.window.specs.Push.{push_refusal, slot_of, next_at, next_words, slid, leaving, written, moved, Pushes};
 
 // What a window reads of a word's record, and the ring holds of it.
-#[derive(Drop)]
+#[derive(Clone, Copy)]
 pub struct Record {
     pub state: u32,
     pub iterations: u32,
@@ -14,7 +16,7 @@ pub struct Record {
 }
 
 // The slot of the ring that the next record takes, how many records the window covers, and its figures over them. Zeros: an empty window.
-#[derive(Drop)]
+#[derive(Clone, Copy)]
 pub struct Window {
     pub at: u64,
     pub words: u64,

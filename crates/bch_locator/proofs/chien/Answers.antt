@@ -1,0 +1,7 @@
+-- `bch_locator::chien` meets its contract.
+-- Assumes nothing.
+use Rattle.bch_locator.proofs.Search.{places_length}
+use Rattle.bch_locator.proofs.chien.Goals as goal
+
+pub returns-then-len-eq1 : goal.returns-then-len-eq1
+returns-then-len-eq1 c = places_length _ _ _ 1 _ _ c.if-len-eq1.true c.root.ensures

@@ -1,0 +1,25 @@
+-- `decoder_rounds::advance` meets its contract: every lane's word has its iteration, each verdict is its own word's, and the lanes have their turns.
+-- Assumes nothing.
+use mathlib.Core.Path.{sym, ◌∙◌, subst}
+use Prim.Native.Nat.{ℕ, ◌*◌, ◌≤◌, ◌<◌}
+use native.Mathlib.Omega.{arith}
+use Rattle.laws.specs.Signed.{plain}
+use borrow.Author.Rules.{rules, sfits_of}
+use Rattle.decoder_lanes.specs.Lane.{memory_of, working_to}
+use Rattle.decoder_rounds.specs.Rounds.{judged, turned_so}
+use Rattle.decoder_rounds.proofs.advance.Goals as goal
+
+-- the sums that the layered iteration keeps
+enough_sums : {lanes l : ℕ} → lanes ≤ 64 → 23936 ≤ l → 374 * lanes ≤ l
+enough_sums few long = omega (arith, few, long)
+
+pub retire-requires : goal.retire-requires
+retire-requires c =
+    record {
+      working = working_to c.iterate.auto.work c.requires.working.0;
+      room = c.requires.room;
+      sized = c.requires.sized;
+      judged =
+          judged c.args.plan c.args.lists.now _ c.args.at.held _ _ c.requires.working.0.edges c.requires.working.0.stored.fair.few_lanes c.flags.ensures
+          c.met-verdict.ensures;
+    }

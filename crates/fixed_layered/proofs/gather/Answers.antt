@@ -1,0 +1,82 @@
+use borrow.Author.Rules.{rules}
+use native.Mathlib.Omega.{arith}
+use mathlib.Core.Path.{◌≡◌, ◌∙◌, subst}
+use mathlib.Core.Bool.{cond}
+use Prim.Native.Nat.{◌+◌, ◌-◌, ◌≤◌, ◌<◌}
+use lib.ListN.{length}
+use lib.IntN.{ℤ, nat_abs, ◌+ℤ◌, ◌-ℤ◌}
+use borrow.Author.Rules.{sfits_of}
+use lib.Signed.{mag}
+use mir.Syntax.{w32}
+use mir.Val.{to_z, of_z}
+use mir.ValLaws.{to_z-of_z}
+use Rattle.laws.specs.Signed.{plain}
+use Rattle.lane16.specs.Lanes.{int_at}
+use Rattle.fixed_layered.specs.Bounds.{abs_byte}
+use Rattle.fixed_layered.specs.Sums.{plus, EdgeGathered, Growing, edge_start, edge_again, edge_end, growing_start, growing_again, growing_end}
+use Rattle.lane16.specs.Column.{column}
+use Rattle.fixed_layered.proofs.gather.Goals as goal
+
+-- a value that was read is a byte
+byte : (x : ℤ) → mag x < 128 → {y : ℤ} → x ≡ y → nat_abs y ≤ 128
+byte x h {y} e = subst (λ (int_at : ℤ). nat_abs int_at ≤ 128) e (abs_byte x (sfits_of h))
+
+pub loop-i-init : goal.loop-i-init
+loop-i-init c = (
+  search rules,
+  (
+    edge_start c.args.lanes c.args.at c.args.tu c.args.ru c.args.ou c.args.seen c.args.work.now c.args.sums.now,
+    growing_start c.requires.sums.1.1,
+  ),
+)
+
+pub slice_copy_out-s : goal.slice_copy_out-s
+slice_copy_out-s c =
+    let room : c.args.at + c.loop-i.i < length c.loop-i.sums =
+    omega (arith, c.requires.sums.0, c.loop-i-test.true, c.loop-i.invariant.1.0.long) in
+    omega (arith, room)
+
+pub gathered-requires : goal.gathered-requires
+gathered-requires c =
+    rw (to_z-of_z w32 (int_at c.loop-i.sums (c.args.at + c.loop-i.i)) (sfits_of c.s-1.given))
+    (λ b. omega
+    (arith, c.loop-i.invariant.1.1.still b c.loop-i.i (omega arith) c.loop-i-test.true, c.requires.sums.1.0))
+
+pub bounds-sums-at : goal.bounds-sums-at
+bounds-sums-at c =
+    let room : c.args.at + c.loop-i.i < length c.loop-i.sums =
+    omega (arith, c.requires.sums.0, c.loop-i-test.true, c.loop-i.invariant.1.0.long) in
+    omega (arith, room)
+
+pub loop-i-preserved : goal.loop-i-preserved
+loop-i-preserved c =
+    let room : c.args.at + c.loop-i.i < length c.loop-i.sums =
+    omega (arith, c.requires.sums.0, c.loop-i-test.true, c.loop-i.invariant.1.0.long) in
+    let f = column c.args.lanes c.args.work.now c.loop-i.i in
+    let is : to_z w32 (of_z w32 c.gathered.result) ≡ plus c.args.seen f c.args.tu c.args.ru c.args.ou (int_at c.loop-i.sums (c.args.at + c.loop-i.i)) =
+    to_z-of_z w32 c.gathered.result (sfits_of c.gathered.type_inv)
+    ∙ c.gathered.ensures
+    ∙ (λ j. cond c.args.seen
+    (to_z-of_z w32 (int_at c.loop-i.sums (c.args.at + c.loop-i.i)) (sfits_of c.s-1.given) j +ℤ
+    ((plain c.value-new.result (sfits_of c.value-new.type_inv) ∙ c.value-new.ensures) j -ℤ
+    (plain c.value-old.result (sfits_of c.value-old.type_inv) ∙ c.value-old.ensures) j))
+    ((plain c.value-t.result (sfits_of c.value-t.type_inv) ∙ c.value-t.ensures) j +ℤ
+    (plain c.value-new.result (sfits_of c.value-new.type_inv) ∙ c.value-new.ensures) j)) in (
+      search rules,
+      (
+        edge_again _ c.loop-i.invariant.1.0 (omega (arith, room, c.loop-i.invariant.1.0.long)) is,
+        growing_again c.args.seen f c.args.tu c.args.ru c.args.ou _ c.loop-i.invariant.1.1 c.loop-i-test.true room
+            (byte c.value-t.result c.value-t.type_inv c.value-t.ensures)
+            (byte c.value-new.result c.value-new.type_inv c.value-new.ensures)
+            (byte c.value-old.result c.value-old.type_inv c.value-old.ensures) is,
+      ),
+    )
+
+pub shape_of-sums : goal.shape_of-sums
+shape_of-sums c = c.loop-i.invariant.1.0.long
+
+pub returns : goal.returns
+returns c = (
+  edge_end (omega (arith, c.loop-i.invariant.0, c.loop-i-test.false)) c.loop-i.invariant.1.0,
+  growing_end (omega (arith, c.loop-i-test.false)) c.loop-i.invariant.1.1,
+)

@@ -1,0 +1,51 @@
+-- `fixed_layered::gathered` meets its contract. Assumes nothing.
+use mathlib.Core.Path.{refl}
+use mathlib.Core.Bool.{Bool, cond}
+use lib.IntN.{◌+ℤ◌, ◌-ℤ◌}
+use mir.Syntax.{w32}
+use mir.ValLaws.{to_z-of_z}
+use Rattle.laws.specs.Signed.{plain}
+use Rattle.fixed_layered.specs.Bounds.{widen32, wide32, diff_fits32, sum_fits32, more_fits32}
+use Rattle.fixed_layered.proofs.gathered.Goals as goal
+
+pub overflow_cast-result : goal.overflow_cast-result
+overflow_cast-result c = rw (plain c.args.new c.ranges.new) (widen32 c.ranges.new)
+
+pub overflow_cast-result-then-seen : goal.overflow_cast-result-then-seen
+overflow_cast-result-then-seen c = rw (plain c.args.old c.ranges.old) (widen32 c.ranges.old)
+
+pub overflow_sub-result : goal.overflow_sub-result
+overflow_sub-result c =
+    rw (wide32 c.args.new c.ranges.new, wide32 c.args.old c.ranges.old) (diff_fits32 _ _ c.ranges.new c.ranges.old)
+
+pub overflow_add-result : goal.overflow_add-result
+overflow_add-result c =
+    rw (
+      to_z-of_z w32 c.args.sum c.ranges.sum,
+      wide32 c.args.new c.ranges.new,
+      wide32 c.args.old c.ranges.old,
+      to_z-of_z w32 (c.args.new -ℤ c.args.old) (diff_fits32 _ _ c.ranges.new c.ranges.old),
+    )
+    (more_fits32 _ _ c.ranges.new c.ranges.old c.args.sum (c.requires c.if-seen.true))
+
+pub returns-then-seen : goal.returns-then-seen
+returns-then-seen c =
+    rw (
+      to_z-of_z w32 c.args.sum c.ranges.sum,
+      wide32 c.args.new c.ranges.new,
+      wide32 c.args.old c.ranges.old,
+      to_z-of_z w32 (c.args.new -ℤ c.args.old) (diff_fits32 _ _ c.ranges.new c.ranges.old),
+      to_z-of_z w32 (c.args.sum +ℤ (c.args.new -ℤ c.args.old)) (more_fits32 _ _ c.ranges.new c.ranges.old c.args.sum (c.requires c.if-seen.true)),
+      c.if-seen.true,
+    )
+    refl
+
+pub overflow_cast-result-2 : goal.overflow_cast-result-2
+overflow_cast-result-2 c = rw (plain c.args.t c.ranges.t) (widen32 c.ranges.t)
+
+pub overflow_cast-result-3 : goal.overflow_cast-result-3
+overflow_cast-result-3 c = rw (plain c.args.new c.ranges.new) (widen32 c.ranges.new)
+
+pub overflow_add-result-2 : goal.overflow_add-result-2
+overflow_add-result-2 c =
+    rw (wide32 c.args.t c.ranges.t, wide32 c.args.new c.ranges.new) (sum_fits32 _ _ c.ranges.t c.ranges.new)

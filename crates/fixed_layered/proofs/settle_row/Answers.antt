@@ -1,0 +1,99 @@
+use native.Mathlib.Omega.{arith}
+use borrow.Author.Rules.{rules}
+use mathlib.Core.Path.{◌≡◌, refl, ap, subst}
+use mathlib.Core.List.{List}
+use Prim.Native.Nat.{ℕ, ◌+◌, ◌-◌, ◌≤◌, ◌<◌}
+use lib.ListN.{length}
+use Rattle.iteration.specs.Lists.{var, edges_in, code_in}
+use Rattle.iteration.specs.Once.{stepped}
+use Rattle.fixed_layered.specs.RunMemory.{few_turns, in_run_to}
+use Rattle.fixed_layered.specs.Layers.{RowPart, row_part}
+use Rattle.fixed_layered.specs.Rows.{CheckSettled, RowSettled, settled_row_start, settled_row_again, settled_row_end}
+use Rattle.fixed_layered.proofs.settle_row.Goals as goal
+
+pub loop-x-init : goal.loop-x-init
+loop-x-init c = (
+  search rules,
+  (
+    refl,
+    settled_row_start c.args.of.n (edges_in c.args.of.p c.args.lists.now) (code_in c.args.of.p c.args.lists.now)
+        (stepped c.args.run.first c.args.of.q) c.args.row.base c.args.of.lanes c.args.sums.now c.args.work.now,
+  ),
+)
+
+pub overflow_mul-c : goal.overflow_mul-c
+overflow_mul-c c =
+    let inside : (stepped c.args.run.first c.args.of.q c.loop-x.x < c.args.of.p) =
+    c.requires.in_run.0.inside c.loop-x.x c.loop-x-test.true in
+    record { fits = omega (arith, inside, c.requires.in_run.0.few_checks) }
+
+pub overflow_add-c : goal.overflow_add-c
+overflow_add-c c =
+    let inside : (stepped c.args.run.first c.args.of.q c.loop-x.x < c.args.of.p) =
+    c.requires.in_run.0.inside c.loop-x.x c.loop-x-test.true in
+    record { fits = omega (arith, inside, c.requires.in_run.0.few_checks) }
+
+pub start-s-requires : goal.start-s-requires
+start-s-requires c =
+    let inside : (stepped c.args.run.first c.args.of.q c.loop-x.x < c.args.of.p) =
+    c.requires.in_run.0.inside c.loop-x.x c.loop-x-test.true in
+    omega (arith, inside, c.requires.in_run.0.memory.lists_right.long)
+
+pub degree-d-requires : goal.degree-d-requires
+degree-d-requires c =
+    let inside : (stepped c.args.run.first c.args.of.q c.loop-x.x < c.args.of.p) =
+    c.requires.in_run.0.inside c.loop-x.x c.loop-x-test.true in
+    (c.requires.in_run.0.memory.lists_right, inside)
+
+pub overflow_add-s : goal.overflow_add-s
+overflow_add-s c =
+    let part : (RowPart c.args.of.n c.args.of.p c.args.of.lanes c.args.run.first c.args.of.q c.args.row.base c.args.row.from c.args.row.upto c.loop-x.x c.start-s.result c.degree-d.result c.least-end.result c.args.lists.now c.args.rows.now c.loop-x.work) =
+    row_part (in_run_to {b = c.loop-x.work} c.loop-x.invariant.1.0 c.requires.in_run.0) c.requires.in_run.1
+    c.requires.grouped.0 c.loop-x-test.true c.start-s.ensures (omega (arith, c.start-s.ensures, c.degree-d.ensures))
+    c.least-end.ensures in
+    let w = part in
+    record { fits = omega (arith, w.part_room.edges, w.least, ap length c.requires.in_run.1, c.requires.in_run.0.few_edges) }
+
+pub overflow_sub-end : goal.overflow_sub-end
+overflow_sub-end c =
+    let part : (RowPart c.args.of.n c.args.of.p c.args.of.lanes c.args.run.first c.args.of.q c.args.row.base c.args.row.from c.args.row.upto c.loop-x.x c.start-s.result c.degree-d.result c.least-end.result c.args.lists.now c.args.rows.now c.loop-x.work) =
+    row_part (in_run_to {b = c.loop-x.work} c.loop-x.invariant.1.0 c.requires.in_run.0) c.requires.in_run.1
+    c.requires.grouped.0 c.loop-x-test.true c.start-s.ensures (omega (arith, c.start-s.ensures, c.degree-d.ensures))
+    c.least-end.ensures in
+    part.least
+
+pub settle_check-requires : goal.settle_check-requires
+settle_check-requires c =
+    let part : (RowPart c.args.of.n c.args.of.p c.args.of.lanes c.args.run.first c.args.of.q c.args.row.base c.args.row.from c.args.row.upto c.loop-x.x c.start-s.result c.degree-d.result c.least-end.result c.args.lists.now c.args.rows.now c.loop-x.work) =
+    row_part (in_run_to {b = c.loop-x.work} c.loop-x.invariant.1.0 c.requires.in_run.0) c.requires.in_run.1
+    c.requires.grouped.0 c.loop-x-test.true c.start-s.ensures (omega (arith, c.start-s.ensures, c.degree-d.ensures))
+    c.least-end.ensures in
+    let w = part in (w.part_room, (c.requires.grouped.1, w.in_row))
+
+pub overflow_add-x : goal.overflow_add-x
+overflow_add-x c = record { fits = omega (arith, few_turns c.loop-x.x c.requires.in_run.0 c.loop-x-test.true) }
+
+pub loop-x-smaller : goal.loop-x-smaller
+loop-x-smaller c = omega (arith, c.loop-x-test.true)
+
+pub loop-x-preserved : goal.loop-x-preserved
+loop-x-preserved c =
+    let part : (RowPart c.args.of.n c.args.of.p c.args.of.lanes c.args.run.first c.args.of.q c.args.row.base c.args.row.from c.args.row.upto c.loop-x.x c.start-s.result c.degree-d.result c.least-end.result c.args.lists.now c.args.rows.now c.loop-x.work) =
+    row_part (in_run_to {b = c.loop-x.work} c.loop-x.invariant.1.0 c.requires.in_run.0) c.requires.in_run.1
+    c.requires.grouped.0 c.loop-x-test.true c.start-s.ensures (omega (arith, c.start-s.ensures, c.degree-d.ensures))
+    c.least-end.ensures in
+    let w = part in (
+      omega (arith, c.loop-x-test.true),
+      (
+        omega (arith, c.loop-x.invariant.1.0),
+        settled_row_again c.requires.grouped.0 c.loop-x-test.true w.up w.most w.least w.all w.start_is c.loop-x.invariant.1.1
+            (subst
+            (λ (l : List ℕ).
+            CheckSettled (var l) c.args.row.base (c.start-s.result + c.args.row.from) c.args.of.lanes c.args.sums.now
+            c.loop-x.work (c.least-end.result - c.args.row.from) c.settle_check.new.work) c.requires.in_run.1
+            c.settle_check.ensures),
+      ),
+    )
+
+pub returns : goal.returns
+returns c = settled_row_end (omega (arith, c.loop-x.invariant.0, c.loop-x-test.false)) c.loop-x.invariant.1.1

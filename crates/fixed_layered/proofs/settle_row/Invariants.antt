@@ -1,0 +1,19 @@
+-- `fixed_layered::settle_row` meets its contract. Assumes nothing.
+use native.Mathlib.Omega.{arith}
+use borrow.Author.Rules.{rules}
+use mathlib.Core.Path.{◌≡◌, refl, ap, subst}
+use mathlib.Core.List.{List}
+use Prim.Native.Nat.{ℕ, ◌+◌, ◌-◌, ◌≤◌, ◌<◌}
+use lib.ListN.{length}
+use Rattle.iteration.specs.Lists.{var, edges_in, code_in}
+use Rattle.iteration.specs.Once.{stepped}
+use Rattle.fixed_layered.specs.RunMemory.{few_turns, in_run_to}
+use Rattle.fixed_layered.specs.Layers.{RowPart, row_part}
+use Rattle.fixed_layered.specs.Rows.{CheckSettled, RowSettled, settled_row_start, settled_row_again, settled_row_end}
+use Rattle.fixed_layered.proofs.settle_row.Given as goal
+
+abbrev pub invariant-loop-x : goal.invariant-loop-x
+invariant-loop-x l = (l.x ≤ l.m) × ((length l.work ≡ length l.initial.work) × RowSettled l.n (edges_in l.p l.lists) (code_in l.p l.lists) (stepped l.first l.q) l.base l.lanes l.sums l.initial.work l.x l.work)
+
+abbrev pub decreases-loop-x : goal.decreases-loop-x
+decreases-loop-x l = l.m - l.x

@@ -1,0 +1,129 @@
+use borrow.Author.Rules.{rules}
+use native.Mathlib.Omega.{arith}
+use mathlib.Core.Path.{◌≡◌, refl, sym, ap, subst}
+use mathlib.Core.List.{List}
+use Prim.Native.Nat.{ℕ, ◌+◌, ◌-◌, ◌≤◌, ◌<◌}
+use lib.ListN.{length, get_or}
+use mir.Syntax.{w8}
+use mir.Val.{to_z, of_z}
+use Rattle.laws.specs.Signed.{plain}
+use Rattle.lane16.specs.Memory.{CheckMemory, check_memory, memory_to}
+use Rattle.iteration.specs.Once.{shared_in, stepped}
+use Rattle.simd_layered.specs.Checked.{Checked}
+use Rattle.iteration.specs.Lists.{code_in, edges_in}
+use Rattle.iteration.specs.Full.{place_of}
+use Rattle.fixed_layered.specs.RunMemory.{few_turns, place_first, place_next, place_room}
+use Rattle.fixed_layered.specs.Checks.{ChecksMade, checks_start, checks_again, checks_end}
+use Rattle.fixed_layered.proofs.shared_run.Goals as goal
+
+pub loop-x-init : goal.loop-x-init
+loop-x-init c = (
+  search rules,
+  (
+    refl,
+    (
+      (refl, refl),
+      (
+        place_first c.args.of.p c.args.lists.now c.args.run.first c.args.of.q,
+        checks_start (shared_in c.args.flags.now) c.args.of.n c.args.of.p c.args.of.lanes (to_z w8 (of_z w8 c.args.offset))
+            c.args.lists.now c.args.run.first c.args.of.q c.args.work.now,
+      ),
+    ),
+  ),
+)
+
+pub overflow_mul-c : goal.overflow_mul-c
+overflow_mul-c c =
+    let inside : (stepped c.args.run.first c.args.of.q c.loop-x.x < c.args.of.p) =
+    c.requires.in_run.0.inside c.loop-x.x c.loop-x-test.true in
+    record { fits = omega (arith, inside, c.requires.in_run.0.few_checks) }
+
+pub overflow_add-c : goal.overflow_add-c
+overflow_add-c c =
+    let inside : (stepped c.args.run.first c.args.of.q c.loop-x.x < c.args.of.p) =
+    c.requires.in_run.0.inside c.loop-x.x c.loop-x-test.true in
+    record { fits = omega (arith, inside, c.requires.in_run.0.few_checks) }
+
+pub start-s-requires : goal.start-s-requires
+start-s-requires c =
+    let inside : (stepped c.args.run.first c.args.of.q c.loop-x.x < c.args.of.p) =
+    c.requires.in_run.0.inside c.loop-x.x c.loop-x-test.true in
+    omega (arith, inside, c.requires.in_run.0.memory.lists_right.long)
+
+pub degree-d-requires : goal.degree-d-requires
+degree-d-requires c =
+    let inside : (stepped c.args.run.first c.args.of.q c.loop-x.x < c.args.of.p) =
+    c.requires.in_run.0.inside c.loop-x.x c.loop-x-test.true in
+    (c.requires.in_run.0.memory.lists_right, inside)
+
+pub check_shared-requires : goal.check_shared-requires
+check_shared-requires c =
+    let inside : (stepped c.args.run.first c.args.of.q c.loop-x.x < c.args.of.p) =
+    c.requires.in_run.0.inside c.loop-x.x c.loop-x-test.true in
+    let ends : (c.start-s.result + c.degree-d.result ≡ get_or c.args.lists.now (stepped c.args.run.first c.args.of.q c.loop-x.x + 1) 0) =
+    omega (arith, c.start-s.ensures, c.degree-d.ensures) in
+    let room : (c.loop-x.place + c.degree-d.result ≤ edges_in c.args.of.p c.args.lists.now) =
+    place_room c.loop-x.x c.loop-x.place c.start-s.result c.degree-d.result c.requires.in_run.0 c.loop-x-test.true
+    c.start-s.ensures ends c.loop-x.invariant.1.1.1.0 in
+    record {
+      check_memory = (
+        subst (λ (l : List ℕ). CheckMemory l c.start-s.result c.degree-d.result c.args.of.n c.args.of.lanes c.loop-x.work)
+            (sym c.requires.in_run.1)
+            (check_memory (stepped c.args.run.first c.args.of.q c.loop-x.x) c.start-s.result c.degree-d.result
+            (memory_to c.loop-x.invariant.1.0 c.requires.in_run.0.memory) inside c.start-s.ensures ends),
+        c.requires.in_run.0.few_bits,
+      );
+      in_bounds = (
+        omega (arith, c.loop-x.invariant.1.1.0.0, c.requires.in_bounds.0),
+        (omega (arith, c.loop-x.invariant.1.1.0.1, c.requires.in_bounds.1), omega (arith, room, ap length c.requires.in_run.1)),
+      );
+    }
+
+pub overflow_add-place : goal.overflow_add-place
+overflow_add-place c =
+    let ends : (c.start-s.result + c.degree-d.result ≡ get_or c.args.lists.now (stepped c.args.run.first c.args.of.q c.loop-x.x + 1) 0) =
+    omega (arith, c.start-s.ensures, c.degree-d.ensures) in
+    let room : (c.loop-x.place + c.degree-d.result ≤ edges_in c.args.of.p c.args.lists.now) =
+    place_room c.loop-x.x c.loop-x.place c.start-s.result c.degree-d.result c.requires.in_run.0 c.loop-x-test.true
+    c.start-s.ensures ends c.loop-x.invariant.1.1.1.0 in
+    record { fits = omega (arith, room, c.requires.in_run.0.few_edges) }
+
+pub overflow_add-x : goal.overflow_add-x
+overflow_add-x c = record { fits = omega (arith, few_turns c.loop-x.x c.requires.in_run.0 c.loop-x-test.true) }
+
+pub loop-x-smaller : goal.loop-x-smaller
+loop-x-smaller c = omega (arith, c.loop-x-test.true)
+
+pub loop-x-preserved : goal.loop-x-preserved
+loop-x-preserved c =
+    let ends : (c.start-s.result + c.degree-d.result ≡ get_or c.args.lists.now (stepped c.args.run.first c.args.of.q c.loop-x.x + 1) 0) =
+    omega (arith, c.start-s.ensures, c.degree-d.ensures) in
+    let inside : (stepped c.args.run.first c.args.of.q c.loop-x.x < c.args.of.p) =
+    c.requires.in_run.0.inside c.loop-x.x c.loop-x-test.true in
+    let room : (c.loop-x.place + c.degree-d.result ≤ edges_in c.args.of.p c.args.lists.now) =
+    place_room c.loop-x.x c.loop-x.place c.start-s.result c.degree-d.result c.requires.in_run.0 c.loop-x-test.true
+    c.start-s.ensures ends c.loop-x.invariant.1.1.1.0 in
+    let f = ends in (
+      omega (arith, c.loop-x-test.true),
+      (
+        omega (arith, c.loop-x.invariant.1.0),
+        (
+          (omega (arith, c.loop-x.invariant.1.1.0.0), omega (arith, c.loop-x.invariant.1.1.0.1)),
+          (
+            place_next c.args.of.p c.args.lists.now c.args.run.first c.args.of.q c.loop-x.x c.loop-x.place c.start-s.result
+                c.degree-d.result inside c.start-s.ensures f c.loop-x.invariant.1.1.1.0,
+            checks_again inside c.start-s.ensures f c.loop-x.invariant.1.1.1.0 room c.loop-x.invariant.1.1.1.1
+                (subst
+                (λ (l : List ℕ).
+                Checked (shared_in c.args.flags.now) l c.start-s.result c.degree-d.result c.args.of.n c.args.of.lanes
+                c.loop-x.place (to_z w8 (of_z w8 c.args.offset)) c.loop-x.work c.check_shared.new.work) c.requires.in_run.1
+                c.check_shared.ensures),
+          ),
+        ),
+      ),
+    )
+
+pub returns : goal.returns
+returns c =
+    checks_end (plain c.args.offset c.ranges.offset) (omega (arith, c.loop-x.invariant.0, c.loop-x-test.false))
+    c.requires.in_run.0 c.requires.once c.loop-x.invariant.1.1.1.1

@@ -1,0 +1,65 @@
+-- `fixed_layered::write_row` meets its contract. Assumes nothing.
+use native.Mathlib.Omega.{arith}
+use borrow.Author.Rules.{rules}
+use mathlib.Core.Path.{◌≡◌, refl, sym, ◌∙◌}
+use mathlib.Core.Bool.{true, false, true≢false}
+use borrow.Author.Tests.{not-true, not-false}
+use Prim.Native.Nat.{◌+◌, ◌*◌, ◌≤◌, ◌<◌}
+use lib.ListN.{get_or, length, length-replicate}
+use Rattle.iteration.specs.Lists.{code_in}
+use Rattle.iteration.specs.Once.{stepped}
+use Rattle.fixed_conflicts.specs.Table.{spans_length, zeros}
+use Rattle.fixed_layered.specs.Rows.{Grouped, row_written}
+use Rattle.fixed_layered.specs.Layers.{grouped}
+use Rattle.fixed_layered.proofs.write_row.Goals as goal
+
+pub span-from-requires : goal.span-from-requires
+span-from-requires c =
+    let in_table : ((length c.args.table.now ≡ spans_length) × ((c.args.g + 1 ≤ 120) × (c.args.run.l < 120))) =
+    (c.requires.shares.1.0, (omega (arith, c.requires.shares.1.1.1.0), c.requires.shares.1.1.0)) in
+    let w = in_table in (w.0, (omega (arith, w.1.0), w.1.1))
+
+pub overflow_add-g : goal.overflow_add-g
+overflow_add-g c =
+    let in_table : ((length c.args.table.now ≡ spans_length) × ((c.args.g + 1 ≤ 120) × (c.args.run.l < 120))) =
+    (c.requires.shares.1.0, (omega (arith, c.requires.shares.1.1.1.0), c.requires.shares.1.1.0)) in
+    record { fits = omega (arith, in_table.1.0) }
+
+pub span-upto-requires : goal.span-upto-requires
+span-upto-requires c =
+    let in_table : ((length c.args.table.now ≡ spans_length) × ((c.args.g + 1 ≤ 120) × (c.args.run.l < 120))) =
+    (c.requires.shares.1.0, (omega (arith, c.requires.shares.1.1.1.0), c.requires.shares.1.1.0)) in
+    in_table
+
+pub overflow_mul-base : goal.overflow_mul-base
+overflow_mul-base c =
+    let in_table : ((length c.args.table.now ≡ spans_length) × ((c.args.g + 1 ≤ 120) × (c.args.run.l < 120))) =
+    (c.requires.shares.1.0, (omega (arith, c.requires.shares.1.1.1.0), c.requires.shares.1.1.0)) in
+    record { fits = omega (arith, in_table.1.0) }
+
+pub gather_row-requires : goal.gather_row-requires
+gather_row-requires c =
+    let several : (get_or c.args.flags.now c.args.g false ≡ true) =
+    c.if-not-flags-g.false in
+    let row_stands : (Grouped (code_in c.args.of.p c.args.lists.now) (stepped c.args.run.first c.args.of.q) c.args.run.m (374 * c.args.g) c.span-from.result c.span-upto.result) =
+    grouped c.args.g several c.requires.shares.1.1.1.1 c.requires.shares.0 c.span-from.ensures.0 c.span-upto.ensures.0 in
+    record {
+      in_run = c.requires.in_run;
+      grouped = row_stands;
+      lanes_in_bounds = (c.requires.lanes_in_bounds, (length-replicate 374 false, zeros 374));
+    }
+
+pub settle_row-requires : goal.settle_row-requires
+settle_row-requires c =
+    let several : (get_or c.args.flags.now c.args.g false ≡ true) =
+    c.if-not-flags-g.false in
+    let row_stands : (Grouped (code_in c.args.of.p c.args.lists.now) (stepped c.args.run.first c.args.of.q) c.args.run.m (374 * c.args.g) c.span-from.result c.span-upto.result) =
+    grouped c.args.g several c.requires.shares.1.1.1.1 c.requires.shares.0 c.span-from.ensures.0 c.span-upto.ensures.0 in
+    record { in_run = c.requires.in_run; grouped = (row_stands, omega (arith, c.requires.lanes_in_bounds)) }
+
+pub returns : goal.returns
+returns c =
+    let several : (get_or c.args.flags.now c.args.g false ≡ true) =
+    c.if-not-flags-g.false in
+    let e = several in
+    record { flagged = λ f. row_written c.gather_row.ensures c.settle_row.ensures; plain = λ f. absurd (true≢false (sym e ∙ f)) }

@@ -1,0 +1,17 @@
+-- `fixed_syndrome::met` meets its contract. Assumes nothing.
+use borrow.Author.Rules.{rules}
+use native.Mathlib.Omega.{arith}
+use mathlib.Core.Path.{◌≡◌, refl}
+use mathlib.Core.Bool.{false}
+use Prim.Native.Nat.{◌*◌, ◌-◌, ◌≤◌, ◌<◌}
+use lib.ListN.{length, get_or-replicate}
+use Rattle.iteration.specs.ListsLaws.{rows_part}
+use Rattle.fixed_syndrome.specs.Chunk.{ChunksFilled, filled_start, filled_again}
+use Rattle.fixed_syndrome.specs.Met.{VerdictIn, verdicts_in, met_end}
+use Rattle.fixed_syndrome.proofs.met.Given as goal
+
+abbrev pub invariant-loop-j : goal.invariant-loop-j
+invariant-loop-j l = (l.j ≤ 4) × ((length l.verdict ≡ 64) × ChunksFilled false (VerdictIn l.n l.p l.lanes l.lists l.work l.all) (l.j * 16) l.verdict)
+
+abbrev pub decreases-loop-j : goal.decreases-loop-j
+decreases-loop-j l = 4 - l.j

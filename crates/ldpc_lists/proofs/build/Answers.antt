@@ -1,0 +1,68 @@
+-- `ldpc_lists::build` meets its contract. Assumes nothing.
+use Rattle.ldpc_lists.proofs.Built.{bounds, lent, ends_ready, base_fits, stairs_ready, meets_ready, build_done}
+use Rattle.ldpc_shape.specs.Shape.{p_of, e_of}
+use Rattle.ldpc_shape.specs.declared.Sizes.{Sizes}
+use lib.ListN.{length}
+use Prim.Native.Nat.{suc, ◌+◌}
+use mathlib.Core.Path.{◌≡◌, ap}
+use native.Mathlib.Omega.{arith}
+use Rattle.ldpc_lists.proofs.build.Goals as goal
+
+pub overflow_cast-n : goal.overflow_cast-n
+overflow_cast-n c = omega (arith, bounds _ _ _ c.requires.accepted.0 _ c.requires.accepted.1)
+
+pub overflow_cast-k : goal.overflow_cast-k
+overflow_cast-k c = omega (arith, bounds _ _ _ c.requires.accepted.0 _ c.requires.accepted.1)
+
+pub overflow_cast-p : goal.overflow_cast-p
+overflow_cast-p c = omega (arith, bounds _ _ _ c.requires.accepted.0 _ c.requires.accepted.1)
+
+pub overflow_cast-q : goal.overflow_cast-q
+overflow_cast-q c = omega (arith, bounds _ _ _ c.requires.accepted.0 _ c.requires.accepted.1)
+
+pub counts-r-requires : goal.counts-r-requires
+counts-r-requires c =
+    let b = bounds _ _ _ c.requires.accepted.0 _ c.requires.accepted.1 in
+    (b.q_pos, b.q_le, (lent _ _ _ c.requires.accepted.0 _ c.requires.accepted.1).0)
+
+pub ends-requires : goal.ends-requires
+ends-requires c =
+    let p = ap (λ (z : Sizes). z.p) c.requires.accepted.1 in
+    let e = ap (λ (z : Sizes). z.e) c.requires.accepted.1 in
+    let long : length c.args.lists.now ≡ suc (p_of c.args.of.n c.args.lens.now) + e_of c.args.of.n c.args.lens.now c.args.addrs.now = omega (arith, c.requires.size) in
+    ends_ready _ _ _ c.requires.accepted.0 _ c.requires.accepted.1 c.counts-r.result c.args.lists.now c.counts-r.ensures.below long
+
+pub put_stairs-requires : goal.put_stairs-requires
+put_stairs-requires c =
+    let p = ap (λ (z : Sizes). z.p) c.requires.accepted.1 in
+    let e = ap (λ (z : Sizes). z.e) c.requires.accepted.1 in
+    let long : length c.ends.new.lists ≡ suc (p_of c.args.of.n c.args.lens.now) + e_of c.args.of.n c.args.lens.now c.args.addrs.now = omega (arith, c.requires.size) in (
+      base_fits _ _ _ c.requires.accepted.0 _ c.requires.accepted.1 c.counts-r.result c.ends.new.lists c.counts-r.ensures.below long c.ends.ensures.0 c.ends.ensures.1,
+      (bounds _ _ _ c.requires.accepted.0 _ c.requires.accepted.1).n_is,
+      stairs_ready _ _ _ c.requires.accepted.0 _ c.requires.accepted.1 c.counts-r.result c.ends.new.lists c.counts-r.ensures.below long c.ends.ensures.0 c.ends.ensures.1,
+    )
+
+pub put_rows-requires : goal.put_rows-requires
+put_rows-requires c =
+    let b = bounds _ _ _ c.requires.accepted.0 _ c.requires.accepted.1 in
+    let rows = lent _ _ _ c.requires.accepted.0 _ c.requires.accepted.1 in
+    let p = ap (λ (z : Sizes). z.p) c.requires.accepted.1 in
+    let e = ap (λ (z : Sizes). z.e) c.requires.accepted.1 in
+    let long : length c.ends.new.lists ≡ suc (p_of c.args.of.n c.args.lens.now) + e_of c.args.of.n c.args.lens.now c.args.addrs.now = omega (arith, c.requires.size) in (
+      omega (arith, base_fits _ _ _ c.requires.accepted.0 _ c.requires.accepted.1 c.counts-r.result c.ends.new.lists c.counts-r.ensures.below long c.ends.ensures.0 c.ends.ensures.1),
+      b.p_pos,
+      b.q_le,
+      rows.2,
+      omega (arith, b),
+      rows.1,
+      meets_ready _ _ _ c.requires.accepted.0 _ c.requires.accepted.1 c.counts-r.result c.ends.new.lists c.counts-r.ensures.below long c.ends.ensures.0 c.ends.ensures.1
+          c.put_stairs.new.lists c.put_stairs.ensures,
+    )
+
+pub returns : goal.returns
+returns c =
+    let p = ap (λ (z : Sizes). z.p) c.requires.accepted.1 in
+    let e = ap (λ (z : Sizes). z.e) c.requires.accepted.1 in
+    let long : length c.ends.new.lists ≡ suc (p_of c.args.of.n c.args.lens.now) + e_of c.args.of.n c.args.lens.now c.args.addrs.now = omega (arith, c.requires.size) in
+    build_done _ _ _ c.requires.accepted.0 _ c.requires.accepted.1 c.counts-r.result c.ends.new.lists c.counts-r.ensures.below long c.ends.ensures.0 c.ends.ensures.1
+    c.put_stairs.new.lists c.put_stairs.ensures c.put_rows.new.lists c.put_rows.ensures

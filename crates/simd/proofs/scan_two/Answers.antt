@@ -1,0 +1,40 @@
+use borrow.Author.Rules.{rules}
+use native.Mathlib.Omega.{arith}
+use mathlib.Core.Path.{refl}
+use Prim.Native.Nat.{◌+◌, ◌<◌}
+use lib.ListN.{length, get_or-replicate}
+use lib.IntN.{pos}
+use Rattle.lane16.specs.Memory.{load_room, value_row}
+use Rattle.iteration.specs.Lists.{var}
+use Rattle.simd.specs.Pass.{scan_start, scan_again, scan_end}
+use Rattle.simd.proofs.scan_two.Goals as goal
+
+pub loop-k-init : goal.loop-k-init
+loop-k-init c = (
+  search rules,
+  (
+    (refl, refl),
+    (
+      scan_start (var c.args.rows.now) c.args.s c.args.n c.args.lanes c.args.at c.args.work.now c.args.t.now _ _ _
+          (λ k q. get_or-replicate 16 k 127 0 q) (λ k q. get_or-replicate 16 k 127 0 q)
+          (λ k q. get_or-replicate 16 k (pos 0) (pos 0) q),
+      scan_start (var c.args.rows.now) c.args.s c.args.n c.args.lanes (c.args.at + 16) c.args.work.now c.args.u.now _ _ _
+          (λ k q. get_or-replicate 16 k 127 0 q) (λ k q. get_or-replicate 16 k 127 0 q)
+          (λ k q. get_or-replicate 16 k (pos 0) (pos 0) q),
+    ),
+  ),
+)
+
+pub loop-k-preserved : goal.loop-k-preserved
+loop-k-preserved c = (
+  omega (arith, c.loop-k-test.true),
+  (
+    (omega (arith, c.store.auto, c.loop-k.invariant.1.0.0), omega (arith, c.store-in-loop-k.auto, c.loop-k.invariant.1.0.1)),
+    (
+      scan_again c.loop-k.invariant.1.1.0 c.variable-v.ensures c.load-lv.ensures c.load-rv.ensures c.scan-one.ensures
+          c.store.ensures,
+      scan_again c.loop-k.invariant.1.1.1 c.variable-v.ensures c.load-lw.ensures c.load-rw.ensures c.scan-two.ensures
+          c.store-in-loop-k.ensures,
+    ),
+  ),
+)

@@ -1,0 +1,35 @@
+use borrow.Author.Rules.{rules}
+use native.Mathlib.Omega.{arith}
+use mathlib.Core.Path.{◌≡◌, refl, subst}
+use Prim.Native.Nat.{◌-◌, ◌≤◌}
+use lib.ListN.{length}
+use lib.IntN.{ℤ}
+use mir.Syntax.{w8}
+use mir.Val.{to_z, of_z}
+use Rattle.laws.specs.Signed.{plain}
+use Rattle.lane16.specs.ColumnLaws.{Upto, upto_start, upto_again, upto_end}
+use Rattle.lane16.specs.Memory.{check_memory_to}
+use Rattle.iteration.specs.Once.{shared_in}
+use Rattle.iteration.specs.Lists.{var}
+use Rattle.simd_layered.specs.Checked.{run_column, Checked, checked}
+use Rattle.simd_layered.proofs.check_shared.Goals as goal
+
+pub loop-at-preserved : goal.loop-at-preserved
+loop-at-preserved c = (
+  omega (arith, c.chunk-w.ensures.0.1),
+  (
+    omega (arith, c.loop-at.invariant.1.0),
+    (
+      (omega (arith, c.loop-at.invariant.1.1.0.0), omega (arith, c.loop-at.invariant.1.1.0.1)),
+      upto_again c.loop-at.invariant.1.1.1 c.chunk-w.ensures.1,
+    ),
+  ),
+)
+
+pub returns : goal.returns
+returns c =
+    subst
+    (λ (o : ℤ). Checked (shared_in c.args.flags.now) c.args.rows.now c.args.s c.args.d c.args.n c.args.lanes c.args.place o
+    c.args.work.now c.loop-at.work) (plain c.args.offset c.ranges.offset)
+    (checked c.requires.check_memory.0 c.requires.in_bounds.1.1
+    (upto_end (omega (arith, c.loop-at-test.false)) c.loop-at.invariant.1.1.1))

@@ -1,0 +1,2 @@
+-- The ways through `push`, which rest on the refusals' definition.
+pub mod PushLaws
