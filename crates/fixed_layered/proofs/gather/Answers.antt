@@ -21,33 +21,6 @@ use Rattle.fixed_layered.proofs.gather.Goals as goal
 byte : (x : ℤ) → mag x < 128 → {y : ℤ} → x ≡ y → nat_abs y ≤ 128
 byte x h {y} e = subst (λ (int_at : ℤ). nat_abs int_at ≤ 128) e (abs_byte x (sfits_of h))
 
-pub loop-i-init : goal.loop-i-init
-loop-i-init c = (
-  search rules,
-  (
-    edge_start c.args.lanes c.args.at c.args.tu c.args.ru c.args.ou c.args.seen c.args.work.now c.args.sums.now,
-    growing_start c.requires.sums.1.1,
-  ),
-)
-
-pub slice_copy_out-s : goal.slice_copy_out-s
-slice_copy_out-s c =
-    let room : c.args.at + c.loop-i.i < length c.loop-i.sums =
-    omega (arith, c.requires.sums.0, c.loop-i-test.true, c.loop-i.invariant.1.0.long) in
-    omega (arith, room)
-
-pub gathered-requires : goal.gathered-requires
-gathered-requires c =
-    rw (to_z-of_z w32 (int_at c.loop-i.sums (c.args.at + c.loop-i.i)) (sfits_of c.s-1.given))
-    (λ b. omega
-    (arith, c.loop-i.invariant.1.1.still b c.loop-i.i (omega arith) c.loop-i-test.true, c.requires.sums.1.0))
-
-pub bounds-sums-at : goal.bounds-sums-at
-bounds-sums-at c =
-    let room : c.args.at + c.loop-i.i < length c.loop-i.sums =
-    omega (arith, c.requires.sums.0, c.loop-i-test.true, c.loop-i.invariant.1.0.long) in
-    omega (arith, room)
-
 pub loop-i-preserved : goal.loop-i-preserved
 loop-i-preserved c =
     let room : c.args.at + c.loop-i.i < length c.loop-i.sums =
@@ -57,7 +30,7 @@ loop-i-preserved c =
     to_z-of_z w32 c.gathered.result (sfits_of c.gathered.type_inv)
     ∙ c.gathered.ensures
     ∙ (λ j. cond c.args.seen
-    (to_z-of_z w32 (int_at c.loop-i.sums (c.args.at + c.loop-i.i)) (sfits_of c.s-1.given) j +ℤ
+    (to_z-of_z w32 (int_at c.loop-i.sums (c.args.at + c.loop-i.i)) (search rules) j +ℤ
     ((plain c.value-new.result (sfits_of c.value-new.type_inv) ∙ c.value-new.ensures) j -ℤ
     (plain c.value-old.result (sfits_of c.value-old.type_inv) ∙ c.value-old.ensures) j))
     ((plain c.value-t.result (sfits_of c.value-t.type_inv) ∙ c.value-t.ensures) j +ℤ
@@ -71,12 +44,3 @@ loop-i-preserved c =
             (byte c.value-old.result c.value-old.type_inv c.value-old.ensures) is,
       ),
     )
-
-pub shape_of-sums : goal.shape_of-sums
-shape_of-sums c = c.loop-i.invariant.1.0.long
-
-pub returns : goal.returns
-returns c = (
-  edge_end (omega (arith, c.loop-i.invariant.0, c.loop-i-test.false)) c.loop-i.invariant.1.0,
-  growing_end (omega (arith, c.loop-i-test.false)) c.loop-i.invariant.1.1,
-)

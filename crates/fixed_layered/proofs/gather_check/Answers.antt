@@ -21,21 +21,6 @@ loop-k-init c = (
   ),
 )
 
-pub gather_edge-requires : goal.gather_edge-requires
-gather_edge-requires c =
-    let w = c.requires.lanes_in_bounds.1.1 c.loop-k.k c.loop-k-test.true in
-    record {
-      check_memory = (
-        edge_room c.loop-k.k c.loop-k-test.true c.requires.check_memory.0,
-        (omega (arith, c.loop-k-test.true, c.requires.check_memory.1.0), c.requires.check_memory.1.1),
-      );
-      lanes_in_bounds = (
-        omega (arith, c.loop-k.invariant.1.0, c.requires.lanes_in_bounds.0),
-        (omega (arith, c.loop-k.invariant.1.1.0, c.requires.lanes_in_bounds.1.0), w),
-      );
-      smalls = c.loop-k.invariant.1.1.1.small;
-    }
-
 pub loop-k-preserved : goal.loop-k-preserved
 loop-k-preserved c =
     let w = c.requires.lanes_in_bounds.1.1 c.loop-k.k c.loop-k-test.true in (
@@ -52,9 +37,3 @@ loop-k-preserved c =
         ),
       ),
     )
-
-pub returns : goal.returns
-returns c =
-    gathers_end c.args.n (length c.args.rows.now) c.args.lanes (var c.args.rows.now) c.args.base c.args.s c.args.place
-    c.args.work.now (sum_at c.args.lanes c.args.seen.now c.args.sums.now)
-    (omega (arith, c.loop-k.invariant.0, c.loop-k-test.false)) c.loop-k.invariant.1.1.1

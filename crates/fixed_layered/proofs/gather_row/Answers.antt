@@ -31,30 +31,6 @@ loop-x-init c = (
   ),
 )
 
-pub overflow_mul-c : goal.overflow_mul-c
-overflow_mul-c c =
-    let inside : (stepped c.args.run.first c.args.of.q c.loop-x.x < c.args.of.p) =
-    c.requires.in_run.0.inside c.loop-x.x c.loop-x-test.true in
-    record { fits = omega (arith, inside, c.requires.in_run.0.few_checks) }
-
-pub overflow_add-c : goal.overflow_add-c
-overflow_add-c c =
-    let inside : (stepped c.args.run.first c.args.of.q c.loop-x.x < c.args.of.p) =
-    c.requires.in_run.0.inside c.loop-x.x c.loop-x-test.true in
-    record { fits = omega (arith, inside, c.requires.in_run.0.few_checks) }
-
-pub start-s-requires : goal.start-s-requires
-start-s-requires c =
-    let inside : (stepped c.args.run.first c.args.of.q c.loop-x.x < c.args.of.p) =
-    c.requires.in_run.0.inside c.loop-x.x c.loop-x-test.true in
-    omega (arith, inside, c.requires.in_run.0.memory.lists_right.long)
-
-pub degree-d-requires : goal.degree-d-requires
-degree-d-requires c =
-    let inside : (stepped c.args.run.first c.args.of.q c.loop-x.x < c.args.of.p) =
-    c.requires.in_run.0.inside c.loop-x.x c.loop-x-test.true in
-    (c.requires.in_run.0.memory.lists_right, inside)
-
 pub overflow_add-s : goal.overflow_add-s
 overflow_add-s c =
     let ends : (c.start-s.result + c.degree-d.result ≡ get_or c.args.lists.now (stepped c.args.run.first c.args.of.q c.loop-x.x + 1) 0) =
@@ -122,12 +98,6 @@ overflow_add-place-in-loop-x c =
     c.start-s.ensures ends c.loop-x.invariant.1.1.1.0 in
     record { fits = omega (arith, room, c.requires.in_run.0.few_edges) }
 
-pub overflow_add-x : goal.overflow_add-x
-overflow_add-x c = record { fits = omega (arith, few_turns c.loop-x.x c.requires.in_run.0 c.loop-x-test.true) }
-
-pub loop-x-smaller : goal.loop-x-smaller
-loop-x-smaller c = omega (arith, c.loop-x-test.true)
-
 pub loop-x-preserved : goal.loop-x-preserved
 loop-x-preserved c =
     let ends : (c.start-s.result + c.degree-d.result ≡ get_or c.args.lists.now (stepped c.args.run.first c.args.of.q c.loop-x.x + 1) 0) =
@@ -159,13 +129,3 @@ loop-x-preserved c =
         ),
       ),
     )
-
-pub returns : goal.returns
-returns c =
-    let e : c.loop-x.x ≡ c.args.run.m = omega (arith, c.loop-x.invariant.0, c.loop-x-test.false) in
-    subst
-    (λ (x : ℕ).
-    Gathers c.args.of.lanes (place_of (code_in c.args.of.p c.args.lists.now) (stepped c.args.run.first c.args.of.q) x)
-    (run_sum c.args.of.n (edges_in c.args.of.p c.args.lists.now) (code_in c.args.of.p c.args.lists.now)
-    (stepped c.args.run.first c.args.of.q) c.args.row.base c.args.of.lanes c.args.work.now x) c.loop-x.seen
-    c.loop-x.sums) e c.loop-x.invariant.1.1.1.1

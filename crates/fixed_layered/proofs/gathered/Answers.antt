@@ -8,16 +8,6 @@ use Rattle.laws.specs.Signed.{plain}
 use Rattle.fixed_layered.specs.Bounds.{widen32, wide32, diff_fits32, sum_fits32, more_fits32}
 use Rattle.fixed_layered.proofs.gathered.Goals as goal
 
-pub overflow_cast-result : goal.overflow_cast-result
-overflow_cast-result c = rw (plain c.args.new c.ranges.new) (widen32 c.ranges.new)
-
-pub overflow_cast-result-then-seen : goal.overflow_cast-result-then-seen
-overflow_cast-result-then-seen c = rw (plain c.args.old c.ranges.old) (widen32 c.ranges.old)
-
-pub overflow_sub-result : goal.overflow_sub-result
-overflow_sub-result c =
-    rw (wide32 c.args.new c.ranges.new, wide32 c.args.old c.ranges.old) (diff_fits32 _ _ c.ranges.new c.ranges.old)
-
 pub overflow_add-result : goal.overflow_add-result
 overflow_add-result c =
     rw (
@@ -39,13 +29,3 @@ returns-then-seen c =
       c.if-seen.true,
     )
     refl
-
-pub overflow_cast-result-2 : goal.overflow_cast-result-2
-overflow_cast-result-2 c = rw (plain c.args.t c.ranges.t) (widen32 c.ranges.t)
-
-pub overflow_cast-result-3 : goal.overflow_cast-result-3
-overflow_cast-result-3 c = rw (plain c.args.new c.ranges.new) (widen32 c.ranges.new)
-
-pub overflow_add-result-2 : goal.overflow_add-result-2
-overflow_add-result-2 c =
-    rw (wide32 c.args.t c.ranges.t, wide32 c.args.new c.ranges.new) (sum_fits32 _ _ c.ranges.t c.ranges.new)

@@ -36,12 +36,6 @@ runs-requires c =
       );
     }
 
-pub overflow_add-l : goal.overflow_add-l
-overflow_add-l c = record { fits = omega (arith, c.loop-l-test.true, c.requires.layers.1.few_layers) }
-
-pub loop-l-smaller : goal.loop-l-smaller
-loop-l-smaller c = omega (arith, c.loop-l-test.true)
-
 pub loop-l-preserved : goal.loop-l-preserved
 loop-l-preserved c = (
   omega (arith, c.loop-l-test.true),
@@ -56,20 +50,3 @@ loop-l-preserved c = (
     ),
   ),
 )
-
-pub shape_of-work : goal.shape_of-work
-shape_of-work c = c.loop-l.invariant.1.0
-
-pub shape_of-t : goal.shape_of-t
-shape_of-t c = c.loop-l.invariant.1.1.0.0
-
-pub shape_of-u : goal.shape_of-u
-shape_of-u c = c.loop-l.invariant.1.1.0.1.0
-
-pub shape_of-sums : goal.shape_of-sums
-shape_of-sums c = c.loop-l.invariant.1.1.0.1.1
-
-pub returns : goal.returns
-returns c =
-    layers_end (plain c.args.offset c.ranges.offset) (omega (arith, c.loop-l.invariant.0, c.loop-l-test.false))
-    c.loop-l.invariant.1.1.1

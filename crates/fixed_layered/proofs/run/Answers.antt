@@ -9,27 +9,11 @@ use Rattle.fixed_layered.specs.Layers.{run_offset}
 use Rattle.fixed_layered.specs.Checks.{turn_made, run_law}
 use Rattle.fixed_layered.proofs.run.Goals as goal
 
-pub checks-requires : goal.checks-requires
-checks-requires c =
-    record {
-      memory = (c.requires.in_run.memory, rows_part c.args.of.p c.args.lists.now);
-      inside = c.requires.in_run.inside;
-      in_bounds = (c.requires.in_bounds.0, c.requires.in_bounds.1.0);
-    }
-
 pub returns-then-not-run : goal.returns-then-not-run
 returns-then-not-run c =
     let none = c.requires.unshared (not-true c.args.run.shared c.if-not-run.true) in
     run_offset (plain c.args.offset c.ranges.offset)
     (turn_made c.requires.in_run (λ v. c.requires.shares.0.once v (none (v / 374))) c.checks.ensures)
-
-pub shared_run-requires : goal.shared_run-requires
-shared_run-requires c =
-    record {
-      in_run = (c.requires.in_run, rows_part c.args.of.p c.args.lists.now);
-      once = c.requires.shares.0.once;
-      in_bounds = (c.requires.in_bounds.0, c.requires.in_bounds.1.0);
-    }
 
 pub returns : goal.returns
 returns c =

@@ -10,12 +10,6 @@ use Rattle.laws.specs.Signed.{plain}
 use Rattle.fixed_layered.specs.Layers.{RunsMade, runs_start, runs_again, runs_end, in_layer_to, in_run_lem, shares_part}
 use Rattle.fixed_layered.proofs.runs.Goals as goal
 
-pub shared-sharing-requires : goal.shared-sharing-requires
-shared-sharing-requires c = (
-  c.requires.sharing.long,
-  (c.requires.sharing.few_rows, omega (arith, c.requires.in_layer.layer, c.requires.sharing.few_layers)),
-)
-
 pub loop-at-init : goal.loop-at-init
 loop-at-init c = (
   omega arith,
@@ -31,22 +25,6 @@ loop-at-init c = (
     ),
   ),
 )
-
-pub overflow_mul-first : goal.overflow_mul-first
-overflow_mul-first c =
-    let inside : c.args.l + c.loop-at.at * c.args.of.q < 44880 =
-    let z : (c.loop-at.at + 1) * c.args.of.q ≤ 374 * c.args.of.q =
-    mul-le-mul_right c.args.of.q (omega (arith, c.loop-at-test.true)) in
-    omega (arith, c.requires.in_layer.whole, c.requires.in_layer.few_checks, c.requires.in_layer.layer) in
-    record { fits = omega (arith, inside) }
-
-pub overflow_add-first : goal.overflow_add-first
-overflow_add-first c =
-    let inside : c.args.l + c.loop-at.at * c.args.of.q < 44880 =
-    let z : (c.loop-at.at + 1) * c.args.of.q ≤ 374 * c.args.of.q =
-    mul-le-mul_right c.args.of.q (omega (arith, c.loop-at-test.true)) in
-    omega (arith, c.requires.in_layer.whole, c.requires.in_layer.few_checks, c.requires.in_layer.layer) in
-    record { fits = omega (arith, inside) }
 
 pub run-requires : goal.run-requires
 run-requires c =
@@ -75,17 +53,6 @@ run-requires c =
       );
     }
 
-pub overflow_add-at : goal.overflow_add-at
-overflow_add-at c = record { fits = omega (arith, c.loop-at-test.true, c.requires.in_layer.small_step) }
-
-pub overflow_add-j : goal.overflow_add-j
-overflow_add-j c =
-    let z : c.loop-at.j * 1 ≤ c.loop-at.j * c.args.of.step = mul-le-mul_left c.loop-at.j c.requires.in_layer.step in
-    record { fits = omega (arith, c.loop-at.invariant.0, c.loop-at-test.true) }
-
-pub loop-at-smaller : goal.loop-at-smaller
-loop-at-smaller c = omega (arith, c.loop-at-test.true, c.requires.in_layer.step)
-
 pub loop-at-preserved : goal.loop-at-preserved
 loop-at-preserved c = (
   omega (arith, c.loop-at.invariant.0),
@@ -103,18 +70,6 @@ loop-at-preserved c = (
     ),
   ),
 )
-
-pub shape_of-work : goal.shape_of-work
-shape_of-work c = c.loop-at.invariant.1.1.0
-
-pub shape_of-t : goal.shape_of-t
-shape_of-t c = c.loop-at.invariant.1.1.1.0.0
-
-pub shape_of-u : goal.shape_of-u
-shape_of-u c = c.loop-at.invariant.1.1.1.0.1.0
-
-pub shape_of-sums : goal.shape_of-sums
-shape_of-sums c = c.loop-at.invariant.1.1.1.0.1.1
 
 pub returns : goal.returns
 returns c =

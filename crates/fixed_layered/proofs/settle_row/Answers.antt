@@ -21,30 +21,6 @@ loop-x-init c = (
   ),
 )
 
-pub overflow_mul-c : goal.overflow_mul-c
-overflow_mul-c c =
-    let inside : (stepped c.args.run.first c.args.of.q c.loop-x.x < c.args.of.p) =
-    c.requires.in_run.0.inside c.loop-x.x c.loop-x-test.true in
-    record { fits = omega (arith, inside, c.requires.in_run.0.few_checks) }
-
-pub overflow_add-c : goal.overflow_add-c
-overflow_add-c c =
-    let inside : (stepped c.args.run.first c.args.of.q c.loop-x.x < c.args.of.p) =
-    c.requires.in_run.0.inside c.loop-x.x c.loop-x-test.true in
-    record { fits = omega (arith, inside, c.requires.in_run.0.few_checks) }
-
-pub start-s-requires : goal.start-s-requires
-start-s-requires c =
-    let inside : (stepped c.args.run.first c.args.of.q c.loop-x.x < c.args.of.p) =
-    c.requires.in_run.0.inside c.loop-x.x c.loop-x-test.true in
-    omega (arith, inside, c.requires.in_run.0.memory.lists_right.long)
-
-pub degree-d-requires : goal.degree-d-requires
-degree-d-requires c =
-    let inside : (stepped c.args.run.first c.args.of.q c.loop-x.x < c.args.of.p) =
-    c.requires.in_run.0.inside c.loop-x.x c.loop-x-test.true in
-    (c.requires.in_run.0.memory.lists_right, inside)
-
 pub overflow_add-s : goal.overflow_add-s
 overflow_add-s c =
     let part : (RowPart c.args.of.n c.args.of.p c.args.of.lanes c.args.run.first c.args.of.q c.args.row.base c.args.row.from c.args.row.upto c.loop-x.x c.start-s.result c.degree-d.result c.least-end.result c.args.lists.now c.args.rows.now c.loop-x.work) =
@@ -70,12 +46,6 @@ settle_check-requires c =
     c.least-end.ensures in
     let w = part in (w.part_room, (c.requires.grouped.1, w.in_row))
 
-pub overflow_add-x : goal.overflow_add-x
-overflow_add-x c = record { fits = omega (arith, few_turns c.loop-x.x c.requires.in_run.0 c.loop-x-test.true) }
-
-pub loop-x-smaller : goal.loop-x-smaller
-loop-x-smaller c = omega (arith, c.loop-x-test.true)
-
 pub loop-x-preserved : goal.loop-x-preserved
 loop-x-preserved c =
     let part : (RowPart c.args.of.n c.args.of.p c.args.of.lanes c.args.run.first c.args.of.q c.args.row.base c.args.row.from c.args.row.upto c.loop-x.x c.start-s.result c.degree-d.result c.least-end.result c.args.lists.now c.args.rows.now c.loop-x.work) =
@@ -94,6 +64,3 @@ loop-x-preserved c =
             c.settle_check.ensures),
       ),
     )
-
-pub returns : goal.returns
-returns c = settled_row_end (omega (arith, c.loop-x.invariant.0, c.loop-x-test.false)) c.loop-x.invariant.1.1

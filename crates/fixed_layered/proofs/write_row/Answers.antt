@@ -13,30 +13,6 @@ use Rattle.fixed_layered.specs.Rows.{Grouped, row_written}
 use Rattle.fixed_layered.specs.Layers.{grouped}
 use Rattle.fixed_layered.proofs.write_row.Goals as goal
 
-pub span-from-requires : goal.span-from-requires
-span-from-requires c =
-    let in_table : ((length c.args.table.now ≡ spans_length) × ((c.args.g + 1 ≤ 120) × (c.args.run.l < 120))) =
-    (c.requires.shares.1.0, (omega (arith, c.requires.shares.1.1.1.0), c.requires.shares.1.1.0)) in
-    let w = in_table in (w.0, (omega (arith, w.1.0), w.1.1))
-
-pub overflow_add-g : goal.overflow_add-g
-overflow_add-g c =
-    let in_table : ((length c.args.table.now ≡ spans_length) × ((c.args.g + 1 ≤ 120) × (c.args.run.l < 120))) =
-    (c.requires.shares.1.0, (omega (arith, c.requires.shares.1.1.1.0), c.requires.shares.1.1.0)) in
-    record { fits = omega (arith, in_table.1.0) }
-
-pub span-upto-requires : goal.span-upto-requires
-span-upto-requires c =
-    let in_table : ((length c.args.table.now ≡ spans_length) × ((c.args.g + 1 ≤ 120) × (c.args.run.l < 120))) =
-    (c.requires.shares.1.0, (omega (arith, c.requires.shares.1.1.1.0), c.requires.shares.1.1.0)) in
-    in_table
-
-pub overflow_mul-base : goal.overflow_mul-base
-overflow_mul-base c =
-    let in_table : ((length c.args.table.now ≡ spans_length) × ((c.args.g + 1 ≤ 120) × (c.args.run.l < 120))) =
-    (c.requires.shares.1.0, (omega (arith, c.requires.shares.1.1.1.0), c.requires.shares.1.1.0)) in
-    record { fits = omega (arith, in_table.1.0) }
-
 pub gather_row-requires : goal.gather_row-requires
 gather_row-requires c =
     let several : (get_or c.args.flags.now c.args.g false ≡ true) =
