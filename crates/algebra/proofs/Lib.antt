@@ -1,1 +1,3 @@
 pub mod Binary
+pub mod Found
+pub mod OnlyRegister

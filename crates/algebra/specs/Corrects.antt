@@ -1,6 +1,6 @@
 -- A shortest register and the errors that have its syndromes: one of at most half as many places as there are syndromes is wrong exactly
--- at the register's roots, as many as it is long (`found`); and a register with so many roots has such an error (`corrected`). That the error
--- is binary if the syndromes are those of a binary word is in proofs/Binary.antt.
+-- at the register's roots, as many as it is long (`Found`); and a register with so many roots has such an error (`corrected`). That such an
+-- error is found is in proofs/Found.antt, that it is binary if the syndromes are those of a binary word in proofs/Binary.antt.
 use Rattle.std.specs.Prelude.{◌≡◌, ◌≢◌, ℕ, suc, ◌+◌, ◌≤◌, ◌<◌}
 use Rattle.std.proofs.Math.Path.{sym, ap, subst}
 use Rattle.std.proofs.Common.{◌∙◌, arith}
@@ -13,7 +13,7 @@ use Rattle.algebra.specs.Roots.{Distinct, pow_nz, inv_inj, roots}
 use Rattle.algebra.specs.Register.{Shortest}
 use Rattle.algebra.specs.Locator.{syndrome}
 use Rattle.algebra.specs.Split.{split}
-use Rattle.algebra.specs.Errors.{weight, weight_strict, Listing, listing, Syndromes, chien, shift, no_longer, length_right, found_wrong, found_right}
+use Rattle.algebra.specs.Errors.{weight, weight_strict, Listing, listing, Syndromes, chien, shift, no_longer}
 use Rattle.algebra.specs.Places.{spread, spread_at, spread_off, mark, mark_zero, zero_mark, zeros_mark, zeros_weight}
 
 module _ {F : Type 0} (K : Field F) where
@@ -55,18 +55,7 @@ module _ {F : Type 0} (K : Field F) where
         pick (no h) = omega arith
 
     module _ (b k : ℕ) (s c : ℕ → F) (l : ℕ) (S : Shortest R₃ s k c l) where
-      -- an error of at most half as many places as there are syndromes is found,
-      pub found : (ε : ℕ → F) → Syndromes K n x b k ε s → weight K n ε + weight K n ε ≤ k → Found n x b k s c l ε
-      found ε s-is enough =
-          let fit : weight K n ε + weight K n ε ≤ k = omega arith in
-          record {
-            syndromes = s-is;
-            count = sym (length_right K n x x-nz b k ε s s-is x-d fit c l S);
-            wrong = found_wrong K n x x-nz b k ε s s-is x-d fit c l S;
-            right = found_right K n x x-nz b k ε s s-is x-d fit c l S;
-          }
-
-      -- and a found error's places are the register's roots, as many as it is long
+      -- a found error's places are the register's roots, as many as it is long
       pub found_count : (ε : ℕ → F) → Found n x b k s c l ε → zeros K n (chien K c l x) ≡ l
       found_count ε f = zeros_weight K n (chien K c l x) ε f.wrong f.right ∙ f.count
 

@@ -238,10 +238,6 @@ module _ {F : Type 0} (K : Field F) where
       unfolding e x₀ L
       d₀ i j h h' = x-d (L.place i) (L.place j) (L.in_order i j h h') (L.inside j h')
 
-      enough₀ : e + e ≤ k
-      unfolding e
-      enough₀ = omega (arith, enough)
-
       fits : l ≤ e
       unfolding e
       fits = no_longer c l S
@@ -257,12 +253,15 @@ module _ {F : Type 0} (K : Field F) where
       -- its length is the number of errors
       pub length_right : l ≡ weight n ε
       unfolding e
-      length_right = length_is K e y₀ x₀ nz₀ ynz₀ d₀ k enough₀ c l (gen_there c l S.gen) fits
+      length_right =
+          let enough₀ : e + e ≤ k = omega (arith, enough) in
+          length_is K e y₀ x₀ nz₀ ynz₀ d₀ k enough₀ c l (gen_there c l S.gen) fits
 
       -- each wrong place is a root
       pub found_wrong : (p : ℕ) → p < n → ε p ≢ 𝟘 → chien c l x p ≡ 𝟘
       unfolding e x₀ L
       found_wrong p h ne =
+          let enough₀ : e + e ≤ k = omega (arith, enough) in
           let r = L.all p h ne in
           ap (chien c l x) (sym r.2) ∙ all_roots K e y₀ x₀ nz₀ ynz₀ d₀ k enough₀ c l (gen_there c l S.gen) fits r.0 r.1
 
@@ -270,6 +269,7 @@ module _ {F : Type 0} (K : Field F) where
       pub found_right : (p : ℕ) → p < n → chien c l x p ≡ 𝟘 → ε p ≢ 𝟘
       unfolding e x₀ L
       found_right p h r z =
+          let enough₀ : e + e ≤ k = omega (arith, enough) in
           only_roots K e y₀ x₀ nz₀ ynz₀ d₀ k enough₀ c l (gen_there c l S.gen) fits (K.inv (x p)) r
           (λ i g d. L.wrong i g
           (ap ε (sym (same_place p (L.place i) h (L.inside i g) (inv_inj K (x p) (x (L.place i)) (x-nz p h) (x-nz (L.place i) (L.inside i g)) d))) ∙ z))

@@ -4,7 +4,8 @@ use Rattle.std.proofs.Common.{sym, ap₂, ◌∙◌, subst, arith}
 use Rattle.std.proofs.Math.Logic.{ite, if_pos, if_neg}
 use Rattle.std.proofs.Math.Decide.{ℕ_discrete, dec_le}
 use Rattle.algebra.specs.Register.{Shortest}
-use Rattle.algebra.specs.Unique.{same_length, only_register}
+use Rattle.algebra.specs.Unique.{same_length}
+use Rattle.algebra.proofs.OnlyRegister.{only_register}
 use Rattle.algebra.specs.Gf.{El}
 use Rattle.gf16.specs.Field16.{gf16, R16}
 use Rattle.bch.specs.Decode.{syndrome, flipped, flips, answer_by, left_by, Located, register}

@@ -8,7 +8,8 @@ use Rattle.algebra.specs.Series.{pow}
 use Rattle.algebra.specs.Roots.{Distinct}
 use Rattle.algebra.specs.Register.{Shortest}
 use Rattle.algebra.specs.Errors.{weight, Syndromes}
-use Rattle.algebra.specs.Corrects.{Found, found, found_count}
+use Rattle.algebra.specs.Corrects.{Found, found_count}
+use Rattle.algebra.proofs.Found.{found}
 use Rattle.algebra.specs.Gf.{El}
 use Rattle.gf16.specs.Field16.{gf16, R16, α, value_at}
 use Rattle.gf16.specs.Alpha.{α_nz, α_apart}
