@@ -1,8 +1,5 @@
-use Prim.Native.Nat.{◌-◌, ◌≤◌}
 use native.Mathlib.Omega.{arith}
-use borrow.Author.Rules.{rules}
-use lib.ListN.{length}
-use Rattle.decoder_order.specs.Order.{FirstStored, stored_start, stored_again, stored_end}
+use Rattle.decoder_order.specs.Order.{stored_start, stored_again, stored_end}
 use Rattle.decoder.proofs.clear_numbers.Goals as goal
 
 pub loop-k-init : goal.loop-k-init

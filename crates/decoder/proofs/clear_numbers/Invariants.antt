@@ -1,10 +1,8 @@
 -- `decoder::clear_numbers` meets its contract. The loop's invariant: the places below k are 0.
 -- Assumes nothing.
 use Prim.Native.Nat.{◌-◌, ◌≤◌}
-use native.Mathlib.Omega.{arith}
-use borrow.Author.Rules.{rules}
 use lib.ListN.{length}
-use Rattle.decoder_order.specs.Order.{FirstStored, stored_start, stored_again, stored_end}
+use Rattle.decoder_order.specs.Order.{FirstStored}
 use Rattle.decoder.proofs.clear_numbers.Given as goal
 
 abbrev pub invariant-loop-k : goal.invariant-loop-k

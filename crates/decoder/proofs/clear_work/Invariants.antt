@@ -1,11 +1,9 @@
 -- `decoder::clear_work` meets its contract. The loop's invariant: the places below k are 0.
 -- Assumes nothing.
 use Prim.Native.Nat.{◌-◌, ◌≤◌}
-use native.Mathlib.Omega.{arith}
-use borrow.Author.Rules.{rules}
 use lib.IntN.{pos}
 use lib.ListN.{length}
-use Rattle.decoder_order.specs.Order.{FirstStored, stored_start, stored_again, stored_end}
+use Rattle.decoder_order.specs.Order.{FirstStored}
 use Rattle.decoder.proofs.clear_work.Given as goal
 
 abbrev pub invariant-loop-k : goal.invariant-loop-k

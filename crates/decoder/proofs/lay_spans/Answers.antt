@@ -1,7 +1,6 @@
 -- `decoder::lay_spans` meets its contract: by the schedule.
 -- Assumes nothing.
 use mathlib.Core.Path.{sym, ◌∙◌, subst}
-use borrow.Author.Rules.{rules}
 use lib.Dec.{T}
 use Rattle.decoder.proofs.lay_spans.Goals as goal
 

@@ -3,8 +3,7 @@
 use native.Mathlib.Omega.{arith}
 use lib.ListN.{get_or-replicate}
 use Rattle.decoder_lanes.specs.Lane.{memory_of, counts_none}
-use borrow.Author.Tests.{not-true, not-false}
-use Rattle.decoder_lanes.specs.Lane.{memory_of, counts_asked, counts_none}
+use Rattle.decoder_lanes.specs.Lane.{memory_of, counts_none}
 use Rattle.decoder_lanes.proofs.counts.Goals as goal
 
 pub returns-then-not-asked : goal.returns-then-not-asked

@@ -7,9 +7,7 @@ use Rattle.decoder_words.specs.Part.{word_ends, own, middle}
 use Rattle.decoder_words.specs.Given.{all_le}
 use Rattle.decoder_lanes.specs.Lane.{rows_fit, messages_fit}
 use Rattle.decoder_lanes.specs.Load.{loading_start, loading_skip, loading_load, loading_as, loading_end}
-use mathlib.Core.Logic.{⊎_elim}
-use borrow.Author.Rules.{rules}
-use Rattle.decoder_lanes.specs.Load.{Loading, loading_start, loading_skip, loading_load, loading_as, loading_end}
+use Rattle.decoder_lanes.specs.Load.{loading_start, loading_skip, loading_load, loading_as, loading_end}
 use Rattle.decoder_lanes.proofs.load.Goals as goal
 use Rattle.decoder_lanes.proofs.load.Goals.{then-held-l-ne0+then-iters-l-eq0, then-held-l-ne0+else-iters-l-eq0, else-held-l-ne0}
 

@@ -11,7 +11,6 @@ use Rattle.decoder_words.specs.Book.{seen}
 use Rattle.decoder_words.specs.Part.{word_ends, middle, back, written_view, written_only}
 use Rattle.decoder_words.specs.Given.{all_le}
 use Rattle.decoder_lanes.specs.Lane.{rows_fit, lane_bits}
-use borrow.Author.Rules.{rules}
 use Rattle.decoder_lanes.proofs.write.Goals as goal
 
 pub overflow_mul-a : goal.overflow_mul-a

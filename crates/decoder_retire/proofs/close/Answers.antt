@@ -1,7 +1,6 @@
 -- `decoder_retire::close` meets its contract: what is counted is asked for if a word is held.
 -- Assumes nothing.
 use Rattle.decoder_retire.specs.Counts.{counted_held}
-use borrow.Author.Rules.{rules}
 use Rattle.decoder_retire.proofs.close.Goals as goal
 
 pub some_held-asked-requires : goal.some_held-asked-requires

@@ -6,7 +6,6 @@ use lib.ListN.{get_or}
 use Rattle.schedule.specs.Lanes.{any_of}
 use Rattle.schedule.proofs.Lanes.{any_start, any_again}
 use Rattle.decoder_retire.specs.Counts.{due_at}
-use Prim.Native.Nat.{◌-◌, ◌≤◌}
 use Rattle.decoder_retire.proofs.due.Goals as goal
 
 pub loop-l-init : goal.loop-l-init

@@ -3,7 +3,6 @@
 use mathlib.Core.Bool.{false}
 use lib.ListN.{get_or}
 use Rattle.decoder_retire.specs.Counts.{tallied}
-use borrow.Author.Rules.{rules}
 use Rattle.decoder_retire.proofs.retire.Goals as goal
 
 pub due-asked-requires : goal.due-asked-requires

@@ -3,7 +3,6 @@ use native.Mathlib.Omega.{arith}
 use mathlib.Core.Path.{◌≡◌, refl, ap, ◌∙◌}
 use Rattle.schedule.specs.Lanes.{held_at, any_held}
 use Rattle.schedule.proofs.Lanes.{any_start, any_again}
-use Prim.Native.Nat.{◌-◌, ◌≤◌}
 use Rattle.decoder_retire.proofs.some_held.Goals as goal
 
 pub loop-l-init : goal.loop-l-init

@@ -14,11 +14,9 @@ use Rattle.decoder_words.specs.Finish.{ended}
 use Rattle.decoder_words.specs.declared.Noted.{Noted}
 use Rattle.decoder_lanes.specs.Lane.{lane_word}
 use Rattle.decoder_retire.specs.Retire.{leaves_start, leaves_skip, leaves_stay, leaves_leave, leaves_as, leaves_end}
-use mathlib.Core.Logic.{⊎_elim, ◌≢◌}
-use Prim.Native.Nat.{ℕ, ◌+◌, ◌-◌, ◌<◌, ◌≤◌}
-use borrow.Author.Rules.{rules}
-use Rattle.decoder_words.specs.Written.{room_on}
-use Rattle.decoder_retire.specs.Retire.{Leaves, leaves_start, leaves_skip, leaves_stay, leaves_leave, leaves_as, leaves_end}
+use mathlib.Core.Logic.{◌≢◌}
+use Prim.Native.Nat.{ℕ, ◌+◌, ◌<◌}
+use Rattle.decoder_retire.specs.Retire.{leaves_start, leaves_skip, leaves_stay, leaves_leave, leaves_as, leaves_end}
 use Rattle.decoder_retire.proofs.turns.Goals as goal
 use Rattle.decoder_retire.proofs.turns.Goals.{then-h-ne0+then-over, then-h-ne0+else-over, else-h-ne0}
 

@@ -9,11 +9,8 @@ use Rattle.decoder_words.specs.Finish.{holding_so}
 use Rattle.decoder_words.specs.declared.Noted.{Noted}
 use Rattle.decoder_lanes.specs.Lane.{lane_word}
 use Rattle.decoder_retire.specs.Close.{closes_start, closes_skip, closes_write, closes_as, closes_to}
-use mathlib.Core.Logic.{⊎_elim}
-use Prim.Native.Nat.{◌-◌, ◌<◌, ◌≤◌}
-use borrow.Author.Rules.{rules}
-use Rattle.decoder_words.specs.Given.{code_by}
-use Rattle.decoder_retire.specs.Close.{Closes, closes_start, closes_skip, closes_write, closes_as, closes_to}
+use Prim.Native.Nat.{◌-◌, ◌<◌}
+use Rattle.decoder_retire.specs.Close.{closes_start, closes_skip, closes_write, closes_as, closes_to}
 use Rattle.decoder_retire.proofs.write_held.Goals as goal
 use Rattle.decoder_retire.proofs.write_held.Goals.{then-h-ne0, else-h-ne0}
 

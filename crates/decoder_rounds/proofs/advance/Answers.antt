@@ -1,12 +1,9 @@
 -- `decoder_rounds::advance` meets its contract: every lane's word has its iteration, each verdict is its own word's, and the lanes have their turns.
 -- Assumes nothing.
-use mathlib.Core.Path.{sym, ◌∙◌, subst}
-use Prim.Native.Nat.{ℕ, ◌*◌, ◌≤◌, ◌<◌}
+use Prim.Native.Nat.{ℕ, ◌*◌, ◌≤◌}
 use native.Mathlib.Omega.{arith}
-use Rattle.laws.specs.Signed.{plain}
-use borrow.Author.Rules.{rules, sfits_of}
-use Rattle.decoder_lanes.specs.Lane.{memory_of, working_to}
-use Rattle.decoder_rounds.specs.Rounds.{judged, turned_so}
+use Rattle.decoder_lanes.specs.Lane.{working_to}
+use Rattle.decoder_rounds.specs.Rounds.{judged}
 use Rattle.decoder_rounds.proofs.advance.Goals as goal
 
 -- the sums that the layered iteration keeps

@@ -1,10 +1,7 @@
 -- `decoder_rounds::complete` meets its contract: the rounds, then the words still held; so memory says of each word what its status says.
 -- Assumes nothing.
-use native.Mathlib.Omega.{arith}
-use borrow.Author.Rules.{rules}
 use Rattle.decoder_words.specs.Book.{book}
-use Rattle.decoder_words.specs.Written.{Same, same_on, room_on}
-use Rattle.decoder_lanes.specs.Lane.{working_to}
+use Rattle.decoder_words.specs.Written.{Same, same_on}
 use Rattle.decoder_rounds.specs.Rounds.{finishes}
 use Rattle.decoder_rounds.proofs.complete.Goals as goal
 

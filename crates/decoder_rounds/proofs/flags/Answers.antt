@@ -1,8 +1,6 @@
 use mathlib.Core.Path.{refl}
-use Prim.Native.Nat.{◌-◌, ◌≤◌}
 use native.Mathlib.Omega.{arith}
-use borrow.Author.Rules.{rules}
-use Rattle.decoder_rounds.specs.Rounds.{Flagging, flagging_again}
+use Rattle.decoder_rounds.specs.Rounds.{flagging_again}
 use Rattle.decoder_rounds.proofs.flags.Goals as goal
 
 pub loop-l-init : goal.loop-l-init

@@ -1,10 +1,7 @@
 -- `decoder_rounds::flags` meets its contract. The loop's invariant: the lanes below l have their flags.
 -- Assumes nothing.
-use mathlib.Core.Path.{refl}
 use Prim.Native.Nat.{◌-◌, ◌≤◌}
-use native.Mathlib.Omega.{arith}
-use borrow.Author.Rules.{rules}
-use Rattle.decoder_rounds.specs.Rounds.{Flagging, flagging_again}
+use Rattle.decoder_rounds.specs.Rounds.{Flagging}
 use Rattle.decoder_rounds.proofs.flags.Given as goal
 
 abbrev pub invariant-loop-l : goal.invariant-loop-l

@@ -1,7 +1,5 @@
 -- `decoder_rounds::iterate` meets its contract, by the column laws of the two schedules.
 -- Assumes nothing.
-use native.Mathlib.Omega.{arith}
-use borrow.Author.Rules.{rules}
 use Rattle.laws.specs.Signed.{plain}
 use Rattle.decoder_rounds.specs.Iterate.{by_sequence, by_layers, layered_words}
 use Rattle.decoder_rounds.proofs.iterate.Goals as goal

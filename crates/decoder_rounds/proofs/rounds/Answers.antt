@@ -1,14 +1,13 @@
-use mathlib.Core.Path.{◌≡◌, refl, ◌∙◌}
-use mathlib.Core.Logic.{⊎_elim}
-use Prim.Native.Nat.{ℕ, ◌-◌, ◌<◌}
+use mathlib.Core.Path.{refl, ◌∙◌}
+use Prim.Native.Nat.{ℕ, ◌<◌}
 use native.Mathlib.Omega.{arith}
 use borrow.Author.Tests.{not-true, not-false}
-use lib.ListN.{length, length-replicate, get_or-replicate}
+use lib.ListN.{length-replicate, get_or-replicate}
 use Rattle.decoder_words.specs.Book.{book}
 use Rattle.decoder_words.specs.Written.{room_on}
 use Rattle.decoder_words.specs.Given.{code_by}
 use Rattle.decoder_lanes.specs.Lane.{lane_word, stored_to, working_to}
-use Rattle.decoder_rounds.specs.Rounds.{Goes, Pauses, goes_start, goes_order, assigned_sized, assigned_known, pauses_after, pauses_sized, pauses_readied, pauses_limit, comes_finished, comes_stopped, goes_round}
+use Rattle.decoder_rounds.specs.Rounds.{Pauses, goes_start, goes_order, assigned_sized, assigned_known, pauses_after, pauses_sized, pauses_readied, pauses_limit, comes_finished, comes_stopped, goes_round}
 use Rattle.decoder_words.specs.Run.{iterate_of}
 use Rattle.decoder_rounds.proofs.rounds.Goals as goal
 use Rattle.decoder_rounds.proofs.rounds.Goals.{then-not-at, else-not-at+then-rounds-plan}
