@@ -1,7 +1,6 @@
 -- A run on the memory: what its calls may count on.
 use Rattle.std.specs.Prelude.{◌≡◌, refl, List, ℕ, ◌+◌, ◌*◌, ◌≤◌, ◌<◌, get_or, length, ℤ}
 use Rattle.std.proofs.Common.{ap, arith, mul-le-mul_left, add-one}
-use Rattle.iteration.specs.Iteration.{degree}
 use Rattle.lane16.specs.Memory.{CheckMemory, Memory, memory_to}
 use Rattle.iteration.specs.ListsLaws.{degree_in, order}
 use Rattle.iteration.specs.Lists.{edges_in, code_in}

@@ -1,15 +1,13 @@
 use borrow.Author.Rules.{rules}
 use native.Mathlib.Omega.{arith}
-use mathlib.Core.Path.{◌≡◌, refl, sym, subst}
+use mathlib.Core.Path.{◌≡◌, refl, subst}
 use mathlib.Core.List.{List}
 use Prim.Native.Nat.{ℕ, ◌+◌, ◌<◌}
 use lib.ListN.{get_or}
 use mir.Syntax.{w8}
 use mir.Val.{to_z, of_z}
-use Rattle.laws.specs.Signed.{plain}
-use Rattle.lane16.specs.Memory.{CheckMemory, memory_to, check_memory}
 use Rattle.simd.specs.Words.{CheckNode}
-use Rattle.fixed.specs.Sequential.{turn_start, turn_again, turn_end}
+use Rattle.fixed.specs.Sequential.{turn_start, turn_again}
 use Rattle.iteration.specs.Once.{stepped}
 use Rattle.fixed.proofs.checks.Goals as goal
 

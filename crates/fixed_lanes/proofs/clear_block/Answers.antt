@@ -1,7 +1,5 @@
-use borrow.Author.Rules.{rules}
 use native.Mathlib.Omega.{arith}
-use mathlib.Core.Path.{refl}
-use Rattle.fixed_lanes.specs.Part.{block_start, block_again, block_end}
+use Rattle.fixed_lanes.specs.Part.{block_again}
 use Rattle.fixed_lanes.proofs.clear_block.Goals as goal
 
 pub loop-at-preserved : goal.loop-at-preserved

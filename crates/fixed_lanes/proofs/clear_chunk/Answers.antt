@@ -1,5 +1,4 @@
 -- `fixed_lanes::clear_chunk` meets its contract. Assumes nothing.
-use native.Mathlib.Omega.{arith}
 use mathlib.Core.Path.{sym}
 use Rattle.fixed_lanes.specs.Part.{part_kept}
 use Rattle.fixed_lanes.proofs.clear_chunk.Goals as goal

@@ -1,9 +1,6 @@
 use borrow.Author.Rules.{rules}
 use native.Mathlib.Omega.{arith}
 use mathlib.Core.Path.{refl, sym, ◌∙◌}
-use Prim.Native.Nat.{◌+◌, ◌*◌, ◌-◌, ◌≤◌}
-use lib.ListN.{length}
-use native.Mathlib.Nat.{mul-le-mul_right}
 use Rattle.fixed_lanes.specs.Clear.{clear_start, clear_end, clear_none}
 use Rattle.fixed_lanes.specs.Part.{clear_join}
 use Rattle.fixed_lanes.proofs.clear_messages.Goals as goal

@@ -1,11 +1,7 @@
 use borrow.Author.Rules.{rules}
 use native.Mathlib.Omega.{arith}
-use native.Mathlib.Nat.{mul-le-mul_right}
 use mathlib.Core.Path.{refl}
-use Prim.Native.Nat.{◌+◌, ◌*◌, ◌≤◌}
-use lib.ListN.{length}
-use Rattle.lane16.specs.ColumnLaws.{row_ends}
-use Rattle.fixed_lanes.specs.Part.{part_start, part_again, part_end}
+use Rattle.fixed_lanes.specs.Part.{part_start, part_again}
 use Rattle.fixed_lanes.proofs.clear_part.Goals as goal
 
 pub loop-k-init : goal.loop-k-init

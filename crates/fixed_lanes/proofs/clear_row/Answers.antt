@@ -1,10 +1,10 @@
 use borrow.Author.Rules.{rules}
 use native.Mathlib.Omega.{arith}
-use mathlib.Core.Path.{refl, ap, ◌∙◌}
+use mathlib.Core.Path.{ap, ◌∙◌}
 use mathlib.Core.Bool.{cond}
 use lib.IntN.{ℤ, pos}
 use Rattle.laws.specs.Signed.{plain}
-use Rattle.fixed_lanes.specs.Clear.{on, row_start, row_again, row_end}
+use Rattle.fixed_lanes.specs.Clear.{on, row_again}
 use Rattle.fixed_lanes.proofs.clear_row.Goals as goal
 
 pub loop-i-preserved : goal.loop-i-preserved

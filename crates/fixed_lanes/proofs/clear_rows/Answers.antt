@@ -1,10 +1,7 @@
 use borrow.Author.Rules.{rules}
 use native.Mathlib.Omega.{arith}
 use mathlib.Core.Path.{refl}
-use Prim.Native.Nat.{◌+◌, ◌*◌, ◌≤◌, ◌<◌}
-use native.Mathlib.Nat.{mul-le-mul_right}
-use Rattle.lane16.specs.ColumnLaws.{row_ends}
-use Rattle.fixed_lanes.specs.Clear.{clear_start, clear_again, clear_end}
+use Rattle.fixed_lanes.specs.Clear.{clear_start, clear_again}
 use Rattle.fixed_lanes.proofs.clear_rows.Goals as goal
 
 pub loop-k-init : goal.loop-k-init

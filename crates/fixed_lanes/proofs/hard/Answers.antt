@@ -6,8 +6,7 @@ use lib.IntN.{ℤ}
 use Rattle.iteration.specs.Iteration.{hard}
 use Rattle.lane16.specs.Column.{column}
 use Rattle.iteration.specs.CheckLaws.{within_at}
-use Rattle.fixed_lanes.specs.Place.{inside_rows}
-use Rattle.fixed_lanes.specs.Read.{deciding_start, deciding_again, deciding_end}
+use Rattle.fixed_lanes.specs.Read.{deciding_again, deciding_end}
 use Rattle.laws.specs.Signed.{plain}
 use Rattle.fixed_lanes.proofs.hard.Goals as goal
 

@@ -3,10 +3,8 @@ use native.Mathlib.Omega.{arith}
 use mathlib.Core.Path.{refl}
 use lib.ListN.{get_or}
 use lib.IntN.{pos}
-use borrow.Author.Rules.{sfits_of}
 use Rattle.laws.specs.Signed.{plain}
-use Rattle.fixed_lanes.specs.Place.{inside_rows}
-use Rattle.fixed_lanes.specs.Load.{load_start, load_again, load_end}
+use Rattle.fixed_lanes.specs.Load.{load_start, load_again}
 use Rattle.fixed_lanes.proofs.load.Goals as goal
 
 pub loop-u-init : goal.loop-u-init

@@ -1,7 +1,6 @@
-use mathlib.Core.Path.{◌≡◌, sym, ap, ◌∙◌}
+use mathlib.Core.Path.{sym}
 use borrow.Author.Rules.{rules}
-use native.Mathlib.Omega.{arith}
-use Rattle.fixed_lanes.specs.Clear.{some_fresh, none_start, none_again, some_at}
+use Rattle.fixed_lanes.specs.Clear.{none_start, none_again, some_at}
 use Rattle.fixed_lanes.proofs.some_fresh.Goals as goal
 
 pub loop-i-init : goal.loop-i-init

@@ -2,7 +2,7 @@ use borrow.Author.Rules.{rules}
 use native.Mathlib.Omega.{arith}
 use mathlib.Core.Path.{◌≡◌, ◌∙◌, subst}
 use mathlib.Core.Bool.{cond}
-use Prim.Native.Nat.{◌+◌, ◌-◌, ◌≤◌, ◌<◌}
+use Prim.Native.Nat.{◌+◌, ◌≤◌, ◌<◌}
 use lib.ListN.{length}
 use lib.IntN.{ℤ, nat_abs, ◌+ℤ◌, ◌-ℤ◌}
 use borrow.Author.Rules.{sfits_of}
@@ -13,7 +13,7 @@ use mir.ValLaws.{to_z-of_z}
 use Rattle.laws.specs.Signed.{plain}
 use Rattle.lane16.specs.Lanes.{int_at}
 use Rattle.fixed_layered.specs.Bounds.{abs_byte}
-use Rattle.fixed_layered.specs.Sums.{plus, EdgeGathered, Growing, edge_start, edge_again, edge_end, growing_start, growing_again, growing_end}
+use Rattle.fixed_layered.specs.Sums.{plus, edge_again, growing_again}
 use Rattle.lane16.specs.Column.{column}
 use Rattle.fixed_layered.proofs.gather.Goals as goal
 

@@ -1,11 +1,10 @@
 use native.Mathlib.Omega.{arith}
 use borrow.Author.Rules.{rules}
-use mathlib.Core.Path.{◌≡◌, refl}
-use Prim.Native.Nat.{◌+◌, ◌-◌, ◌≤◌}
+use mathlib.Core.Path.{refl}
+use Prim.Native.Nat.{◌+◌, ◌-◌}
 use lib.ListN.{length}
 use Rattle.iteration.specs.Lists.{var}
-use Rattle.fixed_layered.specs.RunMemory.{edge_room}
-use Rattle.fixed_layered.specs.Rows.{Gathers, sum_at, after, gathers_start, gathers_again, gathers_end}
+use Rattle.fixed_layered.specs.Rows.{sum_at, gathers_start, gathers_again}
 use Rattle.fixed_layered.proofs.gather_check.Goals as goal
 
 pub loop-k-init : goal.loop-k-init

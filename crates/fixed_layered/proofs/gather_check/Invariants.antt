@@ -1,12 +1,9 @@
 -- `fixed_layered::gather_check` meets its contract. Assumes nothing.
-use native.Mathlib.Omega.{arith}
-use borrow.Author.Rules.{rules}
-use mathlib.Core.Path.{◌≡◌, refl}
+use mathlib.Core.Path.{◌≡◌}
 use Prim.Native.Nat.{◌+◌, ◌-◌, ◌≤◌}
 use lib.ListN.{length}
 use Rattle.iteration.specs.Lists.{var}
-use Rattle.fixed_layered.specs.RunMemory.{edge_room}
-use Rattle.fixed_layered.specs.Rows.{Gathers, sum_at, after, gathers_start, gathers_again, gathers_end}
+use Rattle.fixed_layered.specs.Rows.{Gathers, sum_at, after}
 use Rattle.fixed_layered.proofs.gather_check.Given as goal
 
 abbrev pub invariant-loop-k : goal.invariant-loop-k

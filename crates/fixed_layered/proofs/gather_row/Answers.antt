@@ -6,12 +6,11 @@ use Prim.Native.Nat.{ℕ, ◌+◌, ◌-◌, ◌≤◌, ◌<◌}
 use lib.ListN.{length, get_or}
 use Rattle.lane16.specs.Column.{column}
 use Rattle.iteration.specs.Lists.{var, edges_in, code_in}
-use Rattle.iteration.specs.Full.{place_of}
 use Rattle.iteration.specs.Once.{stepped}
 use Rattle.fixed_layered.specs.Gather.{gather_at}
-use Rattle.fixed_layered.specs.RunMemory.{few_turns, place_first, place_next, place_room}
+use Rattle.fixed_layered.specs.RunMemory.{place_first, place_next, place_room}
 use Rattle.fixed_layered.specs.Layers.{RowPart, row_part}
-use Rattle.fixed_layered.specs.Rows.{Gathers, sum_at, run_sum, row_start, row_again, more}
+use Rattle.fixed_layered.specs.Rows.{Gathers, sum_at, row_start, row_again, more}
 use Rattle.fixed_layered.proofs.gather_row.Goals as goal
 
 pub loop-x-init : goal.loop-x-init

@@ -1,11 +1,9 @@
 -- `fixed_layered::gathered` meets its contract. Assumes nothing.
 use mathlib.Core.Path.{refl}
-use mathlib.Core.Bool.{Bool, cond}
 use lib.IntN.{◌+ℤ◌, ◌-ℤ◌}
 use mir.Syntax.{w32}
 use mir.ValLaws.{to_z-of_z}
-use Rattle.laws.specs.Signed.{plain}
-use Rattle.fixed_layered.specs.Bounds.{widen32, wide32, diff_fits32, sum_fits32, more_fits32}
+use Rattle.fixed_layered.specs.Bounds.{wide32, diff_fits32, more_fits32}
 use Rattle.fixed_layered.proofs.gathered.Goals as goal
 
 pub overflow_add-result : goal.overflow_add-result

@@ -1,12 +1,9 @@
 use native.Mathlib.Omega.{arith}
 use borrow.Author.Rules.{rules}
-use mathlib.Core.Path.{◌≡◌, refl}
-use Prim.Native.Nat.{◌-◌, ◌≤◌}
-use lib.ListN.{length}
+use mathlib.Core.Path.{refl}
 use mir.Syntax.{w8}
 use mir.Val.{to_z, of_z}
-use Rattle.laws.specs.Signed.{plain}
-use Rattle.fixed_layered.specs.Layers.{LayersMade, layers_start, layers_again, layers_end, in_layer_to}
+use Rattle.fixed_layered.specs.Layers.{layers_start, layers_again, in_layer_to}
 use Rattle.fixed_layered.proofs.layers.Goals as goal
 
 pub loop-l-init : goal.loop-l-init

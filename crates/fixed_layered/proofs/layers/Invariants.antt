@@ -1,13 +1,8 @@
 -- `fixed_layered::layers` meets its contract. Assumes nothing.
-use native.Mathlib.Omega.{arith}
-use borrow.Author.Rules.{rules}
-use mathlib.Core.Path.{◌≡◌, refl}
+use mathlib.Core.Path.{◌≡◌}
 use Prim.Native.Nat.{◌-◌, ◌≤◌}
 use lib.ListN.{length}
-use mir.Syntax.{w8}
-use mir.Val.{to_z, of_z}
-use Rattle.laws.specs.Signed.{plain}
-use Rattle.fixed_layered.specs.Layers.{LayersMade, layers_start, layers_again, layers_end, in_layer_to}
+use Rattle.fixed_layered.specs.Layers.{LayersMade}
 use Rattle.fixed_layered.proofs.layers.Given as goal
 
 abbrev pub invariant-loop-l : goal.invariant-loop-l

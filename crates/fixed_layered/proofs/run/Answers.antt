@@ -1,10 +1,7 @@
 -- `fixed_layered::run` meets its contract. Assumes nothing.
-use borrow.Author.Rules.{rules}
 use Prim.Native.Nat.{◌/◌}
 use borrow.Author.Tests.{not-true}
 use Rattle.laws.specs.Signed.{plain}
-use Rattle.iteration.specs.ListsLaws.{rows_part}
-use Rattle.fixed_layered.specs.RunMemory.{in_run_to}
 use Rattle.fixed_layered.specs.Layers.{run_offset}
 use Rattle.fixed_layered.specs.Checks.{turn_made, run_law}
 use Rattle.fixed_layered.proofs.run.Goals as goal

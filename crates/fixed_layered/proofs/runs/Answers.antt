@@ -1,13 +1,10 @@
 use native.Mathlib.Omega.{arith}
-use borrow.Author.Rules.{rules}
-use mathlib.Core.Path.{◌≡◌, refl}
-use Prim.Native.Nat.{◌+◌, ◌*◌, ◌-◌, ◌≤◌, ◌<◌}
-use native.Mathlib.Nat.{mul-le-mul_right, mul-le-mul_left}
-use lib.ListN.{length}
+use mathlib.Core.Path.{refl}
+use Prim.Native.Nat.{◌+◌, ◌≤◌}
 use mir.Syntax.{w8}
 use mir.Val.{to_z, of_z}
 use Rattle.laws.specs.Signed.{plain}
-use Rattle.fixed_layered.specs.Layers.{RunsMade, runs_start, runs_again, runs_end, in_layer_to, in_run_lem, shares_part}
+use Rattle.fixed_layered.specs.Layers.{runs_start, runs_again, runs_end, in_layer_to, in_run_lem, shares_part}
 use Rattle.fixed_layered.proofs.runs.Goals as goal
 
 pub loop-at-init : goal.loop-at-init

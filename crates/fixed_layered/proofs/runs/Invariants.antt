@@ -1,14 +1,8 @@
 -- `fixed_layered::runs` meets its contract. Assumes nothing.
-use native.Mathlib.Omega.{arith}
-use borrow.Author.Rules.{rules}
-use mathlib.Core.Path.{◌≡◌, refl}
-use Prim.Native.Nat.{◌+◌, ◌*◌, ◌-◌, ◌≤◌, ◌<◌}
-use native.Mathlib.Nat.{mul-le-mul_right, mul-le-mul_left}
+use mathlib.Core.Path.{◌≡◌}
+use Prim.Native.Nat.{◌+◌, ◌*◌, ◌-◌, ◌<◌}
 use lib.ListN.{length}
-use mir.Syntax.{w8}
-use mir.Val.{to_z, of_z}
-use Rattle.laws.specs.Signed.{plain}
-use Rattle.fixed_layered.specs.Layers.{RunsMade, runs_start, runs_again, runs_end, in_layer_to, in_run_lem, shares_part}
+use Rattle.fixed_layered.specs.Layers.{RunsMade}
 use Rattle.fixed_layered.proofs.runs.Given as goal
 
 abbrev pub invariant-loop-at : goal.invariant-loop-at

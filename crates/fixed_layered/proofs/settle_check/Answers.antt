@@ -1,12 +1,8 @@
 use native.Mathlib.Omega.{arith}
 use borrow.Author.Rules.{rules}
-use mathlib.Core.Path.{◌≡◌, refl}
-use Prim.Native.Nat.{◌+◌, ◌*◌, ◌-◌, ◌≤◌, ◌<◌}
-use native.Mathlib.Nat.{mul-le-mul_right}
-use lib.ListN.{length}
-use Rattle.lane16.specs.Memory.{row_room, value_row}
+use mathlib.Core.Path.{refl}
 use Rattle.iteration.specs.Lists.{var}
-use Rattle.fixed_layered.specs.Rows.{CheckSettled, settled_check_start, settled_check_again, settled_check_end}
+use Rattle.fixed_layered.specs.Rows.{settled_check_start, settled_check_again}
 use Rattle.fixed_layered.proofs.settle_check.Goals as goal
 
 pub loop-k-init : goal.loop-k-init

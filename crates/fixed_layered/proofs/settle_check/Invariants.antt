@@ -1,13 +1,9 @@
 -- `fixed_layered::settle_check` meets its contract. Assumes nothing.
-use native.Mathlib.Omega.{arith}
-use borrow.Author.Rules.{rules}
-use mathlib.Core.Path.{◌≡◌, refl}
-use Prim.Native.Nat.{◌+◌, ◌*◌, ◌-◌, ◌≤◌, ◌<◌}
-use native.Mathlib.Nat.{mul-le-mul_right}
+use mathlib.Core.Path.{◌≡◌}
+use Prim.Native.Nat.{◌-◌, ◌≤◌}
 use lib.ListN.{length}
-use Rattle.lane16.specs.Memory.{row_room, value_row}
 use Rattle.iteration.specs.Lists.{var}
-use Rattle.fixed_layered.specs.Rows.{CheckSettled, settled_check_start, settled_check_again, settled_check_end}
+use Rattle.fixed_layered.specs.Rows.{CheckSettled}
 use Rattle.fixed_layered.proofs.settle_check.Given as goal
 
 abbrev pub invariant-loop-k : goal.invariant-loop-k

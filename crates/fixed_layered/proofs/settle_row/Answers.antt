@@ -1,14 +1,14 @@
 use native.Mathlib.Omega.{arith}
 use borrow.Author.Rules.{rules}
-use mathlib.Core.Path.{◌≡◌, refl, ap, subst}
+use mathlib.Core.Path.{refl, ap, subst}
 use mathlib.Core.List.{List}
-use Prim.Native.Nat.{ℕ, ◌+◌, ◌-◌, ◌≤◌, ◌<◌}
+use Prim.Native.Nat.{ℕ, ◌+◌, ◌-◌}
 use lib.ListN.{length}
 use Rattle.iteration.specs.Lists.{var, edges_in, code_in}
 use Rattle.iteration.specs.Once.{stepped}
-use Rattle.fixed_layered.specs.RunMemory.{few_turns, in_run_to}
+use Rattle.fixed_layered.specs.RunMemory.{in_run_to}
 use Rattle.fixed_layered.specs.Layers.{RowPart, row_part}
-use Rattle.fixed_layered.specs.Rows.{CheckSettled, RowSettled, settled_row_start, settled_row_again, settled_row_end}
+use Rattle.fixed_layered.specs.Rows.{CheckSettled, settled_row_start, settled_row_again}
 use Rattle.fixed_layered.proofs.settle_row.Goals as goal
 
 pub loop-x-init : goal.loop-x-init

@@ -1,15 +1,10 @@
 -- `fixed_layered::settle_row` meets its contract. Assumes nothing.
-use native.Mathlib.Omega.{arith}
-use borrow.Author.Rules.{rules}
-use mathlib.Core.Path.{◌≡◌, refl, ap, subst}
-use mathlib.Core.List.{List}
-use Prim.Native.Nat.{ℕ, ◌+◌, ◌-◌, ◌≤◌, ◌<◌}
+use mathlib.Core.Path.{◌≡◌}
+use Prim.Native.Nat.{◌-◌, ◌≤◌}
 use lib.ListN.{length}
-use Rattle.iteration.specs.Lists.{var, edges_in, code_in}
+use Rattle.iteration.specs.Lists.{edges_in, code_in}
 use Rattle.iteration.specs.Once.{stepped}
-use Rattle.fixed_layered.specs.RunMemory.{few_turns, in_run_to}
-use Rattle.fixed_layered.specs.Layers.{RowPart, row_part}
-use Rattle.fixed_layered.specs.Rows.{CheckSettled, RowSettled, settled_row_start, settled_row_again, settled_row_end}
+use Rattle.fixed_layered.specs.Rows.{RowSettled}
 use Rattle.fixed_layered.proofs.settle_row.Given as goal
 
 abbrev pub invariant-loop-x : goal.invariant-loop-x

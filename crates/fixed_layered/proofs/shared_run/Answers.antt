@@ -2,7 +2,7 @@ use borrow.Author.Rules.{rules}
 use native.Mathlib.Omega.{arith}
 use mathlib.Core.Path.{◌≡◌, refl, sym, ap, subst}
 use mathlib.Core.List.{List}
-use Prim.Native.Nat.{ℕ, ◌+◌, ◌-◌, ◌≤◌, ◌<◌}
+use Prim.Native.Nat.{ℕ, ◌+◌, ◌≤◌, ◌<◌}
 use lib.ListN.{length, get_or}
 use mir.Syntax.{w8}
 use mir.Val.{to_z, of_z}
@@ -10,10 +10,9 @@ use Rattle.laws.specs.Signed.{plain}
 use Rattle.lane16.specs.Memory.{CheckMemory, check_memory, memory_to}
 use Rattle.iteration.specs.Once.{shared_in, stepped}
 use Rattle.simd_layered.specs.Checked.{Checked}
-use Rattle.iteration.specs.Lists.{code_in, edges_in}
-use Rattle.iteration.specs.Full.{place_of}
-use Rattle.fixed_layered.specs.RunMemory.{few_turns, place_first, place_next, place_room}
-use Rattle.fixed_layered.specs.Checks.{ChecksMade, checks_start, checks_again, checks_end}
+use Rattle.iteration.specs.Lists.{edges_in}
+use Rattle.fixed_layered.specs.RunMemory.{place_first, place_next, place_room}
+use Rattle.fixed_layered.specs.Checks.{checks_start, checks_again, checks_end}
 use Rattle.fixed_layered.proofs.shared_run.Goals as goal
 
 pub loop-x-init : goal.loop-x-init

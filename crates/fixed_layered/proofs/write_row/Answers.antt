@@ -1,14 +1,12 @@
 -- `fixed_layered::write_row` meets its contract. Assumes nothing.
 use native.Mathlib.Omega.{arith}
-use borrow.Author.Rules.{rules}
-use mathlib.Core.Path.{◌≡◌, refl, sym, ◌∙◌}
+use mathlib.Core.Path.{◌≡◌, sym, ◌∙◌}
 use mathlib.Core.Bool.{true, false, true≢false}
-use borrow.Author.Tests.{not-true, not-false}
-use Prim.Native.Nat.{◌+◌, ◌*◌, ◌≤◌, ◌<◌}
-use lib.ListN.{get_or, length, length-replicate}
+use Prim.Native.Nat.{◌*◌}
+use lib.ListN.{get_or, length-replicate}
 use Rattle.iteration.specs.Lists.{code_in}
 use Rattle.iteration.specs.Once.{stepped}
-use Rattle.fixed_conflicts.specs.Table.{spans_length, zeros}
+use Rattle.fixed_conflicts.specs.Table.{zeros}
 use Rattle.fixed_layered.specs.Rows.{Grouped, row_written}
 use Rattle.fixed_layered.specs.Layers.{grouped}
 use Rattle.fixed_layered.proofs.write_row.Goals as goal

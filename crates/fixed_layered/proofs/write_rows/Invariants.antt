@@ -1,13 +1,10 @@
 -- `fixed_layered::write_rows` meets its contract. Assumes nothing.
-use native.Mathlib.Omega.{arith}
-use borrow.Author.Rules.{rules}
-use mathlib.Core.Path.{◌≡◌, refl}
+use mathlib.Core.Path.{◌≡◌}
 use Prim.Native.Nat.{◌-◌, ◌≤◌}
 use lib.ListN.{length}
 use Rattle.iteration.specs.Lists.{edges_in, code_in}
 use Rattle.iteration.specs.Once.{stepped}
-use Rattle.fixed_layered.specs.RunMemory.{in_run_to}
-use Rattle.fixed_layered.specs.Rows.{Written, written_start, written_again, written_end}
+use Rattle.fixed_layered.specs.Rows.{Written}
 use Rattle.fixed_layered.proofs.write_rows.Given as goal
 
 abbrev pub invariant-loop-g : goal.invariant-loop-g

@@ -1,13 +1,8 @@
 -- `fixed_syndrome::added` meets its contract. Assumes nothing.
-use borrow.Author.Rules.{rules}
-use native.Mathlib.Omega.{arith}
-use mathlib.Core.Path.{◌≡◌, refl}
-use mathlib.Core.Bool.{cond}
-use Prim.Native.Nat.{ℕ, ◌+◌, ◌-◌, ◌/◌, ◌%◌, ◌≤◌}
-use lib.Dec.{eqb}
-use lib.ListN.{length, length-set, get_or}
-use Rattle.laws.specs.Stores.{grown}
-use Rattle.fixed_syndrome.specs.Count.{BitsCounted, bits_counted_start}
+use mathlib.Core.Path.{◌≡◌}
+use Prim.Native.Nat.{◌-◌, ◌≤◌}
+use lib.ListN.{length}
+use Rattle.fixed_syndrome.specs.Count.{BitsCounted}
 use Rattle.fixed_syndrome.proofs.added.Given as goal
 
 abbrev pub invariant-loop-i : goal.invariant-loop-i

@@ -1,10 +1,6 @@
-use borrow.Author.Rules.{rules}
 use native.Mathlib.Omega.{arith}
-use mathlib.Core.Path.{◌≡◌, refl}
-use Prim.Native.Nat.{◌*◌, ◌-◌, ◌≤◌, ◌<◌}
-use lib.ListN.{length}
-use Rattle.iteration.specs.ListsLaws.{rows_part}
-use Rattle.fixed_syndrome.specs.Count.{CountingTo, to_start, to_again, counted_lanes}
+use Prim.Native.Nat.{◌<◌}
+use Rattle.fixed_syndrome.specs.Count.{to_again}
 use Rattle.fixed_syndrome.proofs.count_lanes.Goals as goal
 
 pub loop-j-preserved : goal.loop-j-preserved

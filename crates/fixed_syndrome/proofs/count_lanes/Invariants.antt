@@ -1,11 +1,8 @@
 -- `fixed_syndrome::count_lanes` meets its contract. Assumes nothing.
-use borrow.Author.Rules.{rules}
-use native.Mathlib.Omega.{arith}
-use mathlib.Core.Path.{◌≡◌, refl}
-use Prim.Native.Nat.{◌*◌, ◌-◌, ◌≤◌, ◌<◌}
+use mathlib.Core.Path.{◌≡◌}
+use Prim.Native.Nat.{◌*◌, ◌-◌, ◌≤◌}
 use lib.ListN.{length}
-use Rattle.iteration.specs.ListsLaws.{rows_part}
-use Rattle.fixed_syndrome.specs.Count.{CountingTo, to_start, to_again, counted_lanes}
+use Rattle.fixed_syndrome.specs.Count.{CountingTo}
 use Rattle.fixed_syndrome.proofs.count_lanes.Given as goal
 
 abbrev pub invariant-loop-j : goal.invariant-loop-j

@@ -1,9 +1,7 @@
 use borrow.Author.Rules.{rules}
 use native.Mathlib.Omega.{arith}
 use mathlib.Core.Path.{refl}
-use Prim.Native.Nat.{◌-◌, ◌≤◌}
-use lib.ListN.{get_or}
-use Rattle.fixed_syndrome.specs.Chunk.{ChunkWritten, written_start, written_again, written_end}
+use Rattle.fixed_syndrome.specs.Chunk.{written_again, written_end}
 use Rattle.fixed_syndrome.proofs.fill.Goals as goal
 
 pub loop-i-preserved : goal.loop-i-preserved

@@ -1,10 +1,7 @@
 -- `fixed_syndrome::fill` meets its contract. Assumes nothing.
-use borrow.Author.Rules.{rules}
-use native.Mathlib.Omega.{arith}
-use mathlib.Core.Path.{refl}
 use Prim.Native.Nat.{◌-◌, ◌≤◌}
 use lib.ListN.{get_or}
-use Rattle.fixed_syndrome.specs.Chunk.{ChunkWritten, written_start, written_again, written_end}
+use Rattle.fixed_syndrome.specs.Chunk.{ChunkWritten}
 use Rattle.fixed_syndrome.proofs.fill.Given as goal
 
 abbrev pub invariant-loop-i : goal.invariant-loop-i

@@ -1,12 +1,9 @@
 -- `fixed_syndrome::judge` meets its contract. Assumes nothing.
-use borrow.Author.Rules.{rules}
-use native.Mathlib.Omega.{arith}
-use mathlib.Core.Path.{refl}
 use mathlib.Core.Bool.{false}
 use Prim.Native.Nat.{◌-◌, ◌≤◌}
 use lib.Dec.{eqb}
 use lib.ListN.{get_or}
-use Rattle.fixed_syndrome.specs.Chunk.{ChunkWritten, written_start, written_again, written_end}
+use Rattle.fixed_syndrome.specs.Chunk.{ChunkWritten}
 use Rattle.fixed_syndrome.proofs.judge.Given as goal
 
 abbrev pub invariant-loop-i : goal.invariant-loop-i

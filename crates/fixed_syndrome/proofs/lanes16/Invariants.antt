@@ -1,10 +1,7 @@
 -- `fixed_syndrome::lanes16` meets its contract. Assumes nothing.
-use borrow.Author.Rules.{rules}
-use native.Mathlib.Omega.{arith}
-use mathlib.Core.Path.{◌≡◌, refl}
-use Prim.Native.Nat.{ℕ, ◌+◌, ◌-◌, ◌≤◌}
-use lib.ListN.{length, length-set, get_or}
-use Rattle.laws.specs.Stores.{grown}
+use mathlib.Core.Path.{◌≡◌}
+use Prim.Native.Nat.{◌-◌, ◌≤◌}
+use lib.ListN.{length}
 use Rattle.fixed_syndrome.specs.Met.{ChunkTaken}
 use Rattle.fixed_syndrome.proofs.lanes16.Given as goal
 

@@ -1,10 +1,7 @@
 -- `fixed_syndrome::larger` meets its contract. Assumes nothing.
-use borrow.Author.Rules.{rules}
-use native.Mathlib.Omega.{arith}
-use mathlib.Core.Path.{◌≡◌, refl}
-use Prim.Native.Nat.{ℕ, ◌-◌, ◌≤◌, max}
-use lib.ListN.{length, length-set, get_or}
-use Rattle.laws.specs.Stores.{grown}
+use mathlib.Core.Path.{◌≡◌}
+use Prim.Native.Nat.{◌-◌, ◌≤◌}
+use lib.ListN.{length}
 use Rattle.fixed_syndrome.specs.Met.{Larger}
 use Rattle.fixed_syndrome.proofs.larger.Given as goal
 

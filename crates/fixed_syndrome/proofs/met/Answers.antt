@@ -1,12 +1,11 @@
 use borrow.Author.Rules.{rules}
 use native.Mathlib.Omega.{arith}
-use mathlib.Core.Path.{◌≡◌, refl}
+use mathlib.Core.Path.{refl}
 use mathlib.Core.Bool.{false}
-use Prim.Native.Nat.{◌*◌, ◌-◌, ◌≤◌, ◌<◌}
-use lib.ListN.{length, get_or-replicate}
-use Rattle.iteration.specs.ListsLaws.{rows_part}
-use Rattle.fixed_syndrome.specs.Chunk.{ChunksFilled, filled_start, filled_again}
-use Rattle.fixed_syndrome.specs.Met.{VerdictIn, verdicts_in, met_end}
+use Prim.Native.Nat.{◌<◌}
+use lib.ListN.{get_or-replicate}
+use Rattle.fixed_syndrome.specs.Chunk.{filled_start, filled_again}
+use Rattle.fixed_syndrome.specs.Met.{VerdictIn, verdicts_in}
 use Rattle.fixed_syndrome.proofs.met.Goals as goal
 
 pub loop-j-init : goal.loop-j-init

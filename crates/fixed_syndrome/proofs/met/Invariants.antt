@@ -1,13 +1,10 @@
 -- `fixed_syndrome::met` meets its contract. Assumes nothing.
-use borrow.Author.Rules.{rules}
-use native.Mathlib.Omega.{arith}
-use mathlib.Core.Path.{◌≡◌, refl}
+use mathlib.Core.Path.{◌≡◌}
 use mathlib.Core.Bool.{false}
-use Prim.Native.Nat.{◌*◌, ◌-◌, ◌≤◌, ◌<◌}
-use lib.ListN.{length, get_or-replicate}
-use Rattle.iteration.specs.ListsLaws.{rows_part}
-use Rattle.fixed_syndrome.specs.Chunk.{ChunksFilled, filled_start, filled_again}
-use Rattle.fixed_syndrome.specs.Met.{VerdictIn, verdicts_in, met_end}
+use Prim.Native.Nat.{◌*◌, ◌-◌, ◌≤◌}
+use lib.ListN.{length}
+use Rattle.fixed_syndrome.specs.Chunk.{ChunksFilled}
+use Rattle.fixed_syndrome.specs.Met.{VerdictIn}
 use Rattle.fixed_syndrome.proofs.met.Given as goal
 
 abbrev pub invariant-loop-j : goal.invariant-loop-j

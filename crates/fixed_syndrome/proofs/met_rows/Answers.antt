@@ -3,13 +3,12 @@ use native.Mathlib.Omega.{arith}
 use mathlib.Core.Bool.{not, and-eq-true_iff}
 use mathlib.Core.Path.{◌≡◌, sym, ◌∙◌, subst}
 use mathlib.Core.List.{List}
-use Prim.Native.Nat.{ℕ, ◌+◌, ◌-◌, ◌%◌, ◌≤◌}
+use Prim.Native.Nat.{ℕ, ◌+◌, ◌%◌}
 use lib.Dec.{eqb}
 use lib.ListN.{get_or}
-use Rattle.lane16.specs.Memory.{CheckMemory, check_memory}
 use Rattle.simd.specs.Words.{SignParity}
 use Rattle.fixed_syndrome.specs.Chunk.{least}
-use Rattle.fixed_syndrome.specs.Met.{Seen, seen_start, seen_again, seen_none, seen_end}
+use Rattle.fixed_syndrome.specs.Met.{Seen, seen_start, seen_again, seen_none}
 use Rattle.fixed_syndrome.proofs.met_rows.Goals as goal
 
 pub loop-c-init : goal.loop-c-init

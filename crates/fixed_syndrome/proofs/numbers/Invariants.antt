@@ -1,13 +1,8 @@
 -- `fixed_syndrome::numbers` meets its contract. Assumes nothing.
-use borrow.Author.Rules.{rules}
-use native.Mathlib.Omega.{arith}
-use mathlib.Core.Path.{◌≡◌, refl, ap, ◌∙◌}
-use mathlib.Core.Bool.{cond}
-use Prim.Native.Nat.{ℕ, ◌-◌, ◌≤◌}
-use lib.Dec.{ltb}
-use lib.ListN.{length, length-set}
-use Rattle.laws.specs.Stores.{grown}
-use Rattle.fixed_syndrome.specs.Count.{number, Numbers}
+use mathlib.Core.Path.{◌≡◌}
+use Prim.Native.Nat.{◌-◌, ◌≤◌}
+use lib.ListN.{length}
+use Rattle.fixed_syndrome.specs.Count.{Numbers}
 use Rattle.fixed_syndrome.proofs.numbers.Given as goal
 
 abbrev pub invariant-loop-i : goal.invariant-loop-i

@@ -1,8 +1,6 @@
 use borrow.Author.Rules.{rules}
-use native.Mathlib.Omega.{arith}
-use mathlib.Core.Path.{◌≡◌, ap, ◌∙◌}
-use Prim.Native.Nat.{◌-◌, ◌≤◌}
-use Rattle.fixed_syndrome.specs.Chunk.{least, least_start, least_again}
+use mathlib.Core.Path.{◌∙◌}
+use Rattle.fixed_syndrome.specs.Chunk.{least_start, least_again}
 use Rattle.fixed_syndrome.proofs.smallest.Goals as goal
 
 pub loop-i-init : goal.loop-i-init

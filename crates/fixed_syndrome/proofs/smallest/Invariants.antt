@@ -1,9 +1,7 @@
 -- `fixed_syndrome::smallest` meets its contract. Assumes nothing.
-use borrow.Author.Rules.{rules}
-use native.Mathlib.Omega.{arith}
-use mathlib.Core.Path.{◌≡◌, ap, ◌∙◌}
+use mathlib.Core.Path.{◌≡◌}
 use Prim.Native.Nat.{◌-◌, ◌≤◌}
-use Rattle.fixed_syndrome.specs.Chunk.{least, least_start, least_again}
+use Rattle.fixed_syndrome.specs.Chunk.{least}
 use Rattle.fixed_syndrome.proofs.smallest.Given as goal
 
 abbrev pub invariant-loop-i : goal.invariant-loop-i

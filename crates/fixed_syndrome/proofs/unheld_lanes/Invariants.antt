@@ -1,13 +1,7 @@
 -- `fixed_syndrome::unheld_lanes` meets its contract. Assumes nothing.
-use borrow.Author.Rules.{rules}
-use native.Mathlib.Omega.{arith}
-use mathlib.Core.Path.{◌≡◌, refl}
-use mathlib.Core.Bool.{◌&&◌}
-use Prim.Native.Nat.{ℕ, ◌-◌, ◌≤◌}
-use lib.Dec.{eqb, ltb}
-use lib.ListN.{length, length-set}
-use Rattle.laws.specs.Stores.{grown}
-use Rattle.fixed_lanes.specs.Clear.{on}
+use mathlib.Core.Path.{◌≡◌}
+use Prim.Native.Nat.{◌-◌, ◌≤◌}
+use lib.ListN.{length}
 use Rattle.fixed_syndrome.specs.Met.{Unheld}
 use Rattle.fixed_syndrome.proofs.unheld_lanes.Given as goal
 

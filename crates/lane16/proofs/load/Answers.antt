@@ -1,10 +1,9 @@
 use borrow.Author.Rules.{rules}
 use native.Mathlib.Omega.{arith}
-use mathlib.Core.Path.{◌≡◌, refl, ◌∙◌}
+use mathlib.Core.Path.{◌≡◌, ◌∙◌}
 use Prim.Native.Nat.{ℕ, ◌+◌, ◌*◌}
 use lib.ListN.{get_or, length-set}
 use lib.IntN.{ℤ, pos}
-use borrow.Author.Rules.{sfits_of}
 use Rattle.laws.specs.Signed.{plain}
 use Rattle.laws.specs.Stores.{grown}
 use Rattle.lane16.specs.ColumnLaws.{column_at}

@@ -11,7 +11,7 @@ use Rattle.laws.specs.Signed.{plain}
 use Rattle.laws.specs.Definitions.{negative}
 use Rattle.iteration.specs.Value.{reduced, signed}
 use Rattle.lane_math.specs.Laws.{reduced_small}
-use Rattle.lane16.specs.Lanes.{int_at, nat_at, readied_to}
+use Rattle.lane16.specs.Lanes.{int_at, nat_at}
 use Rattle.laws.specs.Stores.{grown}
 use Rattle.lane16.proofs.prepare.Goals as goal
 

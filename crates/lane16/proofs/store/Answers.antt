@@ -1,12 +1,10 @@
 use borrow.Author.Rules.{rules}
 use native.Mathlib.Omega.{arith}
 use mathlib.Core.Path.{refl}
-use Prim.Native.Nat.{◌+◌, ◌*◌}
 use lib.ListN.{length-set}
-use borrow.Author.Rules.{sfits_of}
 use Rattle.laws.specs.Signed.{plain}
 use Rattle.lane16.specs.Lanes.{int_at}
-use Rattle.lane16.specs.ColumnLaws.{storing_start, storing_again, storing_end}
+use Rattle.lane16.specs.ColumnLaws.{storing_again, storing_end}
 use Rattle.lane16.proofs.store.Goals as goal
 
 pub loop-i-preserved : goal.loop-i-preserved

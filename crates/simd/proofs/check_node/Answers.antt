@@ -1,14 +1,8 @@
-use borrow.Author.Rules.{rules}
 use native.Mathlib.Omega.{arith}
-use mathlib.Core.Path.{refl, subst}
+use mathlib.Core.Path.{subst}
 use lib.IntN.{ℤ}
-use mir.Syntax.{w8}
-use mir.Val.{to_z, of_z}
 use Rattle.laws.specs.Signed.{plain}
-use Rattle.lane16.specs.ColumnLaws.{upto_start, upto_again, upto_end}
-use Rattle.lane16.specs.Memory.{check_memory_to}
-use Rattle.iteration.specs.Lists.{var}
-use Rattle.simd.specs.Pass.{check_column}
+use Rattle.lane16.specs.ColumnLaws.{upto_again, upto_end}
 use Rattle.simd.specs.Words.{CheckNode}
 use Rattle.simd.specs.WordsLaws.{check_node}
 use Rattle.simd.proofs.check_node.Goals as goal

@@ -2,9 +2,7 @@
 use native.Mathlib.Omega.{arith}
 use Rattle.laws.specs.Signed.{plain}
 use Rattle.lane16.specs.Lanes.{readied_to, reduced_all_small}
-use Rattle.lane16.specs.ColumnLaws.{part_offset}
-use Rattle.iteration.specs.Lists.{var}
-use Rattle.simd.specs.Pass.{check_column, chunk_is}
+use Rattle.simd.specs.Pass.{chunk_is}
 use Rattle.simd.proofs.chunk.Goals as goal
 
 pub reply_lanes-requires : goal.reply_lanes-requires

@@ -1,11 +1,8 @@
 use borrow.Author.Rules.{rules}
 use native.Mathlib.Omega.{arith}
 use mathlib.Core.Path.{refl}
-use Prim.Native.Nat.{◌+◌, ◌<◌}
-use lib.ListN.{length}
-use Rattle.lane16.specs.Memory.{row_room, value_row}
 use Rattle.iteration.specs.Lists.{var}
-use Rattle.simd.specs.Pass.{replied_start, replied_again, replied_end}
+use Rattle.simd.specs.Pass.{replied_start, replied_again}
 use Rattle.simd.proofs.reply.Goals as goal
 
 pub loop-k-init : goal.loop-k-init

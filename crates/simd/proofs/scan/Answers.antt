@@ -1,12 +1,10 @@
 use borrow.Author.Rules.{rules}
 use native.Mathlib.Omega.{arith}
 use mathlib.Core.Path.{refl}
-use Prim.Native.Nat.{◌+◌, ◌<◌}
-use lib.ListN.{length, get_or-replicate}
+use lib.ListN.{get_or-replicate}
 use lib.IntN.{pos}
-use Rattle.lane16.specs.Memory.{load_room, value_row}
 use Rattle.iteration.specs.Lists.{var}
-use Rattle.simd.specs.Pass.{scan_start, scan_again, scan_end}
+use Rattle.simd.specs.Pass.{scan_start, scan_again}
 use Rattle.simd.proofs.scan.Goals as goal
 
 pub loop-k-init : goal.loop-k-init

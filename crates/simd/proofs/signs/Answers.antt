@@ -1,11 +1,9 @@
 use borrow.Author.Rules.{rules}
 use native.Mathlib.Omega.{arith}
-use Prim.Native.Nat.{◌<◌}
 use lib.ListN.{get_or-replicate}
 use lib.IntN.{pos}
-use Rattle.lane16.specs.Memory.{load_room, value_row}
 use Rattle.iteration.specs.Lists.{var}
-use Rattle.simd.specs.Pass.{signs_start, signs_again, signs_end}
+use Rattle.simd.specs.Pass.{signs_start, signs_again}
 use Rattle.simd.proofs.signs.Goals as goal
 
 pub loop-k-init : goal.loop-k-init

@@ -1,12 +1,12 @@
 use borrow.Author.Rules.{rules}
 use native.Mathlib.Omega.{arith}
-use mathlib.Core.Path.{◌≡◌, refl}
-use Prim.Native.Nat.{◌+◌, ◌*◌, ◌-◌, ◌≤◌, ◌<◌}
+use mathlib.Core.Path.{refl}
+use Prim.Native.Nat.{◌+◌, ◌*◌, ◌≤◌, ◌<◌}
 use lib.ListN.{length}
-use Rattle.lane16.specs.Memory.{row_room, load_room, row_fits, value_row}
+use Rattle.lane16.specs.Memory.{row_room, row_fits, value_row}
 use Rattle.iteration.specs.Once.{shared_in}
 use Rattle.iteration.specs.Lists.{var}
-use Rattle.simd_layered.specs.Checked.{Sent, sent_start, sent_again, sent_end}
+use Rattle.simd_layered.specs.Checked.{sent_start, sent_again}
 use Rattle.simd_layered.proofs.answer.Goals as goal
 
 pub loop-k-init : goal.loop-k-init

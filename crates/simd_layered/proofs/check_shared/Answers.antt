@@ -1,17 +1,10 @@
-use borrow.Author.Rules.{rules}
 use native.Mathlib.Omega.{arith}
-use mathlib.Core.Path.{◌≡◌, refl, subst}
-use Prim.Native.Nat.{◌-◌, ◌≤◌}
-use lib.ListN.{length}
+use mathlib.Core.Path.{subst}
 use lib.IntN.{ℤ}
-use mir.Syntax.{w8}
-use mir.Val.{to_z, of_z}
 use Rattle.laws.specs.Signed.{plain}
-use Rattle.lane16.specs.ColumnLaws.{Upto, upto_start, upto_again, upto_end}
-use Rattle.lane16.specs.Memory.{check_memory_to}
+use Rattle.lane16.specs.ColumnLaws.{upto_again, upto_end}
 use Rattle.iteration.specs.Once.{shared_in}
-use Rattle.iteration.specs.Lists.{var}
-use Rattle.simd_layered.specs.Checked.{run_column, Checked, checked}
+use Rattle.simd_layered.specs.Checked.{Checked, checked}
 use Rattle.simd_layered.proofs.check_shared.Goals as goal
 
 pub loop-at-preserved : goal.loop-at-preserved

@@ -1,18 +1,11 @@
 -- `simd_layered::check_shared` meets its contract. Assumes nothing.
-use borrow.Author.Rules.{rules}
-use native.Mathlib.Omega.{arith}
-use mathlib.Core.Path.{◌≡◌, refl, subst}
+use mathlib.Core.Path.{◌≡◌}
 use Prim.Native.Nat.{◌-◌, ◌≤◌}
 use lib.ListN.{length}
-use lib.IntN.{ℤ}
-use mir.Syntax.{w8}
-use mir.Val.{to_z, of_z}
-use Rattle.laws.specs.Signed.{plain}
-use Rattle.lane16.specs.ColumnLaws.{Upto, upto_start, upto_again, upto_end}
-use Rattle.lane16.specs.Memory.{check_memory_to}
+use Rattle.lane16.specs.ColumnLaws.{Upto}
 use Rattle.iteration.specs.Once.{shared_in}
 use Rattle.iteration.specs.Lists.{var}
-use Rattle.simd_layered.specs.Checked.{run_column, Checked, checked}
+use Rattle.simd_layered.specs.Checked.{run_column}
 use Rattle.simd_layered.proofs.check_shared.Given as goal
 
 abbrev pub invariant-loop-at : goal.invariant-loop-at

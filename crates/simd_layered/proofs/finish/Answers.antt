@@ -1,5 +1,4 @@
 -- `simd_layered::finish` meets its contract. Assumes nothing.
-use borrow.Author.Rules.{rules}
 use Rattle.laws.specs.Signed.{plain}
 use Rattle.lane16.specs.Lanes.{readied_to, reduced_all_small}
 use Rattle.simd_layered.specs.Checked.{sent_is}

@@ -1,15 +1,9 @@
 -- `simd_layered::two_chunks` meets its contract. Assumes nothing.
-use native.Mathlib.Omega.{arith}
-use borrow.Author.Rules.{rules}
-use mathlib.Core.Path.{refl, sym}
-use Prim.Native.Nat.{◌+◌}
 use lib.ListN.{length}
 use Rattle.laws.specs.Signed.{plain}
 use Rattle.lane16.specs.ColumnLaws.{part_offset}
-use Rattle.lane16.specs.Memory.{check_memory_to, Width}
 use Rattle.iteration.specs.Once.{shared_in}
 use Rattle.iteration.specs.Lists.{var}
-use Rattle.simd.specs.Pass.{scan_to}
 use Rattle.simd_layered.specs.Checked.{run_column, two_parts}
 use Rattle.simd_layered.proofs.two_chunks.Goals as goal
 
