@@ -35,6 +35,8 @@ fn exported() -> Vec<(String, Vec<(String, String)>)> {
             .split(", ")
             .filter(|p| !p.is_empty())
             .map(|p| p.split_once(": ").expect("a name and a type"))
+            // `result` is a word of contracts, so the source says `res` where header and declarations say `result`
+            .map(|(name, kind)| (if name == "res" { "result" } else { name }, kind))
             .map(|(name, kind)| (name.to_string(), kind.to_string()));
         all.push((name.to_string(), pairs.collect()));
         rest = after;
@@ -105,7 +107,7 @@ fn list(parameters: &[(String, String)], one: fn(&str, &str) -> String) -> Strin
 fn the_source_exports_sixteen() {
     let names: Vec<String> = exported().into_iter().map(|(name, _)| name).collect();
     let marked = read("../../crates/raxdov/src/lib.rt")
-        .matches("#[no_mangle]")
+        .matches("#[unsafe(no_mangle)]")
         .count();
     assert_eq!((names.len(), marked), (16, 16), "{names:?}");
 }

@@ -1,4 +1,6 @@
 // Reads a text of the report's form from standard input and writes its report to standard output.
+#![tactic(auto)]
+
 ghost use Rattle.std.specs.Prelude.{◌≡◌, true, ◌≤◌, ◌<◌, pos, length, take};
 ghost use Rattle.std.specs.Int.Signed.{lt_z};
 ghost use Rattle.report_text.specs.Cut.{Answered};
