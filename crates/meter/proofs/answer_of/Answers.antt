@@ -1,6 +1,5 @@
 -- `meter::answer_of` meets its contract: the case by the refusal number and by what ended the run.
 -- Assumes nothing.
-use borrow.Author.Rules.{rules}
 use Rattle.meter.specs.Laws.{answer_refused}
 use Rattle.meter.proofs.answer_of.Goals as goal
 

@@ -1,5 +1,5 @@
 -- The core's run, its records written, its tally and its answer.
-use Rattle.meter.specs.Laws.{metered}
+use Rattle.meter.proofs.Metering.{metered}
 use Rattle.meter.proofs.run.Goals as goal
 
 pub returns : goal.returns

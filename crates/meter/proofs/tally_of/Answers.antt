@@ -1,7 +1,7 @@
 -- `meter::tally_of` meets its contract: counted afresh, or as it was.
 -- Assumes nothing.
 use mathlib.Core.Path.{sym}
-use Rattle.meter.specs.Laws.{counted_afresh, counted_refused}
+use Rattle.meter.proofs.Metering.{counted_afresh, counted_refused}
 use Rattle.meter.proofs.tally_of.Goals as goal
 
 pub returns-then-ran-eq0 : goal.returns-then-ran-eq0

@@ -1,8 +1,8 @@
 -- The record of word w, taken from the array of all records, stands at w.
-use Rattle.std.proofs.Common.{◌≡◌, ◌≤◌, ◌<◌, length, List, sym, ap, ◌∙◌, subst, arith}
+use Rattle.std.proofs.Common.{◌≡◌, ◌<◌, List, ap, ◌∙◌, arith}
 use lib.ListN.{get_or, set}
 use Rattle.meter.specs.declared.WordRecord.{WordRecord}
-use Rattle.meter.specs.Metered.{record_of, records_from}
+use Rattle.meter.specs.Metered.{record_of}
 use Rattle.meter.specs.Recording.{unwritten}
 use Rattle.meter.specs.Laws.{record_at_lem, records_again, length_unwritten}
 use Rattle.meter.proofs.write.Goals as goal
