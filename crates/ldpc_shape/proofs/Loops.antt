@@ -1,21 +1,17 @@
--- What each turn of the loops does, and which number each exit of `refusal` gives.
-use mathlib.Core.Path.{◌≡◌, refl, sym, ap, ◌∙◌, subst}
-use mathlib.Core.Bool.{Bool, true, false, cond, not, ◌||◌}
-use mathlib.Core.List.{List, [], ◌∷◌, ◌++◌}
-use Prim.Native.Nat.{ℕ, suc, ◌+◌, ◌-◌, ◌*◌, ◌/◌, ◌%◌, ◌≤◌, ◌<◌}
-use native.Mathlib.Omega.{arith}
-use native.Mathlib.Numerals.{add-one}
-use native.Mathlib.Decide.{ℕ_discrete}
-use borrow.Author.Tests.{eqb-true, eq-eqb, ne_eqb, ltb-false, not-false, lt-ltb, le-ltb, le-leb, lt-leb}
-use lib.Dec.{eqb, ltb, leb}
-use lib.ListN.{length, take, drop, get_or, set, replicate, length-take}
-use lib.Seq.{drop-cons, drop-length, get_or-set_other, take-suc, take-length}
+-- What each turn of the loops does, and which number each exit of `accept` gives.
+use Rattle.std.proofs.Common.{◌≡◌, refl, sym, ap, ap₂, ◌∙◌, subst, Bool, true, false, cond, not, ◌||◌, List, [], ◌∷◌, ◌++◌, ℕ, zero, suc, ◌+◌, ◌-◌, ◌*◌, ◌/◌, ◌%◌, ◌≤◌, ◌<◌, arith, add-one, eqb, ltb, leb, length, take, get_or, set, replicate, sum, length-take, eqb-true, ltb-false}
+use Rattle.std.proofs.Math.Decide.{ℕ_discrete}
+use Rattle.std.proofs.Math.Seq.{take-suc, take-length, get_or-set_other}
+use Rattle.std.specs.List.{list_any}
+use Rattle.std.proofs.lemmas.List.Sums.{sum_by-cons}
+use Rattle.std.proofs.lemmas.Bool.{eq-eqb, ne_eqb}
+use borrow.Author.Tests.{not-false, le-leb, lt-leb}
 use Rattle.laws.specs.Lists.{zeros_at}
 use Rattle.laws.specs.Choice.{or_left, or_right}
 use Rattle.laws.specs.Stores.{set_at}
 use Rattle.ldpc_shape.specs.Shape.{k_of, p_of, q_of, total, any_over, count_mod, counts_mod, bad_length, code_refusal}
-use Rattle.ldpc_shape.specs.Accepted.{total_drop, total_le}
-use Rattle.ldpc_shape.specs.Counts.{CountsBelow, CountsOf, tops, tops_counts}
+use Rattle.ldpc_shape.specs.Accepted.{total_le}
+use Rattle.ldpc_shape.specs.Counts.{CountsBelow, CountsOf}
 
 -- q as the groups of 374 that n has beside the rows
 q_beside : (n : ℕ) (lens : List ℕ) → n % 374 ≡ 0 → n / 374 - length lens ≡ q_of n lens
@@ -80,79 +76,62 @@ counted_end q addrs r i h g C =
     let e : i ≡ length addrs = omega arith in
     subst (λ (as' : List ℕ). CountsOf r q as') (ap (λ (z : ℕ). take z addrs) e ∙ take-length addrs) C
 
--- ---- a row that is too long
-pub over_hit : (m : ℕ) (lens : List ℕ) (i : ℕ) → i < length lens → m < get_or lens i 0 → any_over m lens ≡ any_over m (drop i lens) → true ≡ any_over m lens
+-- ---- numbers that are too large, and the sum of the lengths
+pub over_any : (m : ℕ) (xs : List ℕ) → any_over m xs ≡ list_any (λ x. ltb m x) xs
 unfolding any_over
-over_hit m lens i h g inv =
-    sym (inv ∙ ap (any_over m) (drop-cons lens i 0 h) ∙ ap (λ b. b || any_over m (drop (suc i) lens)) (lt-ltb m (get_or lens i 0) g))
+over_any m [] = refl
+over_any m (x ∷ xs) = ap (λ b. ltb m x || b) (over_any m xs)
 
-pub over_miss : (m : ℕ) (lens : List ℕ) (i : ℕ) → i < length lens → get_or lens i 0 ≤ m → any_over m lens ≡ any_over m (drop i lens) → any_over m lens ≡ any_over m (drop (i + 1) lens)
+over_append : (m : ℕ) (xs : List ℕ) (x : ℕ) → any_over m (xs ++ x ∷ []) ≡ (ltb m x || any_over m xs)
 unfolding any_over
-over_miss m lens i h g inv =
-    inv ∙ ap (any_over m) (drop-cons lens i 0 h) ∙ ap (λ b. b || any_over m (drop (suc i) lens)) (le-ltb m (get_or lens i 0) g)
-    ∙ ap (λ (z : ℕ). any_over m (drop z lens)) (sym (add-one i))
+over_append m [] x = refl
+over_append m (y ∷ xs) x = ap (λ b. ltb m y || b) (over_append m xs x) ∙ swap (ltb m y) (ltb m x) (any_over m xs)
+  where
+    swap : (a b c : Bool) → (a || (b || c)) ≡ (b || (a || c))
+    swap true true c = refl
+    swap true false c = refl
+    swap false true c = refl
+    swap false false c = refl
 
-pub over_end : (m : ℕ) (lens : List ℕ) (i : ℕ) → length lens ≤ i → i ≤ length lens → any_over m lens ≡ any_over m (drop i lens) → false ≡ any_over m lens
-unfolding any_over
-over_end m lens i h g inv =
-    let e : i ≡ length lens = omega arith in
-    sym (inv ∙ ap (λ (z : ℕ). any_over m (drop z lens)) e ∙ ap (any_over m) (drop-length lens))
+-- the first k counts, as the code has them
+pub over_counts : (m q : ℕ) (addrs r : List ℕ) → CountsBelow r q addrs → q ≤ length r → (k : ℕ) → k ≤ q → any_over m (take k r) ≡ any_over m (counts_mod q addrs k)
+unfolding any_over counts_mod
+over_counts m q addrs r C g zero h = refl
+over_counts m q addrs r C g (suc k) h =
+    ap (any_over m) (take-suc r k 0 (omega arith)) ∙ over_append m (take k r) (get_or r k 0)
+    ∙ ap₂ (λ (x : ℕ) b. ltb m x || b) (C k h) (over_counts m q addrs r C g k (omega arith))
 
--- ---- the sum of the lengths
-pub sum_again : (lens : List ℕ) (i s : ℕ) → i < length lens → s + total (drop i lens) ≡ total lens → s + get_or lens i 0 + total (drop (i + 1) lens) ≡ total lens
-sum_again lens i s h inv = omega (arith, total_drop lens i h)
-
-pub sum_end : (lens : List ℕ) (i s : ℕ) → length lens ≤ i → i ≤ length lens → s + total (drop i lens) ≡ total lens → s ≡ total lens
+pub total_sum : (xs : List ℕ) → total xs ≡ sum xs
 unfolding total
-sum_end lens i s h g inv =
-    let e : i ≡ length lens = omega arith in
-    let a = ap (λ (z : ℕ). total (drop z lens)) e ∙ ap total (drop-length lens) in
-    omega arith
-
-pub sum_room : (lens : List ℕ) (i s : ℕ) → i < length lens → length lens ≤ 119 → any_over 128 lens ≡ false → s + total (drop i lens) ≡ total lens → s + get_or lens i 0 ≤ 15360
-sum_room lens i s h g e inv = let a = sum_again lens i s h inv in let b = total_le 128 lens e in omega arith
+total_sum [] = refl
+total_sum (x ∷ xs) = ap (λ (s : ℕ). x + s) (total_sum xs) ∙ sym (sum_by-cons (λ (y : ℕ). y) x xs)
 
 pub sum_fits : (lens : List ℕ) → length lens ≤ 119 → any_over 128 lens ≡ false → total lens ≤ 15360
 sum_fits lens h e = let b = total_le 128 lens e in omega arith
 
--- ---- counts that are too large
-tops_next : (m : ℕ) (r : List ℕ) (i : ℕ) → 0 < i → any_over m (tops r i) ≡ (ltb m (get_or r (i - 1) 0) || any_over m (tops r (i - 1)))
-unfolding tops any_over
-tops_next m r i h = let e : i ≡ suc (i - 1) = omega arith in ap (λ (z : ℕ). any_over m (tops r z)) e
-
-pub tops_hit : (m : ℕ) (r : List ℕ) (q i : ℕ) → 0 < i → m < get_or r (i - 1) 0 → any_over m (tops r q) ≡ any_over m (tops r i) → true ≡ any_over m (tops r q)
-tops_hit m r q i h g inv = sym (inv ∙ tops_next m r i h ∙ ap (λ b. b || any_over m (tops r (i - 1))) (lt-ltb m (get_or r (i - 1) 0) g))
-
-pub tops_miss : (m : ℕ) (r : List ℕ) (q i : ℕ) → 0 < i → get_or r (i - 1) 0 ≤ m → any_over m (tops r q) ≡ any_over m (tops r i) → any_over m (tops r q) ≡ any_over m (tops r (i - 1))
-tops_miss m r q i h g inv = inv ∙ tops_next m r i h ∙ ap (λ b. b || any_over m (tops r (i - 1))) (le-ltb m (get_or r (i - 1) 0) g)
-
-pub tops_end : (m : ℕ) (r : List ℕ) (q i : ℕ) → i ≤ 0 → any_over m (tops r q) ≡ any_over m (tops r i) → false ≡ any_over m (tops r q)
-unfolding tops any_over
-tops_end m r q i h inv = let e : i ≡ 0 = omega arith in sym (inv ∙ ap (λ (z : ℕ). any_over m (tops r z)) e)
-
 -- ---- the number
-whole : (n : ℕ) → false ≡ bad_length n → n % 374 ≡ 0
+whole : (n : ℕ) → bad_length n ≡ false → n % 374 ≡ 0
 unfolding bad_length
-whole n ok = eqb-true (n % 374) 0 (not-false (eqb (n % 374) 0) (or_left _ _ (or_right (eqb n 0) _ (sym ok))))
+whole n ok = eqb-true (n % 374) 0 (not-false (eqb (n % 374) 0) (or_left _ _ (or_right (eqb n 0) _ ok)))
 
-pub small : (n : ℕ) → false ≡ bad_length n → n ≤ 44880
+pub small : (n : ℕ) → bad_length n ≡ false → n ≤ 44880
 unfolding bad_length
-small n ok = ltb-false 44880 n (or_right (not (eqb (n % 374) 0)) _ (or_right (eqb n 0) _ (sym ok)))
+small n ok = ltb-false 44880 n (or_right (not (eqb (n % 374) 0)) _ (or_right (eqb n 0) _ ok))
 
 module _ (n : ℕ) (lens addrs : List ℕ) where
-  pub refuse_length : true ≡ bad_length n → 2 ≡ code_refusal n lens addrs
+  pub refuse_length : bad_length n ≡ true → 2 ≡ code_refusal n lens addrs
   unfolding code_refusal
   refuse_length e =
-      ap (λ b. cond b 2 (cond (leb n (374 * length lens)) 3 (cond (any_over 128 lens) 4
-      (cond (not (eqb (total lens) (length addrs))) 5 (cond (any_over 126 (counts_mod (q_of n lens) addrs (q_of n lens))) 6 0))))) e
+      sym (ap (λ b. cond b 2 (cond (leb n (374 * length lens)) 3 (cond (any_over 128 lens) 4
+      (cond (not (eqb (total lens) (length addrs))) 5 (cond (any_over 126 (counts_mod (q_of n lens) addrs (q_of n lens))) 6 0))))) e)
 
-  module _ (ok : false ≡ bad_length n) where
+  module _ (ok : bad_length n ≡ false) where
     first : code_refusal n lens addrs ≡ cond (leb n (374 * length lens)) 3 (cond (any_over 128 lens) 4
         (cond (not (eqb (total lens) (length addrs))) 5 (cond (any_over 126 (counts_mod (q_of n lens) addrs (q_of n lens))) 6 0)))
     unfolding code_refusal
     first =
         ap (λ b. cond b 2 (cond (leb n (374 * length lens)) 3 (cond (any_over 128 lens) 4
-        (cond (not (eqb (total lens) (length addrs))) 5 (cond (any_over 126 (counts_mod (q_of n lens) addrs (q_of n lens))) 6 0))))) (sym ok)
+        (cond (not (eqb (total lens) (length addrs))) 5 (cond (any_over 126 (counts_mod (q_of n lens) addrs (q_of n lens))) 6 0))))) ok
 
     pub refuse_rows : n / 374 ≤ length lens → 3 ≡ code_refusal n lens addrs
     refuse_rows h = let a : n ≤ 374 * length lens = omega (arith, whole n ok) in sym (first ∙ simp (le-leb n (374 * length lens) a))
@@ -161,28 +140,22 @@ module _ (n : ℕ) (lens addrs : List ℕ) where
       fewer : 374 * length lens < n
       fewer = omega (arith, whole n ok)
 
-      pub refuse_over : true ≡ any_over 128 lens → 4 ≡ code_refusal n lens addrs
-      refuse_over e = sym (first ∙ simp (lt-leb n (374 * length lens) fewer, ← e))
+      pub refuse_over : any_over 128 lens ≡ true → 4 ≡ code_refusal n lens addrs
+      refuse_over e = sym (first ∙ simp (lt-leb n (374 * length lens) fewer, e))
 
-      module _ (short : false ≡ any_over 128 lens) where
+      module _ (short : any_over 128 lens ≡ false) where
         pub refuse_sum : (total lens ≡ length addrs → ⊥) → 5 ≡ code_refusal n lens addrs
-        refuse_sum e = sym (first ∙ simp (lt-leb n (374 * length lens) fewer, ← short, ne_eqb (total lens) (length addrs) e))
+        refuse_sum e = sym (first ∙ simp (lt-leb n (374 * length lens) fewer, short, ne_eqb (total lens) (length addrs) e))
 
-        module _ (adds : total lens ≡ length addrs) (q : ℕ) (r : List ℕ) (p : q ≡ n / 374 - length lens) (C : CountsBelow r q addrs) where
-          q_is : q ≡ q_of n lens
-          q_is = p ∙ q_beside n lens (whole n ok)
+        module _ (adds : total lens ≡ length addrs) (q : ℕ) (r : List ℕ) (p : q ≡ n / 374 - length lens) (C : CountsBelow r q addrs) (g : q ≤ length r) where
+          counts_over : any_over 126 (take q r) ≡ any_over 126 (counts_mod (q_of n lens) addrs (q_of n lens))
+          counts_over = over_counts 126 q addrs r C g q (omega arith) ∙ ap (λ (z : ℕ). any_over 126 (counts_mod z addrs z)) (p ∙ q_beside n lens (whole n ok))
 
-          counts_over : any_over 126 (tops r q) ≡ any_over 126 (counts_mod (q_of n lens) addrs (q_of n lens))
-          counts_over = ap (any_over 126) (tops_counts r q addrs C q (omega arith)) ∙ ap (λ (z : ℕ). any_over 126 (counts_mod z addrs z)) q_is
+          last : code_refusal n lens addrs ≡ cond (any_over 126 (take q r)) 6 0
+          last = let e = simp (lt-leb n (374 * length lens) fewer, short, eq-eqb (total lens) (length addrs) adds) at first in e ∙ ap (λ b. cond b 6 0) (sym counts_over)
 
-          middle : code_refusal n lens addrs ≡ cond (any_over 126 (counts_mod (q_of n lens) addrs (q_of n lens))) 6 0
-          middle = first ∙ simp (lt-leb n (374 * length lens) fewer, ← short, eq-eqb (total lens) (length addrs) adds)
+          pub refuse_many : any_over 126 (take q r) ≡ true → 6 ≡ code_refusal n lens addrs
+          refuse_many e = sym (last ∙ ap (λ b. cond b 6 0) e)
 
-          last : code_refusal n lens addrs ≡ cond (any_over 126 (tops r q)) 6 0
-          last = middle ∙ ap (λ b. cond b 6 0) (sym counts_over)
-
-          pub refuse_many : true ≡ any_over 126 (tops r q) → 6 ≡ code_refusal n lens addrs
-          refuse_many e = sym (last ∙ ap (λ b. cond b 6 0) (sym e))
-
-          pub refuse_none : false ≡ any_over 126 (tops r q) → 0 ≡ code_refusal n lens addrs
-          refuse_none e = sym (last ∙ ap (λ b. cond b 6 0) (sym e))
+          pub refuse_none : any_over 126 (take q r) ≡ false → code_refusal n lens addrs ≡ 0
+          refuse_none e = last ∙ ap (λ b. cond b 6 0) e

@@ -1,9 +1,12 @@
 // The shape of a code, lent as n, the rows' lengths and their addresses, and the refusals 2 to 6.
 #![tactic(auto)]
 
-ghost use Rattle.std.specs.Prelude.{◌≡◌, false, ◌%◌, ◌<◌, ◌≤◌, length};
+ghost use Rattle.std.specs.Prelude.{◌≡◌, false, ◌%◌, ◌<◌, ◌≤◌, length, IfOk};
+ghost use Rattle.refusal.specs.Number.{number_of};
 ghost use Rattle.ldpc_shape.specs.Shape.{sizes_of, total, any_over, bad_length, code_refusal};
-ghost use Rattle.ldpc_shape.specs.Counts.{CountsOf, tops};
+ghost use Rattle.ldpc_shape.specs.Counts.{CountsOf};
+
+use refusal::Refusal;
 
 // The bits of a row, and the checks of each residue modulo q.
 pub const GROUP: usize = 374;
@@ -14,7 +17,7 @@ pub const GROUP_U32: u32 = GROUP as u32;
 pub const MAX_Q: usize = 120;
 
 // The numbers of a code: its length, information bits, checks, P / 374 and edges.
-#[derive(Clone, Copy)]
+#[derive(Clone, Copy, Debug, PartialEq, Eq)]
 pub struct Sizes {
     pub n: usize,
     pub k: usize,
@@ -41,27 +44,14 @@ pub fn residue(a: u16, q: u32) -> usize
 fn bad_length(n: u32) -> bool
     ensures { result ≡ bad_length n }
 {
-    if n == 0 {
-        return true;
-    }
-    if n % GROUP_U32 != 0 {
-        return true;
-    }
-    44880 < n
+    n == 0 || n % GROUP_U32 != 0 || 44880 < n
 }
 
-// Whether a row has more than 128 addresses.
-fn any_long(lens: &[u32]) -> bool
-    ensures { result ≡ any_over 128 lens.now }
+// Whether one of the numbers is above the limit.
+fn any_over(limit: u32, xs: &[u32]) -> bool
+    ensures { result ≡ any_over limit xs.now }
 {
-    let mut i: usize = 0;
-    while i < lens.len() {
-        if 128 < lens[i] {
-            return true;
-        }
-        i += 1;
-    }
-    false
+    xs.iter().any(|&x| limit < x)
 }
 
 // What the row lengths add up to.
@@ -69,13 +59,7 @@ fn sum_of(lens: &[u32]) -> usize
     requires { (length lens.now ≤ 119) × (any_over 128 lens.now ≡ false) }
     ensures { result ≡ total lens.now }
 {
-    let mut s: usize = 0;
-    let mut i: usize = 0;
-    while i < lens.len() {
-        s = s + wide(lens[i]);
-        i += 1;
-    }
-    s
+    lens.iter().map(|&l| l as usize).sum()
 }
 
 // How many addresses are l modulo q, for each l below q; zeros from q on.
@@ -84,52 +68,45 @@ pub fn counts(addrs: &[u16], q: u32) -> [u32; MAX_Q]
     ensures { CountsOf result q addrs.now }
 {
     let mut r = [0u32; MAX_Q];
-    let mut i: usize = 0;
-    while i < addrs.len() {
-        let l = residue(addrs[i], q);
-        r[l] = r[l] + 1;
-        i += 1;
+    for &a in addrs {
+        r[residue(a, q)] += 1;
     }
     r
 }
 
-// Whether one of the first q counts is above 126.
-fn any_many(counts: &[u32; MAX_Q], q: u32) -> bool
-    requires { q ≤ 120 }
-    ensures { result ≡ any_over 126 (tops counts.now q) }
+// The numbers of a code, or the first of the refusals 2 to 6 that applies.
+pub fn accept(n: u32, lens: &[u32], addrs: &[u16]) -> Result<Sizes, Refusal>
+    ensures number { number_of result ≡ code_refusal n lens.now addrs.now }
+    ensures sizes { IfOk result (λ s. s ≡ sizes_of n lens.now addrs.now) }
 {
-    let mut l = wide(q);
-    while 0 < l {
-        l -= 1;
-        if 126 < counts[l] {
-            return true;
-        }
+    if bad_length(n) {
+        return Err(Refusal::N);
     }
-    false
+    if (n / GROUP_U32) as usize <= lens.len() {
+        return Err(Refusal::Rows);
+    }
+    if any_over(128, lens) {
+        return Err(Refusal::RowLength);
+    }
+    if sum_of(lens) != addrs.len() {
+        return Err(Refusal::Addresses);
+    }
+    let q = n / GROUP_U32 - lens.len() as u32;
+    let r = counts(addrs, q);
+    if any_over(126, &r[..q as usize]) {
+        return Err(Refusal::EqualAddresses);
+    }
+    Ok(sizes_of(n, lens, addrs))
 }
 
-// The first of the refusals 2 to 6 that applies, 0 for none.
+// The number of the first of the refusals 2 to 6 that applies, 0 for none.
 pub fn refusal(n: u32, lens: &[u32], addrs: &[u16]) -> u32
     ensures { result ≡ code_refusal n lens.now addrs.now }
 {
-    if bad_length(n) {
-        return 2;
+    match accept(n, lens, addrs) {
+        Ok(_) => 0,
+        Err(refused) => refused.number(),
     }
-    if wide(n / GROUP_U32) <= lens.len() {
-        return 3;
-    }
-    if any_long(lens) {
-        return 4;
-    }
-    if sum_of(lens) != addrs.len() {
-        return 5;
-    }
-    let q = n / GROUP_U32 - (lens.len() as u32);
-    let r = counts(addrs, q);
-    if any_many(&r, q) {
-        return 6;
-    }
-    0
 }
 
 // The numbers of an accepted code.
@@ -137,13 +114,13 @@ pub fn sizes_of(n: u32, lens: &[u32], addrs: &[u16]) -> Sizes
     requires { code_refusal n lens.now addrs.now ≡ 0 }
     ensures { result ≡ sizes_of n lens.now addrs.now }
 {
-    let length = wide(n);
+    let n = n as usize;
     let k = GROUP * lens.len();
-    let p = length - k;
+    let p = n - k;
     Sizes {
-        n: length,
-        k: k,
-        p: p,
+        n,
+        k,
+        p,
         q: p / GROUP,
         e: GROUP * addrs.len() + 2 * p - 1,
     }

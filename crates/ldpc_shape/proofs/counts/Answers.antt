@@ -1,18 +1,18 @@
-use mathlib.Core.Path.{refl, ◌∙◌}
-use lib.ListN.{length-set}
-use Rattle.ldpc_shape.proofs.Loops.{counted_start, counted_again, counted_room, counted_end}
-use borrow.Author.Rules.{rules}
-use native.Mathlib.Omega.{arith}
+use Rattle.std.proofs.Common.{arith, refl, ◌∙◌, length-set}
+use Rattle.ldpc_shape.proofs.Loops.{counted_start, counted_again, counted_room}
 use Rattle.ldpc_shape.proofs.counts.Goals as goal
 
-pub loop-i-init : goal.loop-i-init
-loop-i-init c = (omega arith, refl, counted_start c.args.q c.args.addrs.now)
+pub loop-a-init : goal.loop-a-init
+loop-a-init c = (refl, counted_start c.args.q c.args.addrs.now)
 
 pub overflow_add-r : goal.overflow_add-r
-overflow_add-r c = omega (arith, counted_room c.args.q c.args.addrs.now c.loop-i.r c.loop-i.i c.residue-l.result c.residue-l.ensures.1 c.loop-i.invariant.0 c.requires.2 c.loop-i.invariant.2.below)
+overflow_add-r c =
+    let room = counted_room c.args.q c.args.addrs.now c.loop-a.r c.loop-a.a-index c.residue.result c.residue.ensures.1 (omega arith) c.requires.2 c.loop-a.invariant.1.below in
+    omega arith
 
-pub loop-i-preserved : goal.loop-i-preserved
-loop-i-preserved c = (omega arith, length-set c.loop-i.r _ _ ∙ c.loop-i.invariant.1, counted_again c.args.q c.args.addrs.now c.loop-i.r c.loop-i.i c.residue-l.result (search rules) c.residue-l.ensures.0 (omega (arith, c.loop-i.invariant.1, c.residue-l.ensures.1, c.requires.1)) c.residue-l.ensures.1 c.loop-i.invariant.2)
-
-pub returns : goal.returns
-returns c = counted_end _ c.args.addrs.now c.loop-i.r c.loop-i.i (search rules) c.loop-i.invariant.0 c.loop-i.invariant.2
+pub loop-a-preserved : goal.loop-a-preserved
+loop-a-preserved c =
+    let m = c.residue.ensures.1 in (
+      length-set c.loop-a.r _ _ ∙ c.loop-a.invariant.0,
+      counted_again c.args.q c.args.addrs.now c.loop-a.r c.loop-a.a-index c.residue.result (omega arith) c.residue.ensures.0 (omega arith) m c.loop-a.invariant.1,
+    )
