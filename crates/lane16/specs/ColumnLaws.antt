@@ -1,10 +1,11 @@
--- Columns worked on chunk after chunk; the places of rows and lanes; a loop of stores.
-use Rattle.std.specs.Prelude.{◌≡◌, refl, Bool, true, false, cond, List, ℕ, ◌+◌, ◌*◌, ◌-◌, ◌/◌, ◌%◌, ◌≤◌, ◌<◌, ltb, eqb, get_or, set, length, ℤ, pos}
-use Rattle.std.proofs.Common.{sym, ap, subst, ◌∙◌, arith, mul-le-mul_right, ltb-true, ltb-false, eqb-true, get_or-set_other}
+-- Columns worked on chunk after chunk; the places of rows and lanes; a run of stores.
+use Rattle.std.specs.Prelude.{◌≡◌, refl, Bool, true, false, cond, List, ◌++◌, ℕ, ◌+◌, ◌*◌, ◌-◌, ◌/◌, ◌%◌, ◌≤◌, ◌<◌, ltb, eqb, get_or, take, drop, length, ℤ, pos}
+use Rattle.std.proofs.Common.{sym, ap, subst, ◌∙◌, arith, mul-le-mul_right, ltb-true, ltb-false, eqb-true, length-take-le}
 use Rattle.std.proofs.lemmas.Bool.{eqb-false}
+use Rattle.std.proofs.lemmas.List.{get_or-append-add, get_or_append_left, get_or-append_right, get_or-take, get_or-drop}
+use borrow.Rule.Slice.PartMut.{put_mid}
 use Rattle.std.proofs.Math.Arith.{digits_div, digits_mod}
 use Rattle.laws.specs.Definitions.{put}
-use Rattle.laws.specs.Stores.{grown_at}
 use Rattle.lane16.specs.Lanes.{int_at}
 use Rattle.lane16.specs.Column.{column, Stored, Part}
 
@@ -60,32 +61,54 @@ column_at lanes xs u at k =
     let e : u * lanes + at + k ≡ u * lanes + (at + k) = omega arith in
     ap (λ (p : ℕ). get_or xs p (pos 0)) e
 
--- ---- a loop of stores, by places: after i of them
-pub record Storing (base : ℕ) (x old new : List ℤ) (i : ℕ) : Type 0 where
-  pub long : length new ≡ length old
-  pub put_in : (k : ℕ) → k < i → get_or new (base + k) (pos 0) ≡ int_at x k
-  pub kept : (p : ℕ) → ((k : ℕ) → k < i → p ≡ base + k → ⊥) → get_or new p (pos 0) ≡ get_or old p (pos 0)
+-- ---- a run of stores, by places
+pub record Copied (base w : ℕ) (x old new : List ℤ) : Type 0 where
+  pub put_in : (k : ℕ) → k < w → get_or new (base + k) (pos 0) ≡ int_at x k
+  pub kept : (p : ℕ) → ((k : ℕ) → k < w → p ≡ base + k → ⊥) → get_or new p (pos 0) ≡ get_or old p (pos 0)
 
-pub storing_start : (base : ℕ) (x a : List ℤ) → Storing base x a a 0
-storing_start base x a = record { long = refl; put_in = λ k q. absurd (omega (arith, q)); kept = λ p no. refl }
-
-pub storing_again : {base : ℕ} {x old a : List ℤ} {i : ℕ} {y : ℤ} (b : List ℤ) → Storing base x old a i → base + i < length old → length b ≡ length a → b ≡ set a (base + i) y
-    → y ≡ int_at x i → Storing base x old b (i + 1)
-storing_again {base} {x} {old} {a} {i} {y} b v room same is e =
+-- the first w elements of x, written over those from base on
+pub copied : (base k w : ℕ) (x old ys : List ℤ) → ys ≡ take w x → k ≡ w → w ≤ length x → base + w ≤ length old → Copied base w x old (put_mid base k old ys)
+copied base k w x old ys is same few room =
     record {
-      long = same ∙ v.long;
-      put_in =
-          λ k q. at_b (base + k) ∙ grown_at (pos 0) (λ k. base + k) (λ k t. t ≡ int_at x k) a i y (omega (arith, v.long)) (λ k q r. omega arith) v.put_in e k q;
-      kept = λ p off. at_b p ∙ get_or-set_other a (base + i) p y (pos 0) (λ r. off i (omega arith) r) ∙ v.kept p (λ k q e. off k (omega arith) e);
+      put_in = λ j q. within j q;
+      kept = λ p off. beside p off (ltb p base) refl;
     }
   where
-    at_b : (p : ℕ) → get_or b p (pos 0) ≡ get_or (set a (base + i) y) p (pos 0)
-    at_b p = ap (λ (l : List ℤ). get_or l p (pos 0)) is
+    long : length (take base old) ≡ base
+    long = length-take-le base old (omega arith)
+
+    wide : length ys ≡ w
+    wide = ap length is ∙ length-take-le w x few
+
+    rest : List ℤ
+    rest = drop k (drop base old)
+
+    within : (j : ℕ) → j < w → get_or (put_mid base k old ys) (base + j) (pos 0) ≡ int_at x j
+    within j q =
+        ap (λ (n : ℕ). get_or (put_mid base k old ys) (n + j) (pos 0)) (sym long)
+        ∙ get_or-append-add (take base old) (ys ++ rest) j (pos 0)
+        ∙ get_or_append_left ys rest (pos 0) j (omega (arith, wide))
+        ∙ ap (λ (l : List ℤ). get_or l j (pos 0)) is
+        ∙ get_or-take w x j (pos 0) q
+
+    beside : (p : ℕ) → ((j : ℕ) → j < w → p ≡ base + j → ⊥) → (b : Bool) → ltb p base ≡ b → get_or (put_mid base k old ys) p (pos 0) ≡ get_or old p (pos 0)
+    beside p off true e =
+        get_or_append_left (take base old) (ys ++ rest) (pos 0) p (omega (arith, long, ltb-true p base e))
+        ∙ get_or-take base old p (pos 0) (ltb-true p base e)
+    beside p off false e =
+        let from : base ≤ p = ltb-false p base e in
+        let past : base + w ≤ p = grind (arith, off (p - base)) in
+        let at_old : base + (k + (p - base - w)) ≡ p = omega arith in
+        get_or-append_right (take base old) (ys ++ rest) base p (pos 0) long from
+        ∙ get_or-append_right ys rest w (p - base) (pos 0) wide (omega arith)
+        ∙ get_or-drop k (drop base old) (p - base - w) (pos 0)
+        ∙ get_or-drop base old (k + (p - base - w)) (pos 0)
+        ∙ ap (λ (n : ℕ). get_or old n (pos 0)) at_old
 
 -- by columns
-pub storing_end : {lanes u at w i : ℕ} {x old new : List ℤ} → Storing (u * lanes + at) x old new i → i ≡ w → at + w ≤ lanes → Stored w lanes u at x old new
+pub copied_column : {lanes u at w : ℕ} {x old new : List ℤ} → Copied (u * lanes + at) w x old new → at + w ≤ lanes → Stored w lanes u at x old new
 unfolding column put
-storing_end {lanes} {u} {at} {w} {i} {x} {old} {new} v same h =
+copied_column {lanes} {u} {at} {w} {x} {old} {new} v h =
     record {
       inside = λ k q. λ j r. within k q r (eqb r u) refl j;
       outside = λ l p off. λ j r. v.kept (r * lanes + l) (λ k q e. off k (omega arith) (one_place lanes r l u (at + k) p (omega arith) (omega arith)).1) j;
@@ -100,3 +123,7 @@ storing_end {lanes} {u} {at} {w} {i} {x} {old} {new} v same h =
     within k q r false e =
         v.kept (r * lanes + (at + k)) (λ j b s. eqb-false r u e (one_place lanes r (at + k) u (at + j) (omega arith) (omega arith) (omega arith)).0)
         ∙ sym (ap (λ (b : Bool). cond b (int_at x k) (get_or old (r * lanes + (at + k)) (pos 0))) e)
+
+pub stored_copy : {lanes u at w k : ℕ} {x old ys : List ℤ} → ys ≡ take w x → k ≡ w → w ≤ length x → at + w ≤ lanes → u * lanes + lanes ≤ length old
+    → Stored w lanes u at x old (put_mid (u * lanes + at) k old ys)
+stored_copy {lanes} {u} {at} {w} {k} {x} {old} {ys} is same few h room = copied_column (copied (u * lanes + at) k w x old ys is same few (omega arith)) h

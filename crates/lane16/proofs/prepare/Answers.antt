@@ -1,12 +1,5 @@
-use borrow.Author.Rules.{rules, sfits_of}
-use native.Mathlib.Omega.{arith}
-use mathlib.Core.Path.{◌≡◌, refl, sym, subst, ◌∙◌}
-use mathlib.Core.Bool.{false}
-use Prim.Native.Nat.{ℕ, ◌<◌, min}
-use lib.ListN.{length-set}
-use lib.IntN.{ℤ, pos, nat_abs}
-use mir.Syntax.{w8}
-use mir.Val.{to_z, of_z}
+use Rattle.std.proofs.Common.{rules, arith, length-set, ◌≡◌, sym, subst, ◌∙◌, false, ℕ, ◌<◌, min, ℤ, pos, nat_abs, to_z, of_z}
+use Rattle.std.specs.Int.{w8}
 use Rattle.laws.specs.Signed.{plain}
 use Rattle.laws.specs.Definitions.{negative}
 use Rattle.iteration.specs.Value.{reduced, signed}
@@ -22,30 +15,22 @@ small o x m e = subst (λ (y : ℤ). nat_abs y < 128) (sym e) (reduced_small fal
 pub signed-requires-in-loop-i : goal.signed-requires-in-loop-i
 signed-requires-in-loop-i c =
     small (to_z w8 (of_z w8 c.args.offset)) _ (min (nat_at c.args.st.min2 c.loop-i.i) 127)
-    (plain c.reduce-in-loop-i.result (sfits_of c.reduce-in-loop-i.type_inv) ∙ c.reduce-in-loop-i.ensures)
+    (plain c.reduce-in-loop-i.result (search rules) ∙ c.reduce-in-loop-i.ensures)
 
 pub loop-i-preserved : goal.loop-i-preserved
 loop-i-preserved c =
+    let i = c.loop-i.i in
+    let st = c.args.st in
     let o = to_z w8 (of_z w8 c.args.offset) in
-    let s_is = plain (int_at c.args.st.sign c.loop-i.i) (search rules) in
-    let r1 = plain c.reduce.result (sfits_of c.reduce.type_inv) ∙ c.reduce.ensures in
-    let r2 = plain c.reduce-in-loop-i.result (sfits_of c.reduce-in-loop-i.type_inv) ∙ c.reduce-in-loop-i.ensures in
-    record {
-      in_range = search rules;
-      long = (simp length-set (omega arith), simp length-set (omega arith), simp length-set (omega arith));
-      least_is =
-          grown 0 (λ (k : ℕ) (x : ℕ). x ≡ nat_at c.args.st.min1 k) c.loop-i.least c.loop-i.i _ (omega arith)
-          c.loop-i.invariant.least_is refl;
-      m1_is =
-          grown (pos 0)
-          (λ (k : ℕ) (x : ℤ). x ≡ signed (negative (int_at c.args.st.sign k)) (reduced o (min (nat_at c.args.st.min1 k) 127)))
-          c.loop-i.m1 c.loop-i.i _ (omega arith) c.loop-i.invariant.m1_is
-          (plain c.signed.result (sfits_of c.signed.type_inv) ∙ c.signed.ensures ∙ (λ j. signed (negative (s_is j)) (r1 j)));
-      m2_is =
-          grown (pos 0)
-          (λ (k : ℕ) (x : ℤ). x ≡ signed (negative (int_at c.args.st.sign k)) (reduced o (min (nat_at c.args.st.min2 k) 127)))
-          c.loop-i.m2 c.loop-i.i _ (omega arith) c.loop-i.invariant.m2_is
-          (plain c.signed-in-loop-i.result (sfits_of c.signed-in-loop-i.type_inv)
-          ∙ c.signed-in-loop-i.ensures
-          ∙ (λ j. signed (negative (s_is j)) (r2 j)));
-    }
+    let s_is = plain (int_at st.sign i) (search rules) in
+    let r1 = plain c.reduce.result (search rules) ∙ c.reduce.ensures in
+    let r2 = plain c.reduce-in-loop-i.result (search rules) ∙ c.reduce-in-loop-i.ensures in (
+      simp length-set (omega arith),
+      simp length-set (omega arith),
+      grown (pos 0) (λ (k : ℕ) (x : ℤ). x ≡ signed (negative (int_at st.sign k)) (reduced o (min (nat_at st.min1 k) 127))) _ i _
+          (omega arith) c.loop-i.invariant.2
+          (plain c.signed.result (search rules) ∙ c.signed.ensures ∙ (λ j. signed (negative (s_is j)) (r1 j))),
+      grown (pos 0) (λ (k : ℕ) (x : ℤ). x ≡ signed (negative (int_at st.sign k)) (reduced o (min (nat_at st.min2 k) 127))) _ i _
+          (omega arith) c.loop-i.invariant.3
+          (plain c.signed-in-loop-i.result (search rules) ∙ c.signed-in-loop-i.ensures ∙ (λ j. signed (negative (s_is j)) (r2 j))),
+    )
