@@ -1,11 +1,7 @@
 -- The register and the places that the code finds are those of the definition.
-use mathlib.Core.Path.{◌≡◌, sym, ap, ◌∙◌}
-use mathlib.Core.Logic.{◌≢◌, ite, if_pos, if_neg}
-use mathlib.Core.List.{List}
-use Prim.Native.Nat.{ℕ, ◌+◌, ◌≤◌, ◌<◌}
-use native.Mathlib.Decide.{ℕ_discrete, dec_le}
-use native.Mathlib.Omega.{arith}
-use lib.ListN.{length, get_or}
+use Rattle.std.proofs.Common.{◌≡◌, ◌≢◌, sym, ap, ◌∙◌, List, ℕ, ◌+◌, ◌≤◌, ◌<◌, arith, length, get_or}
+use Rattle.std.proofs.Math.Logic.{ite, if_pos, if_neg}
+use Rattle.std.proofs.Math.Decide.{ℕ_discrete, dec_le}
 use Rattle.algebra.specs.Series.{pow, ev}
 use Rattle.algebra.specs.Massey.{gen_ext, shortest_ext}
 use Rattle.algebra.specs.Register.{Shortest}

@@ -4,7 +4,7 @@
 -- not; the encoded bytes (`encode_codeword`).
 --
 -- Not here: that decoding is exact (ExactLaws); that any shortest register serves (DecodeLaws); that what `decode` promises holds (proofs/Decodes.antt).
-use Rattle.std.specs.Prelude.{◌≡◌, refl, List, ◌++◌, ℕ, suc, ◌+◌, ◌-◌, ◌≤◌, ◌<◌, length, take, drop}
+use Rattle.std.specs.Prelude.{◌≡◌, ◌≢◌, refl, List, ◌++◌, ℕ, suc, ◌+◌, ◌-◌, ◌≤◌, ◌<◌, length, take, drop}
 use Rattle.std.proofs.Math.Path.{sym}
 use Rattle.std.proofs.Common.{ap, ap₂, ◌∙◌, subst, append_assoc, arith, length-append, take_at, drop_at, drop-drop}
 use Rattle.std.proofs.Math.Logic.{if_pos, if_neg}
@@ -13,8 +13,7 @@ use Rattle.std.proofs.Math.Seq.{take-length}
 use Rattle.laws.specs.Lists.{lent_from, back_from}
 use Rattle.bch_remainder.specs.Word.{parity_of, parity_bits, Codeword}
 use Rattle.bch_remainder.specs.Laws.{encoded, encoded_codeword, length_bits}
-use Rattle.bch.specs.Answers.{word_refusal, message_refusal, encoded_of, out_if, encode_out}
-use Rattle.bch.specs.declared.Encoded.TheVariants as encode
+use Rattle.bch.specs.Answers.{word_refusal, message_refusal, out_if, encode_out}
 
 -- ---- what each test of the code shows
 pub long_message : (k need out : ℕ) → 65343 < k → message_refusal k need out ≡ 11
@@ -41,15 +40,16 @@ pub fair_word : (n : ℕ) → 193 ≤ n → n ≤ 65535 → word_refusal n ≡ 0
 unfolding word_refusal
 fair_word n g h = if_neg (dec_lt n 193) (λ e. omega arith) 11 _ ∙ if_neg (dec_lt 65535 n) (λ e. omega arith) 11 0
 
--- a refusal's answer, and what it leaves; and those of a call that is not refused. g is the refusal's number less 1.
-pub refused : (f g : ℕ) → f ≡ suc g → encode.Refused (suc g) ≡ encoded_of f
-unfolding encoded_of
-refused f g e = sym (if_neg (ℕ_discrete f 0) (λ z. omega arith) encode.Done (encode.Refused f) ∙ ap encode.Refused e)
+-- a word is refused by 11 alone
+pub word_refused : (n : ℕ) → word_refusal n ≢ 0 → word_refusal n ≡ 11
+word_refused n ne = pick (dec_lt n 193) (dec_lt 65535 n)
+  where
+    pick : Dec (n < 193) → Dec (65535 < n) → word_refusal n ≡ 11
+    pick (yes h) d = short_word n h
+    pick (no h) (yes g) = long_word n (omega arith) g
+    pick (no h) (no g) = absurd (ne (fair_word n (omega arith) (omega arith)))
 
-pub done : (f : ℕ) → f ≡ 0 → encode.Done ≡ encoded_of f
-unfolding encoded_of
-done f e = sym (if_pos (ℕ_discrete f 0) e encode.Done (encode.Refused f))
-
+-- what a refused call leaves, and one that is not refused. g is the refusal's number less 1.
 pub unchanged : (f g : ℕ) (new old : List ℕ) → f ≡ suc g → old ≡ out_if f new old
 unfolding out_if
 unchanged f g new old e = sym (if_neg (ℕ_discrete f 0) (λ z. omega arith) new old)

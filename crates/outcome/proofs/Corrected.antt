@@ -1,11 +1,10 @@
 -- The BCH part of a word: what its correction inside the word gives. Proofs, not specs, since a wrong `part_of` shall be refused for what it means
 -- (must-fail/bch_part_one_byte_on.edit) and not for these theorems.
-use Rattle.std.specs.Prelude.{◌≡◌, ◌≢◌, ◌↔◌, ◌⊎◌, ℕ, ◌+◌, ◌-◌, ◌≤◌, length, take}
+use Rattle.std.specs.Prelude.{◌≡◌, ◌≢◌, ◌↔◌, ◌⊎◌, ℕ, ◌+◌, ◌-◌, ◌≤◌, length, take, Result, Ok}
 use Rattle.std.proofs.Math.Path.{refl, sym, ap, subst}
 use Rattle.std.proofs.Common.{◌∙◌, arith, length-append, length-take, length-drop, drop-drop, drop_at}
-use Rattle.std.proofs.Math.Logic.{inl, inr, if_pos}
+use Rattle.std.proofs.Math.Logic.{inl, inr}
 use mathlib.Core.List.{List, ◌++◌}
-use Rattle.std.proofs.Math.Decide.{ℕ_discrete}
 use Rattle.std.proofs.Math.ListN.{drop}
 use Rattle.std.proofs.Math.Seq.{take_at}
 use Rattle.bch.specs.Distance.{distance}
@@ -15,7 +14,9 @@ use Rattle.bch.specs.ExactLaws.{exact}
 use Rattle.bch.specs.Answers.{word_refusal, decoded_of, word_out}
 use Rattle.bch.specs.AnswersLaws.{fair_word, changed}
 use Rattle.bch.specs.declared.Decoded.{Decoded}
-use Rattle.bch.specs.declared.Decoded.TheVariants.{Corrected, Uncorrectable, Refused}
+use Rattle.bch.specs.declared.Decoded.TheVariants.{Corrected, Uncorrectable}
+use Rattle.refusal.specs.declared.Refusal.{Refusal}
+use Rattle.refusal.specs.NumberLaws.{accepted}
 use Rattle.decoder_plan.specs.declared.Part.{Part}
 use Rattle.outcome.specs.Outcome.{part_of, corrected, lost, bch_result, bch_of}
 use Rattle.outcome.specs.Laws.{word_length}
@@ -43,7 +44,7 @@ corrected_whole part b back e =
     ∙ ap (λ (k : ℕ). take first b ++ (word_out (take k (drop first b)) ++ drop k (drop first b))) m
     ∙ ap (λ (l : List ℕ). take first b ++ (word_out (take size (drop first b)) ++ l)) (drop-drop size first b)
 
-pub result_whole : (part : Part) (b : List ℕ) (answer : Decoded) → answer ≡ decoded_of (take (part.first + part.length - part.first) (drop part.first b))
+pub result_whole : (part : Part) (b : List ℕ) (answer : Result Decoded Refusal) → answer ≡ decoded_of (take (part.first + part.length - part.first) (drop part.first b))
     → bch_result answer ≡ bch_of part b
 unfolding bch_of
 result_whole part b answer e =
@@ -60,45 +61,45 @@ module _ (part : Part) (b : List ℕ) (P : PartInside part b) where
   fair : word_refusal (length bits) ≡ 0
   fair = fair_word (length bits) (omega (arith, part_length, P.least)) (omega (arith, part_length, P.most))
 
-  answered : decoded_of bits ≡ answer_of bits
+  answered : decoded_of bits ≡ Ok (answer_of bits)
   unfolding decoded_of
-  answered = if_pos (ℕ_discrete (word_refusal (length bits)) 0) fair (answer_of bits) (Refused (word_refusal (length bits)))
+  answered = accepted (word_refusal (length bits)) (answer_of bits) fair
 
   left : word_out bits ≡ left_of bits
   unfolding word_out
   left = sym (changed (word_refusal (length bits)) (left_of bits) bits fair)
 
   -- it is corrected exactly when a codeword of its length lies within 12 bits, and to that codeword
-  part_exact : Exact bits (word_out bits) (decoded_of bits)
-  part_exact =
-      subst (λ (x : List ℕ). Exact bits x (decoded_of bits)) (sym left)
-      (subst (λ (d : Decoded). Exact bits (left_of bits) d) (sym answered) (exact bits (omega (arith, part_length, P.most))))
+  part_exact : Exact bits (word_out bits) (answer_of bits)
+  part_exact = subst (λ (x : List ℕ). Exact bits x (answer_of bits)) (sym left) (exact bits (omega (arith, part_length, P.most)))
+
+  result : bch_of part b ≡ bch_result (Ok (answer_of bits))
+  unfolding bch_of
+  result = ap bch_result answered
 
   -- the result is a count of at most 12, or lost
-  few : (k : ℕ) → decoded_of bits ≡ Corrected k → k ≤ 12
+  few : (k : ℕ) → answer_of bits ≡ Corrected k → k ≤ 12
   few k e = let c = part_exact.count k e in omega (arith, c.0.within, c.1)
 
   pub bch_range : (bch_of part b ≤ 12) ⊎ (bch_of part b ≡ lost)
-  unfolding bch_of bch_result
-  bch_range = go (decoded_of bits) refl
+  unfolding bch_result
+  bch_range = subst (λ (k : ℕ). (k ≤ 12) ⊎ (k ≡ lost)) (sym result) (go (answer_of bits) refl)
     where
-      go : (d : Decoded) → decoded_of bits ≡ d → (bch_result d ≤ 12) ⊎ (bch_result d ≡ lost)
+      go : (d : Decoded) → answer_of bits ≡ d → (bch_result (Ok d) ≤ 12) ⊎ (bch_result (Ok d) ≡ lost)
       go (Corrected k) e = inl (few k e)
       go Uncorrectable e = inr refl
-      go (Refused k) e = inr refl
 
   -- a word is not lost exactly when its part has a codeword within 12 bits
   pub kept_exactly : (bch_of part b ≢ lost) ↔ ((v : List ℕ) × Near bits v)
-  unfolding bch_of bch_result lost
-  kept_exactly = (λ h. go (decoded_of bits) refl h, λ h q. back (part_exact.exactly.1 h) q)
+  unfolding bch_result lost
+  kept_exactly = (λ h. go (answer_of bits) refl (λ e. h (result ∙ e)), λ h q. back (part_exact.exactly.1 h) (sym result ∙ q))
     where
-      go : (d : Decoded) → decoded_of bits ≡ d → (bch_result d ≢ lost) → (v : List ℕ) × Near bits v
+      go : (d : Decoded) → answer_of bits ≡ d → (bch_result (Ok d) ≢ lost) → (v : List ℕ) × Near bits v
       go (Corrected k) e h = part_exact.exactly.0 (k, e)
       go Uncorrectable e h = absurd (h refl)
-      go (Refused k) e h = absurd (h refl)
 
-      back : (k : ℕ) × (decoded_of bits ≡ Corrected k) → bch_result (decoded_of bits) ≢ lost
-      back h q = let e : h.0 ≡ 4294967295 = sym (ap bch_result h.1) ∙ q in omega (arith, e, few h.0 h.1)
+      back : (k : ℕ) × (answer_of bits ≡ Corrected k) → bch_result (Ok (answer_of bits)) ≢ lost
+      back h q = let e : h.0 ≡ 4294967295 = sym (ap (λ d. bch_result (Ok d)) h.1) ∙ q in omega (arith, e, few h.0 h.1)
 
   -- the part that stands in the word at the end
   part_out : part_of part (corrected part b) ≡ word_out bits
@@ -111,10 +112,9 @@ module _ (part : Part) (b : List ℕ) (P : PartInside part b) where
 
   -- a word that is not lost: its part is then a codeword, and the result is the number of bits that were changed
   pub kept_count : bch_of part b ≢ lost → Near bits (part_of part (corrected part b)) × (distance bits (part_of part (corrected part b)) ≡ bch_of part b)
-  unfolding bch_of bch_result
-  kept_count h = subst (λ (x : List ℕ). Near bits x × (distance bits x ≡ bch_of part b)) (sym part_out) (go (decoded_of bits) refl)
+  unfolding bch_result
+  kept_count h = subst (λ (x : List ℕ). Near bits x × (distance bits x ≡ bch_of part b)) (sym part_out) (go (answer_of bits) refl)
     where
-      go : (d : Decoded) → decoded_of bits ≡ d → Near bits (word_out bits) × (distance bits (word_out bits) ≡ bch_result (decoded_of bits))
-      go (Corrected k) e = let c = part_exact.count k e in (c.0, c.1 ∙ sym (ap bch_result e))
-      go Uncorrectable e = absurd (h (ap bch_result e))
-      go (Refused k) e = absurd (h (ap bch_result e))
+      go : (d : Decoded) → answer_of bits ≡ d → Near bits (word_out bits) × (distance bits (word_out bits) ≡ bch_of part b)
+      go (Corrected k) e = let c = part_exact.count k e in (c.0, c.1 ∙ sym (result ∙ ap (λ d. bch_result (Ok d)) e))
+      go Uncorrectable e = absurd (h (result ∙ ap (λ d. bch_result (Ok d)) e))

@@ -1,6 +1,6 @@
 -- A word's outcome, from its values: "its hard decisions at the end, with the BCH part as BCH leaves it; met if every check was met before
 -- BCH, else unmet; its iterations; how many checks were unsatisfied before BCH; the BCH result"; and the bits that the LDPC step changed.
-use Rattle.std.specs.Prelude.{Bool, cond, ◌||◌, List, [], ◌∷◌, ◌++◌, ℕ, zero, suc, ◌+◌, eqb, ℤ, pos, get_or, take, drop}
+use Rattle.std.specs.Prelude.{Bool, cond, ◌||◌, List, [], ◌∷◌, ◌++◌, ℕ, zero, suc, ◌+◌, eqb, ℤ, pos, get_or, take, drop, Result, Ok, Err}
 use Rattle.iteration.specs.Check.{Word, within}
 use Rattle.iteration.specs.Iteration.{Code, hard, unsatisfied_count}
 use Rattle.schedule.specs.Alone.{after, ends}
@@ -8,7 +8,8 @@ use Rattle.decoder_plan.specs.declared.Part.{Part}
 use Rattle.bch.specs.Distance.{distance}
 use Rattle.bch.specs.Answers.{decoded_of, word_out}
 use Rattle.bch.specs.declared.Decoded.{Decoded}
-use Rattle.bch.specs.declared.Decoded.TheVariants.{Corrected, Uncorrectable, Refused}
+use Rattle.bch.specs.declared.Decoded.TheVariants.{Corrected, Uncorrectable}
+use Rattle.refusal.specs.declared.Refusal.{Refusal}
 
 -- "A word alone starts with its soft values as L, every message 0": its n soft values
 unfoldable pub begin : ℕ → List ℤ → Word
@@ -44,10 +45,10 @@ corrected part b = take part.first b ++ (word_out (part_of part b) ++ drop (part
 unfoldable pub lost : ℕ
 lost = 4294967295
 
-unfoldable pub bch_result : Decoded → ℕ
-bch_result (Corrected k) = k
-bch_result Uncorrectable = lost
-bch_result (Refused k) = lost
+unfoldable pub bch_result : Result Decoded Refusal → ℕ
+bch_result (Ok (Corrected k)) = k
+bch_result (Ok Uncorrectable) = lost
+bch_result (Err refusal) = lost
 
 unfoldable pub bch_of : Part → List ℕ → ℕ
 bch_of part b = bch_result (decoded_of (part_of part b))

@@ -12,6 +12,7 @@ ghost use Rattle.outcome.specs.Soft.{Edges, values, Lent};
 
 use bch::Decoded;
 use decoder_plan::Part;
+use refusal::Refusal;
 
 // How many checks a word leaves unsatisfied, and one of them (0 if there is none).
 #[derive(Drop)]
@@ -141,13 +142,13 @@ pub fn changed(n: usize, soft: &[i8], bits: &[u8]) -> u32
 pub const LOST: u32 = 4294967295;
 
 // The number that stands for BCH's answer.
-fn result_of(answer: Decoded) -> u32
+fn result_of(answer: Result<Decoded, Refusal>) -> u32
     ensures { result ≡ bch_result answer }
 {
     match answer {
-        Decoded::Corrected(k) => k,
-        Decoded::Uncorrectable => LOST,
-        Decoded::Refused(_) => LOST,
+        Ok(Decoded::Corrected(k)) => k,
+        Ok(Decoded::Uncorrectable) => LOST,
+        Err(_) => LOST,
     }
 }
 

@@ -6,6 +6,7 @@
 ghost use Rattle.std.specs.Prelude.{◌≡◌, ◌+◌, ◌<◌, ◌≤◌, length};
 
 use bch::Decoded;
+use refusal::Refusal;
 
 // Numbers in a vector, lowest byte first.
 fn one(vector: &[u8], at: usize) -> u64
@@ -165,11 +166,11 @@ fn agrees(word: &[u8], vector: &[u8]) -> bool
 }
 
 // The answer as the vector has it.
-fn result(answer: Decoded) -> u64 {
+fn result(answer: Result<Decoded, Refusal>) -> u64 {
     match answer {
-        Decoded::Corrected(n) => n as u64,
-        Decoded::Uncorrectable => 255,
-        Decoded::Refused(_) => 256,
+        Ok(Decoded::Corrected(n)) => n as u64,
+        Ok(Decoded::Uncorrectable) => 255,
+        Err(_) => 256,
     }
 }
 
@@ -179,7 +180,7 @@ fn replay_word(vector: &[u8], message: &mut [u8], word: &mut [u8]) -> bool
 {
     let whole = one(vector, 8) == 1;
     make(message, four(vector, 4), whole);
-    bch::encode(message, word);
+    let _ = bch::encode(message, word);
     if sum(word) != eight(vector, 12) {
         return false;
     }
