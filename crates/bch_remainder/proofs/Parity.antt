@@ -1,75 +1,57 @@
 -- Remainders a byte at a time, and a word's last 192 bits as three words.
 -- Assumes nothing.
-use mathlib.Core.Path.{◌≡◌, refl, sym, ap, ap₂, ◌∙◌}
-use mathlib.Core.List.{List, ◌++◌}
-use Prim.Native.Nat.{ℕ, ◌+◌, ◌-◌, ◌*◌, ◌%◌, ◌^◌, ◌≤◌, ◌<◌}
-use native.Mathlib.Nat.{min-le_left, add-sub_cancel_left, lt_of_lt_of_le, le_of_eq, le_refl}
-use native.Mathlib.Omega.{arith}
-use lib.Bits.{bit_xor}
-use lib.Pow.{pow_mono}
-use lib.ListN.{length, take, drop, length-take, length-drop, take-append-drop}
-use lib.Seq.{take-add, take_all, drop-drop, length-take-le}
+use Rattle.std.proofs.Common.{◌≡◌, sym, ap, ap₂, ◌∙◌, List, [], ◌++◌, append_assoc, append-nil, ℕ, ◌+◌, ◌-◌, ◌*◌, ◌%◌, ◌^◌, ◌≤◌, ◌<◌, lt_of_lt_of_le, arith, bit_xor, pow_mono, length, take, drop, length-append, length-drop, take-append-drop, take-add, length-take-le}
+use Rattle.std.proofs.Math.Nat.{add-sub_cancel_left}
+use Rattle.std.proofs.lemmas.List.{nil_from_length}
 use Rattle.laws.specs.Definitions.{◌⊕◌}
 use Rattle.bch_table.specs.Step.{joined, step_of}
 use Rattle.bch_table.specs.Words.{xored}
 use Rattle.bch_remainder.specs.Word.{number, parity_of, remainder_of}
 use Rattle.bch_remainder.specs.Laws.{number_lt, number_append, parity_start, parity_step, remainder_split}
 
--- ---- parity_register: v is the remainder of the first i bits, and whole bytes are left
-pub record Divided (m : List ℕ) (n v i : ℕ) : Type 0 where
-  pub whole : n ≡ length m
-  pub within : i ≤ n
-  pub left : (n - i) % 8 ≡ 0
-  pub done : v ≡ parity_of (take i m)
+-- ---- parity_register: v is the remainder of the bits passed, and whole bytes are left
+pub record Divided (m : List ℕ) (v : ℕ) (rest : List ℕ) : Type 0 where
+  pub passed : List ℕ
+  pub split : passed ++ rest ≡ m
+  pub left : length rest % 8 ≡ 0
+  pub done : v ≡ parity_of passed
 
-pub packed_lt : (w : List ℕ) (from count k : ℕ) → count ≤ k → number (take count (drop from w)) < 2 ^ k
-packed_lt w from count k h = lt_of_lt_of_le (number_lt (take count (drop from w))) (pow_mono reach)
-  where
-    reach : length (take count (drop from w)) ≤ k
-    reach = omega (arith, length-take count (drop from w), min-le_left count (length (drop from w)))
+pub packed_lt : (w : List ℕ) (k : ℕ) → length w ≤ k → number w < 2 ^ k
+packed_lt w k h = lt_of_lt_of_le (number_lt w) (pow_mono h)
 
-pub divide_start : (m : List ℕ) (v b : ℕ) → b ≡ number (take (length m % 8) m) → v ≡ step_of (joined 0 0 0) b → Divided m (length m) v (length m % 8)
+pub divide_start : (m front back : List ℕ) (v b : ℕ) → front ≡ take (length m % 8) m → back ≡ drop (length m % 8) m → b ≡ number front → v ≡ step_of (joined 0 0 0) b
+    → Divided m v back
 unfolding joined
-divide_start m v b eb ev =
-    record { whole = refl; within = omega arith; left = omega arith; done = ev ∙ ap (step_of 0) eb ∙ sym (parity_start (take (length m % 8) m) short) }
-  where
-    short : length (take (length m % 8) m) ≤ 8
-    short = omega (arith, length-take (length m % 8) m, min-le_left (length m % 8) (length m))
-
--- a turn has a whole byte left
-pub byte_left : (m : List ℕ) (n v i : ℕ) → Divided m n v i → i < n → i + 8 ≤ length m
-byte_left m n v i s h = omega (arith, s.whole, s.within, s.left)
-
-pub divide_again : (m : List ℕ) (n v i b v' : ℕ) → Divided m n v i → i < n → b ≡ number (take 8 (drop i m)) → v' ≡ step_of v b → Divided m n v' (i + 8)
-divide_again m n v i b v' s h eb ev =
+divide_start m front back v b ef eb eb' ev =
     record {
-      whole = s.whole;
-      within = omega (arith, byte_left m n v i s h, s.whole);
-      left = omega (arith, byte_left m n v i s h, s.whole, s.left);
-      done = ev ∙ ap₂ step_of s.done eb ∙ sym (parity_step (take i m) (take 8 (drop i m)) byte) ∙ ap parity_of (sym (take-add i 8 m));
+      passed = front;
+      split = ap₂ ◌++◌ ef eb ∙ take-append-drop (length m % 8) m;
+      left = omega (arith, ap length eb, length-drop (length m % 8) m);
+      done = ev ∙ ap (step_of 0) eb' ∙ sym (parity_start front (omega (arith, ap length ef, length-take-le (length m % 8) m (omega arith))));
     }
-  where
-    reach : 8 ≤ length (drop i m)
-    reach = omega (arith, length-drop i m, byte_left m n v i s h)
 
-    byte : length (take 8 (drop i m)) ≡ 8
-    byte = length-take-le 8 (drop i m) reach
+pub divide_again : (m : List ℕ) (v v' : ℕ) (rest byte rest' : List ℕ) → Divided m v rest → rest ≡ byte ++ rest' → length byte ≡ 8 → v' ≡ step_of v (number byte)
+    → Divided m v' rest'
+divide_again m v v' rest byte rest' s e h ev =
+    record {
+      passed = s.passed ++ byte;
+      split = append_assoc s.passed byte rest' ∙ ap (λ (l : List ℕ). s.passed ++ l) (sym e) ∙ s.split;
+      left = omega (arith, length-append byte rest', ap length e, s.left);
+      done = ev ∙ ap (λ (x : ℕ). step_of x (number byte)) s.done ∙ sym (parity_step s.passed byte h);
+    }
 
-pub divide_end : (m : List ℕ) (n v i : ℕ) → Divided m n v i → n ≤ i → v ≡ parity_of m
-divide_end m n v i s h = s.done ∙ ap parity_of (take_all i m (omega (arith, s.whole)))
+pub divide_end : (m : List ℕ) (v : ℕ) (rest : List ℕ) → Divided m v rest → length rest < 8 → v ≡ parity_of m
+divide_end m v rest s h =
+    let none : rest ≡ [] = nil_from_length rest (omega (arith, s.left)) in
+    s.done ∙ ap parity_of (sym (append-nil s.passed) ∙ ap (λ (l : List ℕ). s.passed ++ l) (sym none) ∙ s.split)
 
 -- ---- remainder: the last 192 bits are three words
-last_words : (w : List ℕ) (k : ℕ) → length w ≡ k + 192
-    → number (drop k w) ≡ joined (number (take 64 (drop k w))) (number (take 64 (drop (k + 64) w))) (number (take 64 (drop (k + 128) w)))
+last_words : (d : List ℕ) → length d ≡ 192 → number d ≡ joined (number (take 64 d)) (number (take 64 (drop 64 d))) (number (drop 128 d))
 unfolding joined
-last_words w k e =
-    ap number (sym (take-append-drop 128 d) ∙ ap₂ (λ (x y : List ℕ). x ++ y) (take-add 64 64 d) (sym (take_all 64 (drop 128 d) (le_of_eq long_C))))
-    ∙ number_append (A ++ B) C ∙ ap₂ (λ (x n : ℕ). x * 2 ^ n + number C) (number_append A B ∙ ap (λ (n : ℕ). number A * 2 ^ n + number B) long_B) (ap length short_C ∙ long_C)
-    ∙ ap₂ (λ (x y : List ℕ). (number A * 2 ^ 64 + number (take 64 x)) * 2 ^ 64 + number (take 64 y)) (drop-drop 64 k w) (drop-drop 128 k w)
+last_words d e =
+    ap number (sym (take-append-drop 128 d) ∙ ap (λ (x : List ℕ). x ++ C) (take-add 64 64 d))
+    ∙ number_append (A ++ B) C ∙ ap₂ (λ (x n : ℕ). x * 2 ^ n + number C) (number_append A B ∙ ap (λ (n : ℕ). number A * 2 ^ n + number B) long_B) long_C
   where
-    d : List ℕ
-    d = drop k w
-
     A : List ℕ
     A = take 64 d
 
@@ -77,36 +59,25 @@ last_words w k e =
     B = take 64 (drop 64 d)
 
     C : List ℕ
-    C = take 64 (drop 128 d)
-
-    long_d : length d ≡ 192
-    long_d = length-drop k w ∙ ap (λ (n : ℕ). n - k) e ∙ add-sub_cancel_left k 192
+    C = drop 128 d
 
     long_B : length B ≡ 64
-    long_B = length-take-le 64 (drop 64 d) (omega (arith, length-drop 64 d, long_d))
+    long_B = length-take-le 64 (drop 64 d) (omega (arith, length-drop 64 d, e))
 
-    long_C : length (drop 128 d) ≡ 64
-    long_C = length-drop 128 d ∙ ap (λ (n : ℕ). n - 128) long_d
+    long_C : length C ≡ 64
+    long_C = length-drop 128 d ∙ ap (λ (n : ℕ). n - 128) e
 
-    short_C : C ≡ drop 128 d
-    short_C = take_all 64 (drop 128 d) (le_of_eq long_C)
-
-pub remainder_is : (w : List ℕ) (k a b c h m l : ℕ) → length w ≡ k + 192
-    → b < 2 ^ 64 → c < 2 ^ 64 → joined a b c ≡ parity_of (take k w)
-    → h ≡ number (take 64 (drop k w)) → m ≡ number (take 64 (drop (k + 64) w)) → l ≡ number (take 64 (drop (k + 128) w))
+pub remainder_is : (w front back : List ℕ) (k a b c h m l : ℕ) → length w ≡ k + 192 → front ≡ take k w → back ≡ drop k w
+    → b < 2 ^ 64 → c < 2 ^ 64 → joined a b c ≡ parity_of front
+    → h ≡ number (take 64 back) → m ≡ number (take 64 (drop 64 back)) → l ≡ number (drop 128 back)
     → joined (bit_xor a h) (bit_xor b m) (bit_xor c l) ≡ remainder_of w
 unfolding ◌⊕◌
-remainder_is w k a b c h m l e hb hc ep eh em el =
+remainder_is w front back k a b c h m l e ef eb hb hc ep eh em el =
     ap₂ (λ (x y : ℕ). joined (bit_xor a h) (bit_xor b x) (bit_xor c y)) em el
-    ∙ xored a b c h M L hb hc (packed_lt w (k + 64) 64 64 (le_refl 64)) (packed_lt w (k + 128) 64 64 (le_refl 64))
-    ∙ ap₂ (λ (x y : ℕ). bit_xor x y) ep (ap (λ (x : ℕ). joined x M L) eh ∙ sym (last_words w k e))
-    ∙ sym (remainder_split (take k w) (drop k w) long) ∙ ap remainder_of (take-append-drop k w)
+    ∙ xored a b c h (number (take 64 (drop 64 back))) (number (drop 128 back)) hb hc
+    (packed_lt _ 64 (omega (arith, length-take-le 64 (drop 64 back) (omega (arith, length-drop 64 back, long))))) (packed_lt _ 64 (omega (arith, length-drop 128 back, long)))
+    ∙ ap₂ (λ (x y : ℕ). bit_xor x y) ep (ap (λ (x : ℕ). joined x (number (take 64 (drop 64 back))) (number (drop 128 back))) eh ∙ sym (last_words back long))
+    ∙ sym (remainder_split front back long) ∙ ap remainder_of (ap₂ ◌++◌ ef eb ∙ take-append-drop k w)
   where
-    M : ℕ
-    M = number (take 64 (drop (k + 64) w))
-
-    L : ℕ
-    L = number (take 64 (drop (k + 128) w))
-
-    long : length (drop k w) ≡ 192
-    long = length-drop k w ∙ ap (λ (n : ℕ). n - k) e ∙ add-sub_cancel_left k 192
+    long : length back ≡ 192
+    long = ap length eb ∙ length-drop k w ∙ ap (λ (n : ℕ). n - k) e ∙ add-sub_cancel_left k 192

@@ -1,23 +1,20 @@
 // Words of the BCH code and their remainders by the generator, a byte at a time.
 #![tactic(auto)]
 
-ghost use Rattle.std.specs.Prelude.{◌≡◌, ◌++◌, ◌+◌, ◌≤◌, length, take, drop};
-ghost use Rattle.std.proofs.Math.Seq.{paste};
+ghost use Rattle.std.specs.Prelude.{◌≡◌, ◌++◌, ◌≤◌, length, drop};
 ghost use Rattle.bch_table.specs.Step.{value_of};
 ghost use Rattle.bch_remainder.specs.Word.{number, parity_of, remainder_of, bits_of, parity_bits};
 
 use bch_table::Reg;
 
-// The low bits of `count` bytes as a number, the highest power first.
-fn pack(word: &[u8], from: usize, count: usize) -> u64
-    requires { (from + count ≤ length word.now) × (count ≤ 64) }
-    ensures { result ≡ number (take count (drop from word.now)) }
+// The low bits of bytes as a number, the highest power first.
+fn pack(bits: &[u8]) -> u64
+    requires { length bits.now ≤ 64 }
+    ensures { result ≡ number bits.now }
 {
-    let mut v: u64 = 0;
-    let mut i: usize = 0;
-    while i < count {
-        v = v * 2 + ((word[from + i] as u64) & 1);
-        i += 1;
+    let mut v = 0;
+    for bit in bits {
+        v = v * 2 + (*bit & 1) as u64;
     }
     v
 }
@@ -26,24 +23,10 @@ fn pack(word: &[u8], from: usize, count: usize) -> u64
 pub fn parity_register(message: &[u8]) -> Reg
     ensures { value_of result ≡ parity_of message.now }
 {
-    let table = bch_table::table();
-    let n = message.len();
-    let short = n % 8;
-    let first = pack(message, 0, short);
-    let mut r = bch_table::step(
-        &table[..],
-        Reg {
-            hi: 0,
-            mid: 0,
-            lo: 0,
-        },
-        first,
-    );
-    let mut i = short;
-    while i < n {
-        let b = pack(message, i, 8);
-        r = bch_table::step(&table[..], r, b);
-        i += 8;
+    let (short, bytes) = message.split_at(message.len() % 8);
+    let mut r = Reg::ZERO.step(pack(short) as u8);
+    for byte in bytes.chunks_exact(8) {
+        r = r.step(pack(byte) as u8);
     }
     r
 }
@@ -53,27 +36,22 @@ pub fn remainder(word: &[u8]) -> Reg
     requires { 192 ≤ length word.now }
     ensures { value_of result ≡ remainder_of word.now }
 {
-    let k = word.len() - 192;
-    let r = parity_register(&word[..k]);
-    let hi = pack(word, k, 64);
-    let mid = pack(word, k + 64, 64);
-    let lo = pack(word, k + 128, 64);
+    let (message, parity) = word.split_at(word.len() - 192);
+    let r = parity_register(message);
     Reg {
-        hi: r.hi ^ hi,
-        mid: r.mid ^ mid,
-        lo: r.lo ^ lo,
+        hi: r.hi ^ pack(&parity[..64]),
+        mid: r.mid ^ pack(&parity[64..128]),
+        lo: r.lo ^ pack(&parity[128..]),
     }
 }
 
-// Sixty-four bits, the highest first, from place `at` on.
-fn write_word(v: u64, out: &mut [u8], at: usize)
-    requires { at + 64 ≤ length out.old }
-    ensures { out.new ≡ paste out.old at (bits_of 64 v) 64 }
+// Sixty-four bits, the highest first.
+fn write_word(v: u64, out: &mut [u8])
+    requires { length out.old ≡ 64 }
+    ensures { out.new ≡ bits_of 64 v }
 {
-    let mut i: usize = 0;
-    while i < 64 {
-        out[at + i] = ((v >> (63 - i)) & 1) as u8;
-        i += 1;
+    for (i, bit) in out.iter_mut().enumerate() {
+        *bit = ((v >> (63 - i)) & 1) as u8;
     }
 }
 
@@ -82,7 +60,7 @@ pub fn write_parity(r: Reg, out: &mut [u8])
     requires { 192 ≤ length out.old }
     ensures { out.new ≡ parity_bits (value_of r) ++ drop 192 out.old }
 {
-    write_word(r.hi, out, 0);
-    write_word(r.mid, out, 64);
-    write_word(r.lo, out, 128);
+    write_word(r.hi, &mut out[..64]);
+    write_word(r.mid, &mut out[64..128]);
+    write_word(r.lo, &mut out[128..192]);
 }

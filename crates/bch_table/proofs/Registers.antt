@@ -2,23 +2,19 @@
 -- the register of 0 is 0, that of 2 ^ (i + 1) is that of 2 ^ i shifted once, and that of t is that of t without its top digit, with that of its top digit added.
 -- Laws on remainders turn what it shows into t(x) times x^e mod g, whatever e is.
 -- Assumes nothing.
-use mathlib.Core.Path.{◌≡◌, refl, sym, ap, ap₂, ◌∙◌, subst}
-use mathlib.Core.List.{List, [], ◌∷◌, ◌++◌, map}
-use Prim.Native.Nat.{ℕ, zero, suc, ◌+◌, ◌-◌, ◌*◌, ◌^◌, ◌≤◌, ◌<◌}
-use native.Mathlib.Nat.{not-suc-le-zero, le_of_suc-le-suc, le_of_lt, lt_of_lt_of_le, lt_of_not-le, le_refl, add_comm, zero-mul, one-mul, pow-suc, mul-div_cancel, mul-mod_left, two-pow-succ, add-zero, zero-add, add-suc, suc-add}
+use Rattle.std.proofs.Common.{◌≡◌, refl, sym, ap, ap₂, ◌∙◌, subst, List, [], ◌∷◌, ◌++◌, map, ℕ, zero, suc, ◌+◌, ◌-◌, ◌*◌, ◌^◌, ◌≤◌, ◌<◌, not-suc-le-zero, le_of_suc-le-suc, le_of_lt, lt_of_lt_of_le, lt_of_not-le, le_refl, add_comm, zero-mul, one-mul, pow-suc, mul-div_cancel, add-zero, zero-add, add-suc, suc-add, arith, lit<, length, get_or, length-append, get_or-append-add, pow_mono, shl_lt}
+use native.Mathlib.Nat.{mul-mod_left, two-pow-succ}
 use native.Mathlib.Decide.{dec_le}
-use native.Mathlib.Omega.{arith}
 use lib.Arith.{lt-one}
-use lib.ListN.{length, get_or, length-append, length-map, get_or-append}
-use lib.Seq.{get_or-append-add}
-use lib.Pow.{pow_mono, pow-lt, shl_lt}
+use lib.ListN.{length-map, get_or-append}
+use lib.Pow.{pow-lt}
 use Rattle.laws.specs.Xor.{two_pos}
 use Rattle.laws.specs.Definitions.{◌⊕◌, rem, into, shifted}
 use Rattle.laws.specs.Poly.{rem_zero, rem_add, rem_digits, ⊕-join, ⊕-shift}
 use Rattle.bch_table.specs.Generator.{generator}
 use Rattle.bch_table.specs.GeneratorLaws.{generator_is}
-use Rattle.bch_table.specs.Table.{times_power, word_of, table_from, byte_table}
-use Rattle.bch_table.proofs.Entries.{table}
+use Rattle.bch_table.specs.Table.{times_power, word_of, table_from, byte_table, table_at}
+use Rattle.bch_table.specs.declared.TheConstants.{TABLE}
 
 -- a list, and after it the same with r added to each
 unfoldable both_halves : ℕ → List ℕ → List ℕ
@@ -39,9 +35,14 @@ unfoldable words : List ℕ → List ℕ
 words [] = []
 words (r ∷ rs) = word_of 0 r ∷ word_of 1 r ∷ word_of 2 r ∷ words rs
 
+-- the words of the code's registers
+unfoldable pub words_of : List (List ℕ) → List ℕ
+words_of [] = []
+words_of (r ∷ rs) = get_or r 0 0 ∷ get_or r 1 0 ∷ get_or r 2 0 ∷ words_of rs
+
 -- ---- the test
-table_is : words (registers 0x13b92f15b3078b68d77aa6c59656e8a4cfba9211137981c4b 0x3b92f15b3078b68d77aa6c59656e8a4cfba9211137981c4b 8) ≡ table
-unfolding words registers both_halves doubled word_of into shifted ◌⊕◌
+table_is : words (registers 0x13b92f15b3078b68d77aa6c59656e8a4cfba9211137981c4b 0x3b92f15b3078b68d77aa6c59656e8a4cfba9211137981c4b 8) ≡ words_of TABLE
+unfolding words words_of registers both_halves doubled word_of into shifted ◌⊕◌
 table_is = refl
 
 -- x^192 mod g is g without its top digit
@@ -141,7 +142,7 @@ words_from e t (r ∷ rs) h =
     ap₂ (λ (x : ℕ) (l : List ℕ). word_of 0 x ∷ word_of 1 x ∷ word_of 2 x ∷ l) (h 0 (omega arith) ∙ ap (times_power e) (add-zero t))
     (words_from e (suc t) rs (λ i g. h (suc i) (omega arith) ∙ ap (times_power e) (add-suc t i ∙ sym (suc-add t i))))
 
-pub table_rule : table ≡ byte_table
+pub table_rule : words_of TABLE ≡ byte_table
 unfolding byte_table
 table_rule =
     sym table_is ∙ ap₂ (λ (g r : ℕ). words (registers g r 8)) (sym generator_is) (sym first)
@@ -153,3 +154,23 @@ table_rule =
 
     long : length rs ≡ 256
     long = registers_length generator (times_power 192 1) 8
+
+-- ---- the register of a byte
+word_in : (l : List (List ℕ)) (t : ℕ) (d : List ℕ) → t < length l
+    → (get_or (words_of l) (t * 3 + 0) 0 ≡ get_or (get_or l t d) 0 0) × (get_or (words_of l) (t * 3 + 1) 0 ≡ get_or (get_or l t d) 1 0)
+    × (get_or (words_of l) (t * 3 + 2) 0 ≡ get_or (get_or l t d) 2 0)
+unfolding words_of
+word_in [] t d h = absurd (not-suc-le-zero h)
+word_in (r ∷ l) zero d h = (refl, refl, refl)
+word_in (r ∷ l) (suc t) d h = let w = word_in l t d (le_of_suc-le-suc h) in (past 0 w.0, past 1 w.1, past 2 w.2)
+  where
+    past : (k : ℕ) {x : ℕ} → get_or (words_of l) (t * 3 + k) 0 ≡ x → get_or (words_of (r ∷ l)) (suc t * 3 + k) 0 ≡ x
+    past k e = let three : suc t * 3 + k ≡ suc (suc (suc (t * 3 + k))) = omega arith in ap (λ (m : ℕ). get_or (words_of (r ∷ l)) m 0) three ∙ e
+
+pub register_at : (t : ℕ) (d : List ℕ) → t < 256
+    → (get_or (get_or TABLE t d) 0 0 ≡ word_of 0 (times_power 192 t)) × (get_or (get_or TABLE t d) 1 0 ≡ word_of 1 (times_power 192 t))
+    × (get_or (get_or TABLE t d) 2 0 ≡ word_of 2 (times_power 192 t))
+register_at t d h = let w = word_in TABLE t d h in (at 0 (lit< tt) w.0, at 1 (lit< tt) w.1, at 2 (lit< tt) w.2)
+  where
+    at : (k : ℕ) {x : ℕ} → k < 3 → get_or (words_of TABLE) (t * 3 + k) 0 ≡ x → x ≡ word_of k (times_power 192 t)
+    at k hk e = sym e ∙ ap (λ (l : List ℕ). get_or l (t * 3 + k) 0) table_rule ∙ table_at t k h hk

@@ -1,20 +1,19 @@
-use native.Mathlib.Omega.{arith}
+use Rattle.std.proofs.Common.{ap, ◌∙◌}
+use Rattle.std.proofs.lemmas.List.{nil_from_length}
 use Rattle.bch_table.specs.Generator.{masks}
 use Rattle.bch_table.proofs.Product.{generator_start, generator_long, generator_again, generator_end}
 use Rattle.bch_table.proofs.generator.Goals as goal
 
-pub loop-i-init : goal.loop-i-init
-loop-i-init c = generator_start
-
-pub offset_bounds-i : goal.offset_bounds-i
-offset_bounds-i c = omega (arith, c.loop-i.invariant.within)
+pub loop-mask-init : goal.loop-mask-init
+unfolding masks
+loop-mask-init c =
+    generator_start _ (ap (λ r. r.iter.rest.now) c.into_iter-mask-iterator.ensures.into_iter_gives ∙ ap (λ i. i.rest.now) c.rev-mask-items.ensures.source ∙ c.iter.ensures.rest)
 
 pub times-next-requires : goal.times-next-requires
-times-next-requires c = generator_long c.loop-i.g c.loop-i.i c.loop-i.invariant
+times-next-requires c = generator_long _ _ c.loop-mask.invariant
 
-pub loop-i-preserved : goal.loop-i-preserved
-unfolding masks
-loop-i-preserved c = generator_again c.loop-i.g c.times-next.result c.loop-i.i c.loop-i.invariant c.loop-i-test.true c.times-next.ensures
+pub loop-mask-preserved : goal.loop-mask-preserved
+loop-mask-preserved c = generator_again _ _ _ _ _ c.loop-mask.invariant c.in-Some.ensures.steps c.times-next.ensures
 
 pub returns : goal.returns
-returns c = generator_end c.loop-i.g c.loop-i.i c.loop-i.invariant c.loop-i-test.false
+returns c = generator_end _ _ c.loop-mask.invariant (nil_from_length _ c.in-None.ensures.steps.0)

@@ -1,10 +1,7 @@
--- `bch_table::generator` meets its contract. The loop: g is the product of the entries from i on.
+-- `bch_table::generator` meets its contract. The loop: g is the product of the entries passed.
 -- Assumes nothing.
 use Rattle.bch_table.proofs.Product.{Multiplying}
 use Rattle.bch_table.proofs.generator.Given as goal
 
-abbrev pub invariant-loop-i : goal.invariant-loop-i
-invariant-loop-i l = Multiplying l.g l.i
-
-abbrev pub decreases-loop-i : goal.decreases-loop-i
-decreases-loop-i l = l.i
+abbrev pub invariant-loop-mask : goal.invariant-loop-mask
+invariant-loop-mask l = Multiplying l.g l.mask-iterator.iter.rest.now

@@ -1,10 +1,6 @@
-use mathlib.Core.Path.{refl}
-use lib.ListN.{replicate}
-use Rattle.bch_table.proofs.Product.{sum_start, sum_again, sum_end}
+use Rattle.std.proofs.Common.{replicate}
+use Rattle.bch_table.proofs.Product.{sum_again, sum_end}
 use Rattle.bch_table.proofs.next_digit.Goals as goal
-
-pub loop-i-init : goal.loop-i-init
-loop-i-init c = sum_start c.args.digit c.args.a c.args.g (replicate 193 0) refl
 
 pub loop-i-preserved : goal.loop-i-preserved
 loop-i-preserved c = sum_again c.args.digit c.args.a c.args.g (replicate 193 0) c.loop-i.out c.loop-i.below c.loop-i.i c.requires.2 c.loop-i.invariant c.loop-i-test.true

@@ -5,6 +5,3 @@ use Rattle.bch_table.proofs.times.Given as goal
 
 abbrev pub invariant-loop-j : goal.invariant-loop-j
 invariant-loop-j l = Multiplied l.mask l.g l.out l.j
-
-abbrev pub decreases-loop-j : goal.decreases-loop-j
-decreases-loop-j l = l.j
