@@ -1,10 +1,5 @@
 -- An array of sixteen that a loop fills: each entry below i meets P. Assumes nothing.
-use mathlib.Core.Path.{◌≡◌, refl, ◌∙◌}
-use mathlib.Core.List.{List}
-use Prim.Native.Nat.{ℕ, ◌+◌, ◌*◌, ◌≤◌, ◌<◌}
-use native.Mathlib.Nat.{mul-le-mul, le_of_suc-le-suc}
-use native.Mathlib.Omega.{arith}
-use lib.ListN.{get_or, set, length-set, replicate}
+use Rattle.std.proofs.Common.{◌≡◌, refl, ◌∙◌, List, ℕ, ◌+◌, ◌*◌, ◌≤◌, ◌<◌, mul-le-mul, le_of_suc-le-suc, arith, get_or, set, length-set, replicate}
 use Rattle.algebra.specs.Series.{ev}
 use Rattle.gf16.specs.Field16.{R16, α}
 use Rattle.bch_locator.specs.Element.{to_el, poly}

@@ -1,15 +1,6 @@
 -- The remainder's value at the odd powers of α, from the top digit down in all lanes at once; the even powers by squares. Assumes nothing.
-use mathlib.Core.Path.{◌≡◌, refl, sym, ap, ap₂, ◌∙◌, subst}
-use mathlib.Core.List.{List}
-use Prim.Native.Nat.{ℕ, zero, suc, ◌+◌, ◌-◌, ◌*◌, ◌/◌, ◌%◌, ◌^◌, ◌≤◌, ◌<◌}
-use native.Mathlib.Nat.{mod-lt, mod-eq_of_lt, mul-one, not-suc-le-zero, div-one}
-use native.Mathlib.Numerals.{add-one}
+use Rattle.std.proofs.Common.{◌≡◌, refl, sym, ap, ap₂, ◌∙◌, List, ℕ, zero, suc, ◌+◌, ◌-◌, ◌*◌, ◌/◌, ◌%◌, ◌^◌, ◌≤◌, ◌<◌, mod-lt, not-suc-le-zero, div-one, add-one, arith, bit_xor, bit_and, shr-shr, get_or, length, set, length-set, replicate, get_or-set_same, get_or-set_other}
 use native.Mathlib.Decide.{ℕ_discrete}
-use native.Mathlib.Omega.{arith}
-use lib.Bits.{bit_xor}
-use lib.Pow.{shr-shr}
-use lib.ListN.{get_or, length, set, length-set, replicate}
-use lib.Seq.{get_or-set_same, get_or-set_other}
 use Rattle.laws.specs.Xor.{⊕-lt, two_cases, two_pos}
 use Rattle.laws.specs.Definitions.{◌⊕◌}
 use Rattle.algebra.specs.RingLaws.{one-⊠, ⊠-zero, zero-⊞}
@@ -23,7 +14,7 @@ use Rattle.bch_table.specs.Step.{joined}
 use Rattle.bch_locator.specs.Element.{to_el, to_el_xor, to_el_zero, to_el_one, poly}
 use Rattle.bch_locator.specs.Lanes.{Lanes, Products, PowersOf}
 use Rattle.bch_locator.specs.Syndromes.{Syndromes, odd, first_part, second_part, Added, Horner, Squared}
-use Rattle.bch_locator.proofs.Product.{digit_top, digit_next}
+use Rattle.bch_table.specs.Digits.{low_bit}
 use Rattle.bch_locator.proofs.Raised.{lanes_raised, ev_join}
 use Rattle.bch_locator.proofs.Filling.{Filling}
 use Rattle.laws.specs.Lists.{zeros_at}
@@ -45,22 +36,14 @@ pub added_end : (r s : List ℕ) (b i : ℕ) → 16 ≤ i → Filling (Plus s b)
 unfolding poly
 added_end r s b i h F = record { lanes = F.lanes; at = λ j g. ap to_el (F.at j (omega arith)) ∙ to_el_xor (get_or s j 0) b }
 
--- ---- the loop of `digits`: k digits of w are done
-pub record Partial (r s : List ℕ) (w y k : ℕ) : Type 0 where
+-- ---- the loop of `digits`: the digits of w from k up are done
+pub record Partial (r s : List ℕ) (w k : ℕ) : Type 0 where
   pub lanes : Lanes r
-  pub most : k ≤ 64
-  pub left : y ≡ w * 2 ^ k % 2 ^ 64
-  pub at : (i : ℕ) → i < 12 → poly r i ≡ R16.◌⊞◌ (R16.◌⊠◌ (pow R16 (odd i) k) (poly s i)) (ev R16 k (w / 2 ^ (64 - k)) (odd i))
+  pub at : (i : ℕ) → i < 12 → poly r i ≡ R16.◌⊞◌ (R16.◌⊠◌ (pow R16 (odd i) (64 - k)) (poly s i)) (ev R16 (64 - k) (w / 2 ^ k) (odd i))
 
-pub partial_start : (s : List ℕ) (w : ℕ) → w < 2 ^ 64 → Lanes s → Partial s s w w 0
+pub partial_start : (s : List ℕ) (w : ℕ) → Lanes s → Partial s s w 64
 unfolding pow ev
-partial_start s w h L =
-    record {
-      lanes = L;
-      most = omega arith;
-      left = sym (ap (λ (z : ℕ). z % 2 ^ 64) (mul-one w) ∙ mod-eq_of_lt h);
-      at = λ i g. sym (R16.⊞-zero _ ∙ one-⊠ R16 (poly s i));
-    }
+partial_start s w L = record { lanes = L; at = λ i g. sym (R16.⊞-zero _ ∙ one-⊠ R16 (poly s i)) }
 
 bit_is : (d : ℕ) → d < 2 → to_el d ≡ bit R16 d
 unfolding bit
@@ -83,48 +66,35 @@ odd_times : (i : ℕ) (x : El 15) → R16.◌⊠◌ (pow R16 α (second_part i))
 unfolding odd
 odd_times i x = sym (R16.⊠-assoc _ _ _) ∙ ap (λ z. R16.◌⊠◌ z x) (sym (pow_add R16 α (second_part i) (first_part i)) ∙ ap (pow R16 α) (parts i))
 
-module _ (s : List ℕ) (w : ℕ) (r : List ℕ) (y k : ℕ) (D : Partial r s w y k) (h : k < 64) where
-  top : y / 2 ^ 63 ≡ w / 2 ^ (63 - k) % 2
-  top = digit_top 63 w k (63 - k) y (omega arith) D.left
+pub partial_again : (s : List ℕ) (w : ℕ) (r : List ℕ) (k : ℕ) (one two next p q : List ℕ) → Partial r s w k → 0 < k → k ≤ 64
+    → PowersOf p first_part → PowersOf q second_part → Products one r p → Products two one q → Added next two (bit_and (w / 2 ^ (k - 1)) 1) → Partial next s w (k - 1)
+partial_again s w r k one two next p q D h le P Q U W A =
+    record {
+      lanes = A.lanes;
+      at = λ i g.
+          A.at i (omega arith) ∙ ap₂ R16.◌⊞◌ (times i g ∙ ap (R16.◌⊠◌ (odd i)) (D.at i g)) (ap to_el (low_bit (w / 2 ^ (k - 1))) ∙ bit_is (w / 2 ^ (k - 1) % 2) (mod-lt (w / 2 ^ (k - 1)) two_pos))
+          ∙ horner_step (odd i) (poly s i) (64 - k) (w / 2 ^ k) (w / 2 ^ (k - 1)) half
+          ∙ ap (λ (m : ℕ). R16.◌⊞◌ (R16.◌⊠◌ (pow R16 (odd i) m) (poly s i)) (ev R16 m (w / 2 ^ (k - 1)) (odd i))) more;
+    }
+  where
+    times : (i : ℕ) → i < 12 → poly two i ≡ R16.◌⊠◌ (odd i) (poly r i)
+    times i g =
+        lanes_raised two one q second_part U.lanes Q W i g ∙ ap (R16.◌⊠◌ (pow R16 α (second_part i))) (lanes_raised one r p first_part D.lanes P U i g)
+        ∙ odd_times i (poly r i)
 
-  pub digit_lt : y / 2 ^ 63 < 2
-  digit_lt = subst (λ (z : ℕ). z < 2) (sym top) (mod-lt (w / 2 ^ (63 - k)) two_pos)
+    more : 64 - k + 1 ≡ 64 - (k - 1)
+    more = omega arith
 
-  pub partial_again : (one two next p q : List ℕ) → PowersOf p first_part → PowersOf q second_part → Products one r p → Products two one q → Added next two (y / 2 ^ 63)
-      → Partial next s w (y * 2 % 2 ^ 64) (k + 1)
-  partial_again one two next p q P Q U W A =
-      record {
-        lanes = A.lanes;
-        most = omega arith;
-        left = digit_next 64 w k y D.left;
-        at = λ i g.
-            A.at i (omega arith) ∙ ap₂ R16.◌⊞◌ (times i g ∙ ap (R16.◌⊠◌ (odd i)) (D.at i g)) (bit_is (y / 2 ^ 63) digit_lt ∙ ap (bit R16) top)
-            ∙ step (odd i) (poly s i);
-      }
-    where
-      times : (i : ℕ) → i < 12 → poly two i ≡ R16.◌⊠◌ (odd i) (poly r i)
-      times i g =
-          lanes_raised two one q second_part U.lanes Q W i g ∙ ap (R16.◌⊠◌ (pow R16 α (second_part i))) (lanes_raised one r p first_part D.lanes P U i g)
-          ∙ odd_times i (poly r i)
+    half : w / 2 ^ k ≡ w / 2 ^ (k - 1) / 2
+    half = let e : k ≡ k - 1 + 1 = omega arith in ap (λ (z : ℕ). w / 2 ^ z) e ∙ sym (shr-shr w (k - 1) 1)
 
-      less : 63 - k ≡ 64 - (k + 1)
-      less = omega arith
-
-      half : w / 2 ^ (64 - k) ≡ w / 2 ^ (63 - k) / 2
-      half = let e : 64 - k ≡ 63 - k + 1 = omega arith in ap (λ (z : ℕ). w / 2 ^ z) e ∙ sym (shr-shr w (63 - k) 1)
-
-      step : (z x : El 15)
-          → R16.◌⊞◌ (R16.◌⊠◌ z (R16.◌⊞◌ (R16.◌⊠◌ (pow R16 z k) x) (ev R16 k (w / 2 ^ (64 - k)) z))) (bit R16 (w / 2 ^ (63 - k) % 2))
-          ≡ R16.◌⊞◌ (R16.◌⊠◌ (pow R16 z (k + 1)) x) (ev R16 (k + 1) (w / 2 ^ (64 - (k + 1))) z)
-      step z x = horner_step z x k (w / 2 ^ (64 - k)) (w / 2 ^ (63 - k)) half ∙ ap (λ (m : ℕ). R16.◌⊞◌ (R16.◌⊠◌ (pow R16 z (k + 1)) x) (ev R16 (k + 1) (w / 2 ^ m) z)) less
-
-pub partial_end : (r s : List ℕ) (w y k : ℕ) → w < 2 ^ 64 → 64 ≤ k → Partial r s w y k → Horner r s w
-partial_end r s w y k hw h D =
-    let e : k ≡ 64 = omega (arith, D.most) in
+pub partial_end : (r s : List ℕ) (w k : ℕ) → w < 2 ^ 64 → k ≤ 0 → Partial r s w k → Horner r s w
+partial_end r s w k hw h D =
+    let e : k ≡ 0 = omega arith in
     record {
       lanes = D.lanes;
       fit = hw;
-      at = λ i g. D.at i g ∙ ap (λ (m : ℕ). R16.◌⊞◌ (R16.◌⊠◌ (pow R16 (odd i) m) (poly s i)) (ev R16 m (w / 2 ^ (64 - m)) (odd i))) e
+      at = λ i g. D.at i g ∙ ap (λ (m : ℕ). R16.◌⊞◌ (R16.◌⊠◌ (pow R16 (odd i) (64 - m)) (poly s i)) (ev R16 (64 - m) (w / 2 ^ m) (odd i))) e
           ∙ ap (λ (m : ℕ). R16.◌⊞◌ (R16.◌⊠◌ (pow R16 (odd i) 64) (poly s i)) (ev R16 64 m (odd i))) (div-one w);
     }
 

@@ -6,3 +6,4 @@ mod Filling
 mod Raised
 mod Search
 mod Horner
+mod Constants

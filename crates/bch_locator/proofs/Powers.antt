@@ -1,7 +1,5 @@
 -- The loop of `inverse`: the product so far, and what is left of the power, are the inverse. Assumes nothing.
-use mathlib.Core.Path.{◌≡◌, sym, ap, ap₂, ◌∙◌}
-use Prim.Native.Nat.{ℕ, suc, ◌+◌, ◌-◌, ◌≤◌, ◌<◌}
-use native.Mathlib.Omega.{arith}
+use Rattle.std.proofs.Common.{◌≡◌, sym, ap, ap₂, ◌∙◌, ℕ, suc, ◌+◌, ◌-◌, ◌≤◌, ◌<◌, arith}
 use Rattle.algebra.specs.RingLaws.{ones_power, one-⊠}
 use Rattle.algebra.specs.GfField.{gf_field}
 use Rattle.algebra.specs.Gf.{El}

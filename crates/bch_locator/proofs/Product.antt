@@ -1,13 +1,8 @@
--- The digits of a number, the highest first, as the code takes them: b shifted up by i in 1 + n digits. And the product of two polynomials
--- so taken. Assumes nothing.
-use mathlib.Core.Path.{◌≡◌, refl, sym, ap, ap₂, ◌∙◌, subst}
-use Prim.Native.Nat.{ℕ, zero, suc, ◌+◌, ◌-◌, ◌*◌, ◌/◌, ◌%◌, ◌^◌, ◌≤◌, ◌<◌}
-use native.Mathlib.Nat.{mod-lt, pow-suc, mul_assoc, mul-le-mul, le_of_suc-le-suc, mod-eq_of_lt, add-mod, lt_of_lt_of_le, div-one, mul-one, le_refl}
-use native.Mathlib.Numerals.{add-one}
-use native.Mathlib.Omega.{arith}
-use lib.Pow.{pow_pos, pow_mono, field, shr-shr, shl-shr}
-use lib.Bits.{bit_xor}
-use Rattle.laws.specs.Xor.{⊕-comm, two_pos}
+-- The product of two polynomials, by Horner's rule over the digits of the second. Assumes nothing.
+use Rattle.std.proofs.Common.{◌≡◌, sym, ap, ap₂, ◌∙◌, subst, ℕ, zero, suc, ◌-◌, ◌*◌, ◌/◌, ◌%◌, ◌^◌, ◌≤◌, ◌<◌, lt_of_lt_of_le, div-one, le_refl, lit<, arith, pow_mono, bit_xor, bit_and}
+use Rattle.laws.specs.Xor.{⊕-comm}
+use Rattle.bch_table.specs.Digits.{low_bit}
+use Rattle.bch_table.proofs.Horner.{horner_next}
 use Rattle.laws.specs.Definitions.{◌⊕◌, clmul}
 use Rattle.laws.specs.Poly.{clmul_degree}
 use Rattle.algebra.specs.Values.{ev_clmul}
@@ -16,83 +11,36 @@ use Rattle.gf16.specs.Field16.{R16, α}
 use Rattle.bch_locator.specs.Element.{to_el}
 use Rattle.bch_locator.proofs.AtAlpha.{ev_itself}
 
--- the highest digit is the next
-pub digit_top : (n b i m y : ℕ) → i + m ≡ n → y ≡ b * 2 ^ i % 2 ^ (1 + n) → y / 2 ^ n ≡ b / 2 ^ m % 2
-digit_top n b i m y e f =
-    ap (λ (z : ℕ). z / 2 ^ n) f ∙ field (b * 2 ^ i) 1 n
-    ∙ ap (λ (z : ℕ). z % 2) (ap (λ (z : ℕ). b * 2 ^ i / 2 ^ z) (sym e) ∙ sym (shr-shr (b * 2 ^ i) i m) ∙ ap (λ (z : ℕ). z / 2 ^ m) (shl-shr b i))
-
--- and goes
-pub digit_next : (n b i y : ℕ) → y ≡ b * 2 ^ i % 2 ^ n → y * 2 % 2 ^ n ≡ b * 2 ^ (i + 1) % 2 ^ n
-digit_next n b i y f =
-    ap (λ (z : ℕ). z % 2 ^ n) (twice y ∙ ap₂ ◌+◌ f f) ∙ sym (add-mod (b * 2 ^ i) (b * 2 ^ i) (2 ^ n))
-    ∙ ap (λ (z : ℕ). z % 2 ^ n) (sym (twice (b * 2 ^ i)) ∙ mul_assoc b (2 ^ i) 2 ∙ ap (λ (z : ℕ). b * z) (sym (pow-suc 2 i) ∙ ap (λ (z : ℕ). 2 ^ z) (sym (add-one i))))
-  where
-    twice : (z : ℕ) → z * 2 ≡ z + z
-    twice z = omega arith
-
--- ---- the loop of `mul`: i digits of b are done
-pub record Taken (a b x y i : ℕ) : Type 0 where
-  pub most : i ≤ 16
-  pub done : x ≡ clmul i (b / 2 ^ (16 - i)) a
-  pub left : y ≡ b * 2 ^ i % 2 ^ 16
-
-pub taken_start : (a b : ℕ) → b < 65536 → Taken a b 0 b 0
+-- ---- the loop of `mul`: x is the product of a and the digits of b from i up
+pub product_small : (n q a : ℕ) → n ≤ 16 → a < 65536 → clmul n q a < 2147483648
 unfolding clmul
-taken_start a b h = record { most = omega arith; done = refl; left = sym (ap (λ (z : ℕ). z % 65536) (mul-one b) ∙ mod-eq_of_lt h) }
+product_small zero q a h ha = lit< tt
+product_small (suc n) q a h ha = lt_of_lt_of_le (clmul_degree n q 16 a ha) (pow_mono {j = 31} (omega arith))
 
-module _ (a b x y i : ℕ) (ha : a < 65536) (t : Taken a b x y i) (h : i < 16) where
-  top : y / 2 ^ 15 ≡ b / 2 ^ (15 - i) % 2
-  top = digit_top 15 b i (15 - i) y (omega arith) t.left
+pub product_start : (a b x : ℕ) → x ≡ 0 → x ≡ clmul 0 (b / 2 ^ 16) a
+unfolding clmul
+product_start a b x e = e
 
-  pub top_lt : y / 32768 < 2
-  top_lt = subst (λ (z : ℕ). z < 2) (sym top) (mod-lt (b / 2 ^ (15 - i)) two_pos)
+pub product_next : (a b x i : ℕ) → a < 65536 → 0 < i → i ≤ 16 → x ≡ clmul (16 - i) (b / 2 ^ i) a
+    → bit_xor (x * 2 % 4294967296) (bit_and (b / 2 ^ (i - 1)) 1 * a) ≡ clmul (16 - (i - 1)) (b / 2 ^ (i - 1)) a
+unfolding ◌⊕◌
+product_next a b x i ha h le e =
+    ap₂ (λ (y z : ℕ). bit_xor y (z * a)) whole (low_bit (b / 2 ^ (i - 1))) ∙ ⊕-comm (x * 2) (b / 2 ^ (i - 1) % 2 * a)
+    ∙ ap (λ (y : ℕ). bit_xor (b / 2 ^ (i - 1) % 2 * a) (y * 2)) e ∙ horner_next 16 b a i h le
+  where
+    small : x < 2147483648
+    small = subst (λ (z : ℕ). z < 2147483648) (sym e) (product_small (16 - i) (b / 2 ^ i) a (omega arith) ha)
 
-  pub room : x < 2147483648
-  unfolding clmul
-  room = small i refl
-    where
-      small : (j : ℕ) → i ≡ j → x < 2147483648
-      small zero e = subst (λ (z : ℕ). z < 2147483648) (sym (t.done ∙ ap (λ (z : ℕ). clmul z (b / 2 ^ (16 - i)) a) e)) (pow_pos 31)
-      small (suc j) e =
-          subst (λ (z : ℕ). z < 2147483648) (sym (t.done ∙ ap (λ (z : ℕ). clmul z (b / 2 ^ (16 - i)) a) e))
-          (lt_of_lt_of_le (clmul_degree j (b / 2 ^ (16 - i)) 16 a ha) (pow_mono {j = 31} (omega arith)))
+    whole : x * 2 % 4294967296 ≡ x * 2
+    whole = omega (arith, small)
 
-  pub taken_again : Taken a b (bit_xor (x * 2 % 4294967296) (y / 32768 * a)) (y * 2 % 65536) (i + 1)
-  unfolding clmul ◌⊕◌
-  taken_again =
-      record {
-        most = omega arith;
-        done =
-            ap₂ bit_xor whole (ap (λ (z : ℕ). z * a) top) ∙ ⊕-comm (x * 2) (b / 2 ^ (15 - i) % 2 * a)
-            ∙ ap (λ (z : ℕ). bit_xor (b / 2 ^ (15 - i) % 2 * a) (z * 2)) (t.done ∙ ap (λ (z : ℕ). clmul i z a) half)
-            ∙ ap₂ (λ (m n : ℕ). clmul n (b / 2 ^ m) a) less (sym (add-one i));
-        left = digit_next 16 b i y t.left;
-      }
-    where
-      whole : x * 2 % 4294967296 ≡ x * 2
-      whole = omega (arith, room)
-
-      half : b / 2 ^ (16 - i) ≡ b / 2 ^ (15 - i) / 2
-      half = let e : 16 - i ≡ 15 - i + 1 = omega arith in ap (λ (z : ℕ). b / 2 ^ z) e ∙ sym (shr-shr b (15 - i) 1)
-
-      less : 15 - i ≡ 16 - (i + 1)
-      less = omega arith
+pub product_fits : (a b x i : ℕ) → a < 65536 → x ≡ clmul (16 - i) (b / 2 ^ i) a → x < 2147483648
+product_fits a b x i ha e = subst (λ (z : ℕ). z < 2147483648) (sym e) (product_small (16 - i) (b / 2 ^ i) a (omega arith) ha)
 
 -- all of them
-pub taken_end : (a b x y i r : ℕ) → a < 65536 → b < 65536 → Taken a b x y i → 16 ≤ i → to_el r ≡ ev R16 32 x α → to_el r ≡ R16.◌⊠◌ (to_el a) (to_el b)
-taken_end a b x y i r ha hb t h e =
-    let n : i ≡ 16 = omega (arith, t.most) in
-    e
-    ∙ ap (λ (z : ℕ). ev R16 32 z α) (t.done ∙ ap₂ (λ (m k : ℕ). clmul k (b / 2 ^ m) a) (ap (λ (z : ℕ). 16 - z) n) n ∙ ap (λ (z : ℕ). clmul 16 z a) (div-one b))
+pub product_end : (a b x i r : ℕ) → a < 65536 → b < 65536 → i ≤ 0 → x ≡ clmul (16 - i) (b / 2 ^ i) a → to_el r ≡ ev R16 32 x α → to_el r ≡ R16.◌⊠◌ (to_el a) (to_el b)
+product_end a b x i r ha hb h e f =
+    let n : i ≡ 0 = omega arith in
+    f
+    ∙ ap (λ (z : ℕ). ev R16 32 z α) (e ∙ ap (λ (k : ℕ). clmul (16 - k) (b / 2 ^ k) a) n ∙ ap (λ (z : ℕ). clmul 16 z a) (div-one b))
     ∙ ev_clmul R16 16 b a 16 32 α ha (le_refl 32) ∙ ap₂ R16.◌⊠◌ (ev_itself b hb) (ev_itself a ha) ∙ R16.⊠-comm (to_el b) (to_el a)
-
-pub taken_fits : (a b x y i : ℕ) → a < 65536 → Taken a b x y i → 16 ≤ i → x < 2147483648
-taken_fits a b x y i ha t h =
-    let n : i ≡ 16 = omega (arith, t.most) in
-    subst (λ (z : ℕ). z < 2147483648) (sym (t.done ∙ ap (λ (k : ℕ). clmul k (b / 2 ^ (16 - i)) a) n)) (clmul_degree 15 (b / 2 ^ (16 - i)) 16 a ha)
-
-pub product_lt : (y a : ℕ) → a < 65536 → y / 32768 < 2 → y / 32768 * a < 4294967296
-product_lt y a ha h =
-    let m : y / 32768 * a ≤ 1 * 65535 = mul-le-mul (le_of_suc-le-suc h) (le_of_suc-le-suc ha) in
-    omega arith

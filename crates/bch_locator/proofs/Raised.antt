@@ -1,14 +1,8 @@
 -- Lanes times powers of two are elements times powers of α. Assumes nothing.
-use mathlib.Core.Path.{◌≡◌, sym, ap, ap₂, ◌∙◌, subst}
-use mathlib.Core.List.{List}
-use Prim.Native.Nat.{ℕ, zero, suc, ◌+◌, ◌-◌, ◌*◌, ◌^◌, ◌≤◌, ◌<◌}
-use native.Mathlib.Nat.{pow-suc, mul_assoc}
+use Rattle.std.proofs.Common.{◌≡◌, sym, ap, ap₂, ◌∙◌, subst, List, ℕ, zero, suc, ◌+◌, ◌-◌, ◌*◌, ◌^◌, ◌≤◌, ◌<◌, pow-suc, mul_assoc, arith, T, eqb, eqb→eq, pow_mono, get_or, length}
 use native.Mathlib.Decide.{dec_lt}
-use native.Mathlib.Omega.{arith}
-use lib.Dec.{T, eqb, eqb→eq}
 use lib.Bits.{xor_shifted}
-use lib.Pow.{pow_mono}
-use lib.ListN.{get_or, length, get_or-eq_default}
+use lib.ListN.{get_or-eq_default}
 use Rattle.laws.specs.Definitions.{◌⊕◌}
 use Rattle.laws.specs.Tests.{below, below_at}
 use Rattle.algebra.specs.Ring.{Ring}

@@ -1,15 +1,8 @@
 -- The search: lane i holds c (l - 1 - i) α^(p (i + 1)), so that c l and the lanes' sum are α^(p l) times the register at α^-p. Assumes nothing.
-use mathlib.Core.Path.{◌≡◌, refl, sym, ap, ap₂, ◌∙◌, subst, transport}
-use mathlib.Core.Logic.{◌≢◌}
-use mathlib.Core.List.{List}
-use Prim.Native.Nat.{ℕ, zero, suc, ◌+◌, ◌-◌, ◌*◌, ◌≤◌, ◌<◌}
-use native.Mathlib.Nat.{zero-mul, mul-zero, suc-sub-suc, sub-zero, not-suc-le-zero}
-use native.Mathlib.Numerals.{add-one}
+use Rattle.std.proofs.Common.{◌≡◌, refl, sym, ap, ap₂, ◌∙◌, subst, ◌≢◌, List, ℕ, zero, suc, ◌+◌, ◌-◌, ◌*◌, ◌≤◌, ◌<◌, zero-mul, mul-zero, not-suc-le-zero, add-one, arith, bit_xor, get_or, length, set, length-set, replicate, get_or-set_other}
+use mathlib.Core.Path.{transport}
+use native.Mathlib.Nat.{suc-sub-suc, sub-zero}
 use native.Mathlib.Decide.{ℕ_discrete, dec_lt}
-use native.Mathlib.Omega.{arith}
-use lib.Bits.{bit_xor}
-use lib.ListN.{get_or, length, set, length-set, replicate}
-use lib.Seq.{get_or-set_other}
 use Rattle.laws.specs.Definitions.{◌⊕◌}
 use Rattle.algebra.specs.Ring.{Ring}
 use Rattle.algebra.specs.RingLaws.{⊠-zero, ⊠-lc, ⊞-cancel, one-⊠}

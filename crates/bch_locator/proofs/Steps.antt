@@ -1,15 +1,8 @@
 -- The loops of `discrepancy` and `mend`, and what holds at the head of the loop of `shortest`, which each way through keeps. Assumes nothing.
-use mathlib.Core.Path.{◌≡◌, refl, sym, ap, ap₂, ◌∙◌, subst, fun_ext, transport}
-use mathlib.Core.Logic.{◌≢◌}
-use mathlib.Core.List.{List}
-use Prim.Native.Nat.{ℕ, zero, suc, ◌+◌, ◌-◌, ◌≤◌, ◌<◌}
-use native.Mathlib.Nat.{le_refl}
-use native.Mathlib.Numerals.{add-one}
+use Rattle.std.proofs.Common.{◌≡◌, refl, sym, ap, ap₂, ◌∙◌, subst, ◌≢◌, List, ℕ, zero, suc, ◌+◌, ◌-◌, ◌≤◌, ◌<◌, le_refl, add-one, arith, bit_xor, get_or, length, set, get_or-set_same, get_or-set_other}
+use mathlib.Core.Path.{fun_ext, transport}
 use native.Mathlib.Decide.{dec_lt, ℕ_discrete}
-use native.Mathlib.Omega.{arith}
-use lib.Bits.{bit_xor}
-use lib.ListN.{get_or, length, set, get_or-eq_default}
-use lib.Seq.{get_or-set_same, get_or-set_other}
+use lib.ListN.{get_or-eq_default}
 use Rattle.laws.specs.Definitions.{◌⊕◌}
 use Rattle.algebra.specs.RingLaws.{⊠-zero}
 use Rattle.algebra.specs.Series.{conv}

@@ -29,13 +29,9 @@ fn fold(x: u32) -> u16
 pub fn mul(a: u16, b: u16) -> u16
     ensures { to_el result ≡ R16.◌⊠◌ (to_el a) (to_el b) }
 {
-    let mut x: u32 = 0;
-    let mut y = b;
-    let mut i: usize = 0;
-    while i < 16 {
-        x = (x << 1) ^ (((y >> 15) as u32) * (a as u32));
-        y = y << 1;
-        i += 1;
+    let mut x = 0;
+    for i in (0..16u32).rev() {
+        x = (x << 1) ^ (((b >> i) & 1) as u32 * a as u32);
     }
     fold(x)
 }
@@ -45,12 +41,10 @@ pub fn inverse(a: u16) -> u16
     ensures { to_el result ≡ gf16.inv (to_el a) }
 {
     let mut x = mul(a, a);
-    let mut r: u16 = 1;
-    let mut i: usize = 0;
-    while i < 15 {
+    let mut r = 1;
+    for _ in 0..15u32 {
         r = mul(r, x);
         x = mul(x, x);
-        i += 1;
     }
     r
 }
@@ -60,41 +54,29 @@ fn times(t: [u16; 16], p: [u16; 16]) -> [u16; 16]
     requires { Lanes t × ((i : ℕ) → get_or p i 0 ≤ 4096) }
     ensures { Products result t p }
 {
-    let mut r = [0u16; 16];
-    let mut i: usize = 0;
-    while i < 16 {
-        r[i] = fold((t[i] as u32) * (p[i] as u32));
-        i += 1;
+    let mut r = [0; 16];
+    for i in 0..16 {
+        r[i] = fold(t[i] as u32 * p[i] as u32);
     }
     r
 }
 
 // 2 to the 1, 3, 5, .. 11, and then to the 12; zeros.
-fn first_powers() -> [u16; 16]
-    ensures { PowersOf result first_part }
-{
-    [
-        2, 8, 32, 128, 512, 2048, 4096, 4096, 4096, 4096, 4096, 4096, 0, 0, 0, 0,
-    ]
-}
+const FIRST_POWERS: [u16; 16] = [
+    2, 8, 32, 128, 512, 2048, 4096, 4096, 4096, 4096, 4096, 4096, 0, 0, 0, 0,
+];
 
 // 2 to what is left of 1, 3, 5, .. 23; zeros.
-fn second_powers() -> [u16; 16]
-    ensures { PowersOf result second_part }
-{
-    [1, 1, 1, 1, 1, 1, 2, 8, 32, 128, 512, 2048, 0, 0, 0, 0]
-}
+const SECOND_POWERS: [u16; 16] = [1, 1, 1, 1, 1, 1, 2, 8, 32, 128, 512, 2048, 0, 0, 0, 0];
 
 // b added in each lane.
 fn add_bit(s: [u16; 16], b: u16) -> [u16; 16]
     requires { Lanes s }
     ensures { Added result s b }
 {
-    let mut r = [0u16; 16];
-    let mut i: usize = 0;
-    while i < 16 {
+    let mut r = [0; 16];
+    for i in 0..16 {
         r[i] = s[i] ^ b;
-        i += 1;
     }
     r
 }
@@ -104,18 +86,12 @@ fn digits(s: [u16; 16], w: u64) -> [u16; 16]
     requires { Lanes s }
     ensures { Horner result s w }
 {
-    let first = first_powers();
-    let second = second_powers();
     let mut r = s;
-    let mut y = w;
-    let mut k: usize = 0;
-    while k < 64 {
-        let one = times(r, first);
-        let two = times(one, second);
-        let next = add_bit(two, (y >> 63) as u16);
+    for k in (0..64u32).rev() {
+        let one = times(r, FIRST_POWERS);
+        let two = times(one, SECOND_POWERS);
+        let next = add_bit(two, ((w >> k) & 1) as u16);
         r = next;
-        y = y << 1;
-        k += 1;
     }
     r
 }
@@ -124,12 +100,10 @@ fn digits(s: [u16; 16], w: u64) -> [u16; 16]
 fn squares(t: [u16; 16]) -> [u16; 24]
     ensures { Squared result t }
 {
-    let mut s = [0u16; 24];
-    let mut k: usize = 0;
-    while k < 12 {
+    let mut s = [0; 24];
+    for k in 0..12 {
         s[2 * k] = t[k];
         s[2 * k + 1] = mul(s[k], s[k]);
-        k += 1;
     }
     s
 }
@@ -138,13 +112,9 @@ fn squares(t: [u16; 16]) -> [u16; 24]
 pub fn syndromes(r: Reg) -> [u16; 24]
     ensures { Syndromes result (value_of r) }
 {
-    let hi = r.hi;
-    let mid = r.mid;
-    let lo = r.lo;
-    let none = [0u16; 16];
-    let high = digits(none, hi);
-    let upper = digits(high, mid);
-    let all = digits(upper, lo);
+    let high = digits([0; 16], r.hi);
+    let upper = digits(high, r.mid);
+    let all = digits(upper, r.lo);
     squares(all)
 }
 
@@ -153,11 +123,9 @@ fn discrepancy(c: &[u16; 13], s: &[u16; 24], k: usize, l: usize) -> u16
     requires { (k < 24) × (l ≤ 12) × (l ≤ k) }
     ensures { to_el result ≡ total c.now s.now k (l + 1) }
 {
-    let mut d: u16 = 0;
-    let mut i: usize = 0;
-    while i <= l {
-        d = d ^ mul(c[i], s[k - i]);
-        i += 1;
+    let mut d = 0;
+    for i in 0..l + 1 {
+        d ^= mul(c[i], s[k - i]);
     }
     d
 }
@@ -167,10 +135,8 @@ fn mend(c: &mut [u16; 13], q: u16, m: usize, b: &[u16; 13])
     requires { length c.old ≡ 13 }
     ensures { Mended c.new c.old q m b.now }
 {
-    let mut i = m;
-    while i < 13 {
-        c[i] = c[i] ^ mul(q, b[i - m]);
-        i += 1;
+    for i in m..13 {
+        c[i] ^= mul(q, b[i - m]);
     }
 }
 
@@ -185,15 +151,13 @@ pub struct Register {
 pub fn shortest(s: [u16; 24]) -> Register
     ensures { RegisterOf s result.c result.len }
 {
-    let mut c = [0u16; 13];
+    let mut c = [0; 13];
     c[0] = 1;
-    let mut b = [0u16; 13];
-    b[0] = 1;
-    let mut l: usize = 0;
-    let mut m: usize = 1;
-    let mut e: u16 = 1;
-    let mut k: usize = 0;
-    while k < 24 {
+    let mut b = c;
+    let mut l = 0;
+    let mut m = 1;
+    let mut e = 1;
+    for k in 0..24 {
         let d = discrepancy(&c, &s, k, l);
         if d == 0 {
             m += 1;
@@ -202,7 +166,7 @@ pub fn shortest(s: [u16; 24]) -> Register
             if l + l <= k {
                 if 12 < k + 1 - l {
                     return Register {
-                        c: [0u16; 13],
+                        c: [0; 13],
                         len: 13,
                     };
                 }
@@ -217,29 +181,19 @@ pub fn shortest(s: [u16; 24]) -> Register
                 m += 1;
             }
         }
-        k += 1;
     }
-    Register { c: c, len: l }
+    Register { c, len: l }
 }
 
 // The sum of the lanes.
 fn lane_sum(t: [u16; 16]) -> u16
     ensures { to_el result ≡ sum R16 16 (poly t) }
 {
-    let mut r: u16 = 0;
-    let mut i: usize = 0;
-    while i < 16 {
-        r = r ^ t[i];
-        i += 1;
+    let mut r = 0;
+    for x in t {
+        r ^= x;
     }
     r
-}
-
-fn entry(c: [u16; 13], i: usize) -> u16
-    requires { i < 13 }
-    ensures { result ≡ get_or c i 0 }
-{
-    c[i]
 }
 
 // c[len - 1] down to c[0], and zeros.
@@ -247,23 +201,17 @@ fn reversed(c: [u16; 13], len: usize) -> [u16; 16]
     requires { len ≤ 12 }
     ensures { Reversed result c len }
 {
-    let mut t = [0u16; 16];
-    let mut i: usize = 0;
-    while i < len {
-        t[i] = entry(c, len - 1 - i);
-        i += 1;
+    let mut t = [0; 16];
+    for i in 0..len {
+        t[i] = c[len - 1 - i];
     }
     t
 }
 
 // 2 to the 1, 2, .. 12, and zeros.
-fn place_powers() -> [u16; 16]
-    ensures { PowersOf result suc }
-{
-    [
-        2, 4, 8, 16, 32, 64, 128, 256, 512, 1024, 2048, 4096, 0, 0, 0, 0,
-    ]
-}
+const PLACE_POWERS: [u16; 16] = [
+    2, 4, 8, 16, 32, 64, 128, 256, 512, 1024, 2048, 4096, 0, 0, 0, 0,
+];
 
 // The powers of the places, ascending, in the first `count` of `at`, and zeros behind them.
 #[derive(Drop)]
@@ -278,30 +226,22 @@ fn roots(c: [u16; 13], len: usize, n: usize) -> Places
     requires { (len ≤ 12) × (n ≤ 65535) × (poly c 0 ≡ R16.𝟙) }
     ensures { PlacesOf result.at result.count c len n }
 {
-    let powers = place_powers();
+    let last = c[len];
     let mut t = reversed(c, len);
-    let mut at = [0usize; 12];
-    let mut count: usize = 0;
-    let mut p: usize = 0;
-    while p < n {
-        if lane_sum(t) == entry(c, len) {
+    let mut at = [0; 12];
+    let mut count = 0;
+    for p in 0..n {
+        if lane_sum(t) == last {
             at[count] = p;
             count += 1;
             if count == len {
-                return Places {
-                    at: at,
-                    count: count,
-                };
+                return Places { at, count };
             }
         }
-        let next = times(t, powers);
+        let next = times(t, PLACE_POWERS);
         t = next;
-        p += 1;
     }
-    Places {
-        at: at,
-        count: count,
-    }
+    Places { at, count }
 }
 
 // The search for a register of length 1, 1 + c[1] x: its root is α^-p where c[1] is α^p.
@@ -309,18 +249,16 @@ fn root(c: [u16; 13], n: usize) -> Places
     requires { (n ≤ 65535) × (poly c 0 ≡ R16.𝟙) }
     ensures { PlacesOf result.at result.count c 1 n }
 {
-    let mut at = [0usize; 12];
-    let mut x: u16 = 1;
-    let mut p: usize = 0;
-    while p < n {
-        if x == entry(c, 1) {
+    let mut at = [0; 12];
+    let mut x = 1;
+    for p in 0..n {
+        if x == c[1] {
             at[0] = p;
-            return Places { at: at, count: 1 };
+            return Places { at, count: 1 };
         }
-        x = fold((x as u32) * 2);
-        p += 1;
+        x = fold(x as u32 * 2);
     }
-    Places { at: at, count: 0 }
+    Places { at, count: 0 }
 }
 
 // The Chien search: the powers below n, which are those present, at which the register vanishes.
@@ -328,10 +266,8 @@ pub fn chien(register: Register, n: usize) -> Places
     requires { (register.len ≤ 12) × (n ≤ 65535) × (poly register.c 0 ≡ R16.𝟙) }
     ensures { PlacesOf result.at result.count register.c register.len n }
 {
-    let c = register.c;
-    let len = register.len;
-    if len == 1 {
-        return root(c, n);
+    if register.len == 1 {
+        return root(register.c, n);
     }
-    roots(c, len, n)
+    roots(register.c, register.len, n)
 }

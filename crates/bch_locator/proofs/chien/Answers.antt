@@ -3,5 +3,5 @@
 use Rattle.bch_locator.proofs.Search.{places_length}
 use Rattle.bch_locator.proofs.chien.Goals as goal
 
-pub returns-then-len-eq1 : goal.returns-then-len-eq1
-returns-then-len-eq1 c = places_length _ _ _ 1 _ _ c.if-len-eq1.true c.root.ensures
+pub returns-then-register-eq1 : goal.returns-then-register-eq1
+returns-then-register-eq1 c = places_length _ _ _ 1 _ _ c.if-register-eq1.true c.root.ensures

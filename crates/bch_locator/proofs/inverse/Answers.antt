@@ -1,13 +1,12 @@
+use Rattle.std.proofs.Common.{arith}
 use Rattle.bch_locator.proofs.Powers.{inverse_start, inverse_again, inverse_end}
-use borrow.Author.Rules.{rules}
-use native.Mathlib.Omega.{arith}
 use Rattle.bch_locator.proofs.inverse.Goals as goal
 
-pub loop-i-init : goal.loop-i-init
-loop-i-init c = (omega arith, inverse_start _ _ c.mul-x.ensures)
+pub loop-init : goal.loop-init
+loop-init c = inverse_start _ _ c.mul-x.ensures
 
-pub loop-i-preserved : goal.loop-i-preserved
-loop-i-preserved c = (omega arith, inverse_again c.loop-i.r c.loop-i.x c.loop-i.i _ _ _ (search rules) c.loop-i.invariant.1 c.mul-r.ensures c.mul-x-in-loop-i.ensures)
+pub loop-preserved : goal.loop-preserved
+loop-preserved c = inverse_again c.loop.r c.loop.x c.loop.counter _ _ _ (omega arith) c.loop.invariant c.mul-r.ensures c.mul-x-in-loop.ensures
 
 pub returns : goal.returns
-returns c = inverse_end c.loop-i.r c.loop-i.x c.loop-i.i _ (search rules) c.loop-i.invariant.1
+returns c = inverse_end c.loop.r c.loop.x c.loop.counter _ (omega arith) c.loop.invariant

@@ -1,7 +1,5 @@
-use lib.ListN.{length-set}
+use Rattle.std.proofs.Common.{length-set, rules, arith}
 use Rattle.bch_locator.proofs.Steps.{mending_start, mending_again, mending_end}
-use borrow.Author.Rules.{rules}
-use native.Mathlib.Omega.{arith}
 use Rattle.bch_locator.proofs.mend.Goals as goal
 
 pub loop-i-init : goal.loop-i-init

@@ -1,11 +1,8 @@
--- `bch_locator::mul` meets its contract.
+-- `bch_locator::mul` meets its contract. The loop: x is the product of a and the digits of b from i up.
 -- Assumes nothing.
-use Prim.Native.Nat.{◌-◌}
-use Rattle.bch_locator.proofs.Product.{Taken}
+use Rattle.std.proofs.Common.{◌≡◌, ◌-◌, ◌/◌, ◌^◌}
+use Rattle.laws.specs.Definitions.{clmul}
 use Rattle.bch_locator.proofs.mul.Given as goal
 
 abbrev pub invariant-loop-i : goal.invariant-loop-i
-invariant-loop-i l = Taken l.a l.b l.x l.y l.i
-
-abbrev pub decreases-loop-i : goal.decreases-loop-i
-decreases-loop-i l = 16 - l.i
+invariant-loop-i l = l.x ≡ clmul (16 - l.i) (l.b / 2 ^ l.i) l.a

@@ -1,8 +1,6 @@
-use mathlib.Core.Path.{refl}
+use Rattle.std.proofs.Common.{refl, arith, rules}
 use Rattle.bch_locator.proofs.Steps.{state_zero, state_keep, state_grow, state_fail, state_end, state_start, state_move, one_first}
 use Rattle.laws.specs.Lists.{zeros_at}
-use native.Mathlib.Omega.{arith}
-use borrow.Author.Rules.{rules}
 use Rattle.bch_locator.proofs.shortest.Goals as goal
 use Rattle.bch_locator.proofs.shortest.Goals.{then-d-eq0, else-d-eq0+then-l-k+else-k-l-gt12, else-d-eq0+else-l-k}
 
