@@ -1,6 +1,7 @@
 -- The messages of the fresh lanes cleared: rows n to n + e − 1 of their columns are 0; all else is as it was.
-use Rattle.std.specs.Prelude.{◌≡◌, refl, Bool, true, false, cond, List, ℕ, zero, suc, ◌+◌, ◌≤◌, ◌<◌, ltb, get_or, ℤ, pos}
+use Rattle.std.specs.Prelude.{◌≡◌, refl, Bool, true, false, cond, List, ℕ, zero, suc, ◌+◌, ◌≤◌, ◌<◌, ltb, get_or, take, length, ℤ, pos}
 use Rattle.std.proofs.Common.{sym, ap, ◌∙◌, subst, arith, add-one, ltb-true}
+use Rattle.std.proofs.lemmas.List.{get_or-take, length-take-le}
 use Rattle.std.proofs.Math.Decide.{ℕ_discrete}
 use Rattle.laws.specs.Choice.{by_cond, by_bool}
 use Rattle.laws.specs.Put.{put_same, put_other, put_self}
@@ -12,31 +13,6 @@ use Rattle.fixed_lanes.specs.Place.{Placed}
 
 abbrev pub on : List Bool → ℕ → Bool
 on fresh i = get_or fresh i false
-
--- whether one of the first k lanes is fresh
-unfoldable pub some_fresh : List Bool → ℕ → Bool
-some_fresh fresh zero = false
-some_fresh fresh (suc k) = cond (on fresh k) true (some_fresh fresh k)
-
-pub none_start : (fresh : List Bool) → some_fresh fresh 0 ≡ false
-unfolding some_fresh
-none_start fresh = refl
-
-pub none_again : (fresh : List Bool) (k : ℕ) → on fresh k ≡ false → some_fresh fresh k ≡ false → some_fresh fresh (k + 1) ≡ false
-unfolding some_fresh
-none_again fresh k e v = ap (some_fresh fresh) (add-one k) ∙ ap (λ (b : Bool). cond b true (some_fresh fresh k)) e ∙ v
-
-pub some_at : (fresh : List Bool) (i k : ℕ) → i < k → on fresh i ≡ true → some_fresh fresh k ≡ true
-unfolding some_fresh
-some_at fresh i zero h e = absurd (omega (arith, h))
-some_at fresh i (suc k) h e = go (ℕ_discrete i k) (some_at fresh i k)
-  where
-    go : Dec (i ≡ k) → (i < k → on fresh i ≡ true → some_fresh fresh k ≡ true) → cond (on fresh k) true (some_fresh fresh k) ≡ true
-    go (yes z) ih = ap (λ (b : Bool). cond b true (some_fresh fresh k)) (ap (on fresh) (sym z) ∙ e)
-    go (no z) ih = by_cond (λ b. b ≡ true) (on fresh k) true (some_fresh fresh k) (λ _. refl) (λ _. ih (omega arith) e)
-
-none_at : (fresh : List Bool) (i k : ℕ) → i < k → some_fresh fresh k ≡ false → on fresh i ≡ false
-none_at fresh i k h e = by_bool (λ b. b ≡ false) (on fresh i) (λ f. sym (some_at fresh i k h f) ∙ e) (λ _. refl)
 
 -- ---- row u, of the first k lanes
 pub record RowCleared (lanes u : ℕ) (fresh : List Bool) (a : List ℤ) (k : ℕ) (a' : List ℤ) : Type 0 where
@@ -67,9 +43,6 @@ row_again {lanes} {u} {fresh} {a} {a'} {a''} {k} {x} {y} v h e f p =
         ∙ ap (λ (g : ℕ → ℤ). cond (on fresh k) (put g u (pos 0)) g) (v.still k (omega arith) h))
     go i q l (no z) = p.outside i l z ∙ v.done i (omega arith) l
 
-pub row_end : {lanes u : ℕ} {fresh : List Bool} {a a' : List ℤ} {k : ℕ} → k ≡ lanes → RowCleared lanes u fresh a k a' → RowCleared lanes u fresh a lanes a'
-row_end {lanes} {u} {fresh} {a} {a'} {k} e v = subst (λ (j : ℕ). RowCleared lanes u fresh a j a') e v
-
 -- ---- a column with the e rows from n on at 0
 unfoldable pub blank : ℕ → ℕ → (ℕ → ℤ) → ℕ → ℤ
 blank n zero f = f
@@ -97,10 +70,15 @@ pub clear_start : (n lanes : ℕ) (fresh : List Bool) (a : List ℤ) → Cleared
 unfolding blank
 clear_start n lanes fresh a = record { columns = λ i q. by_cond (λ f. column lanes a i ≡ f) (on fresh i) (column lanes a i) (column lanes a i) (λ _. refl) (λ _. refl) }
 
--- no lane is fresh
-pub clear_none : (n lanes : ℕ) (fresh : List Bool) (a : List ℤ) (e : ℕ) → some_fresh fresh lanes ≡ false → Cleared n lanes fresh a e a
-clear_none n lanes fresh a e none =
-    record { columns = λ i q. sym (ap (λ (b : Bool). cond b (blank n e (column lanes a i)) (column lanes a i)) (none_at fresh i lanes q none)) }
+-- the fresh lanes given as a part of a list, one for each lane
+pub clear_lanes : {n lanes e : ℕ} {fresh : List Bool} {a a' : List ℤ} → lanes ≤ length fresh → Cleared n (length (take lanes fresh)) (take lanes fresh) a e a' → Cleared n lanes fresh a e a'
+clear_lanes {n} {lanes} {e} {fresh} {a} {a'} h v =
+    let long : length (take lanes fresh) ≡ lanes = length-take-le lanes fresh h in
+    record {
+      columns = λ i q.
+          subst (λ (b : Bool). column lanes a' i ≡ cond b (blank n e (column lanes a i)) (column lanes a i)) (get_or-take lanes fresh i false q)
+          (subst (λ (w : ℕ). column w a' i ≡ cond (on (take lanes fresh) i) (blank n e (column w a i)) (column w a i)) long (v.columns i (omega arith)));
+    }
 
 pub clear_again : {n lanes : ℕ} {fresh : List Bool} {a a' a'' : List ℤ} {k : ℕ} → Cleared n lanes fresh a k a' → RowCleared lanes (n + k) fresh a' lanes a'' → Cleared n lanes fresh a (k + 1) a''
 unfolding blank

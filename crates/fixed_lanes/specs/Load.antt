@@ -1,6 +1,6 @@
 -- A word loaded into one lane: its soft values are the lane's first n rows; the lane's other rows and every other lane are as they were.
 use Rattle.std.specs.Prelude.{◌≡◌, refl, Bool, true, false, cond, List, ℕ, ◌+◌, ◌<◌, eqb, ltb, get_or, ℤ, pos}
-use Rattle.std.proofs.Common.{sym, ap, ◌∙◌, subst, arith, eqb-true, ltb-true, ltb-false, lt-ltb, le-ltb}
+use Rattle.std.proofs.Common.{sym, ap, ◌∙◌, arith, eqb-true, ltb-true, ltb-false, lt-ltb, le-ltb}
 use Rattle.std.proofs.lemmas.Bool.{eqb-false}
 use Rattle.laws.specs.Definitions.{put}
 use Rattle.lane16.specs.Column.{column}
@@ -41,9 +41,6 @@ load_again {lanes} {lane} {k} {soft} {a} {a'} {a''} {x} v e p =
       inside = p.inside ∙ (λ i. put (v.inside i) k (e i)) ∙ over_more k soft (column lanes a lane);
       outside = λ i q no. p.outside i q no ∙ v.outside i q no;
     }
-
-pub load_end : {lanes lane k n : ℕ} {soft a a' : List ℤ} → k ≡ n → Loaded k lanes lane soft a a' → Loaded n lanes lane soft a a'
-load_end {lanes} {lane} {k} {n} {soft} {a} {a'} e v = subst (λ (j : ℕ). Loaded j lanes lane soft a a') e v
 
 -- the lane's word: its soft values, and the messages as they were
 pub loaded_word : {n lanes lane : ℕ} {soft a a' : List ℤ} (E : ℕ) → Loaded n lanes lane soft a a'

@@ -1,15 +1,8 @@
 -- `fixed_lanes::blank` meets its contract. Assumes nothing.
-use mathlib.Core.Path.{◌≡◌}
-use mathlib.Core.Bool.{cond}
-use Prim.Native.Nat.{ℕ, ◌-◌, ◌≤◌, ◌<◌}
-use lib.ListN.{length}
-use lib.IntN.{pos}
+use Rattle.std.proofs.Common.{◌≡◌, ℕ, ◌<◌, length, cond, pos}
 use Rattle.laws.specs.Definitions.{negative}
 use Rattle.lane16.specs.Lanes.{int_at}
 use Rattle.fixed_lanes.proofs.blank.Given as goal
 
 abbrev pub invariant-loop-i : goal.invariant-loop-i
-invariant-loop-i l = (l.i ≤ 16) × ((length l.y ≡ 16) × ((k : ℕ) → k < l.i → int_at l.y k ≡ cond (negative (int_at l.q k)) (int_at l.x k) (pos 0)))
-
-abbrev pub decreases-loop-i : goal.decreases-loop-i
-decreases-loop-i l = 16 - l.i
+invariant-loop-i l = (length l.y ≡ 16) × ((k : ℕ) → k < l.i → int_at l.y k ≡ cond (negative (int_at l.q k)) (int_at l.x k) (pos 0))

@@ -1,8 +1,4 @@
-use borrow.Author.Rules.{rules}
-use native.Mathlib.Omega.{arith}
-use mathlib.Core.Path.{refl, ap, sym, ◌∙◌}
-use lib.ListN.{length-set}
-use lib.IntN.{ℤ}
+use Rattle.std.proofs.Common.{arith, refl, ap, sym, ◌∙◌, length-set, ℤ}
 use Rattle.iteration.specs.Iteration.{hard}
 use Rattle.lane16.specs.Column.{column}
 use Rattle.iteration.specs.CheckLaws.{within_at}
@@ -11,17 +7,14 @@ use Rattle.laws.specs.Signed.{plain}
 use Rattle.fixed_lanes.proofs.hard.Goals as goal
 
 pub loop-u-preserved : goal.loop-u-preserved
-loop-u-preserved c = (
-  search rules,
-  deciding_again c.loop-u.invariant.1 (omega (arith, c.loop-u-test.true, c.requires.1.1))
-      (c.bit.ensures
-      ∙ ap (λ (z : ℤ). hard z)
-      (plain c.value-x.result (record { sfits = c.value-x.type_inv })
-      ∙ c.value-x.ensures
-      ∙ sym (within_at c.args.n (column c.args.lanes c.args.work.now c.args.lane) c.loop-u.u c.loop-u-test.true)))
-      (simp length-set) refl,
-)
+loop-u-preserved c =
+    deciding_again c.loop-u.invariant (omega arith)
+    (c.bit.ensures
+    ∙ ap (λ (z : ℤ). hard z)
+    (plain c.value.result (record { sfits = c.value.type_inv })
+    ∙ c.value.ensures
+    ∙ sym (within_at c.args.n (column c.args.lanes c.args.work.now c.args.lane) c.loop-u.u c.loop-u-test.true)))
+    (simp length-set) refl
 
 pub returns : goal.returns
-returns c =
-    deciding_end (omega (arith, c.loop-u.invariant.0, c.loop-u-test.false)) c.requires.1.1 c.loop-u.invariant.1
+returns c = deciding_end (omega arith) c.requires.1.1 c.loop-u.invariant

@@ -1,12 +1,8 @@
 -- `fixed_lanes::hard` meets its contract. Assumes nothing.
-use Prim.Native.Nat.{◌-◌, ◌≤◌}
 use Rattle.lane16.specs.Column.{column}
 use Rattle.iteration.specs.Check.{within}
 use Rattle.fixed_lanes.specs.Read.{Deciding}
 use Rattle.fixed_lanes.proofs.hard.Given as goal
 
 abbrev pub invariant-loop-u : goal.invariant-loop-u
-invariant-loop-u l = (l.u ≤ l.n) × Deciding (within l.n (column l.lanes l.work l.lane)) l.initial.out l.u l.out
-
-abbrev pub decreases-loop-u : goal.decreases-loop-u
-decreases-loop-u l = l.n - l.u
+invariant-loop-u l = Deciding (within l.n (column l.lanes l.work l.lane)) l.initial.out l.u l.out

@@ -1,21 +1,10 @@
-use borrow.Author.Rules.{rules}
-use native.Mathlib.Omega.{arith}
-use mathlib.Core.Path.{refl}
-use lib.ListN.{get_or}
-use lib.IntN.{pos}
+use Rattle.std.proofs.Common.{rules, get_or, pos}
 use Rattle.laws.specs.Signed.{plain}
 use Rattle.fixed_lanes.specs.Load.{load_start, load_again}
 use Rattle.fixed_lanes.proofs.load.Goals as goal
 
 pub loop-u-init : goal.loop-u-init
-loop-u-init c = (search rules, (refl, load_start c.args.lanes c.args.lane c.args.soft.now c.args.work.now))
+loop-u-init c = load_start c.args.lanes c.args.lane c.args.soft.now c.args.work.now
 
 pub loop-u-preserved : goal.loop-u-preserved
-loop-u-preserved c = (
-  search rules,
-  (
-    omega (arith, c.loop-u.invariant.1.0),
-    load_again c.loop-u.invariant.1.1
-        (plain (get_or c.args.soft.now c.loop-u.u (pos 0)) (search rules)) c.place.ensures,
-  ),
-)
+loop-u-preserved c = load_again c.loop-u.invariant (plain (get_or c.args.soft.now c.loop-u.u (pos 0)) (search rules)) c.place.ensures
