@@ -1,0 +1,6 @@
+-- `fixed_syndrome::Words::met_rows` meets its contract. Assumes nothing.
+use Rattle.fixed_syndrome.specs.Met.{Seen}
+use Rattle.fixed_syndrome.proofs.Words.met_rows.Given as goal
+
+abbrev pub invariant-loop-c : goal.invariant-loop-c
+invariant-loop-c l = Seen l.self.n l.self.p l.self.lanes l.self.lists.now l.self.work.now l.at l.initial.v l.c l.v
