@@ -1,5 +1,5 @@
 -- Which variables can have several edges in a run, and where the edges of their rows stand in its checks.
-use Rattle.std.specs.Prelude.{◌≡◌, refl, Bool, true, false, ◌||◌, List, ℕ, zero, suc, ◌+◌, ◌*◌, ◌≤◌, ◌<◌, T, eqb, ltb, get_or, set, length, replicate}
+use Rattle.std.specs.Prelude.{◌≡◌, refl, Bool, true, false, ◌||◌, List, ℕ, zero, suc, ◌+◌, ◌*◌, ◌≤◌, ◌<◌, T, eqb, ltb, get_or, set, length, replicate, Option, Some, None}
 use Rattle.std.proofs.Common.{sym, ap, ap₂, ◌∙◌, subst, arith, length-set, get_or-set_same, get_or-set_other}
 use Rattle.laws.specs.Choice.{or_left, or_right}
 use Rattle.laws.specs.Stores.{set_each, grown}
@@ -37,6 +37,15 @@ pub record Flagged (table : List ℕ) (rows q l k : ℕ) (flags : List Bool) (an
   pub others : (g : ℕ) → k ≤ g → (g ≡ rows → ⊥) → get_or flags g false ≡ false
   pub none : any ≡ false → (g : ℕ) → get_or flags g false ≡ false
   pub some : any ≡ true → (g : ℕ) × (get_or flags g false ≡ true)
+
+-- the flags that are given where there are any, and whether there are
+abbrev pub flags_of : Option (List Bool) → List Bool
+flags_of None = replicate 120 false
+flags_of (Some flags) = flags
+
+abbrev pub any_of : Option (List Bool) → Bool
+any_of None = false
+any_of (Some flags) = true
 
 pub zeros : (m g : ℕ) → get_or (replicate m false) g false ≡ false
 zeros zero g = refl

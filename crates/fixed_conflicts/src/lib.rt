@@ -1,9 +1,9 @@
 // Where the edges of a row stand in the checks of a layer, and which rows' variables can have several edges in a run.
 #![tactic(auto)]
 
-ghost use Rattle.std.specs.Prelude.{◌≡◌, ◌||◌, ℕ, ◌<◌, ◌≤◌, ◌+◌, ◌*◌, get_or, length};
+ghost use Rattle.std.specs.Prelude.{◌≡◌, ℕ, ◌<◌, ◌≤◌, ◌+◌, ◌*◌, get_or, length};
 ghost use Rattle.ldpc_shape.specs.Shape.{code_refusal, sizes_of};
-ghost use Rattle.fixed_conflicts.specs.Table.{spans_length, Flagged};
+ghost use Rattle.fixed_conflicts.specs.Table.{spans_length, Flagged, flags_of, any_of};
 ghost use Rattle.fixed_conflicts.specs.Conflicts.{Spanned};
 ghost use Rattle.fixed_conflicts.specs.Marks.{NextRow};
 
@@ -26,12 +26,9 @@ fn advance(table: &mut [u8], counts: &[u32; MAX_Q], g: usize, q: usize)
     requires fits { (l : ℕ) → l < q → get_or table.old (g * 120 + l) 0 + get_or counts.now l 0 ≤ 255 }
     ensures { NextRow table.old counts.now g q table.new }
 {
-    let mut l: usize = 0;
-    while l < q {
+    for l in 0..q {
         let from = span(table, g, l) as u32;
-        let count = counts[l];
-        table[(g + 1) * MAX_Q + l] = (from + count) as u8;
-        l += 1;
+        table[(g + 1) * MAX_Q + l] = (from + counts[l]) as u8;
     }
 }
 
@@ -41,53 +38,32 @@ pub fn spans(of: Sizes, lens: &[u32], addrs: &[u16], table: &mut [u8])
     requires zeros { (length table.old ≡ spans_length) × ((l : ℕ) → l < 120 → get_or table.old l 0 ≡ 0) }
     ensures { Spanned of.n lens.now addrs.now table.new }
 {
-    let few = of.q;
-    let q = few as u32;
-    let mut at: usize = 0;
-    let mut g: usize = 0;
-    while g < lens.len() {
-        let to = at + ldpc_shape::wide(lens[g]);
+    let q = of.q as u32;
+    let mut at = 0;
+    for (g, len) in lens.iter().enumerate() {
+        let to = at + *len as usize;
         let counts = ldpc_shape::counts(&addrs[at..to], q);
-        advance(table, &counts, g, few);
+        advance(table, &counts, g, of.q);
         at = to;
-        g += 1;
     }
-    let two: [u32; MAX_Q] = [2; MAX_Q];
-    advance(table, &two, g, few);
+    let two = [2; MAX_Q];
+    advance(table, &two, lens.len(), of.q);
 }
 
-fn either(a: bool, b: bool) -> bool
-    ensures { result ≡ a || b }
-{
-    if a { true } else { b }
-}
-
-// The rows of a layer whose variables can have several edges in a run, and whether there are any.
-#[derive(Drop)]
-pub struct Layer {
-    pub rows: [bool; MAX_Q],
-    pub any: bool,
-}
-
-// Rows with two edges or more in a check of layer l; and the parity bits if q = 1.
-pub fn shared(table: &[u8], rows: usize, q: usize, l: usize) -> Layer
+// The rows of layer l whose variables can have several edges in a run, if there are any: those with two edges or more in a check; and the parity bits if q = 1.
+pub fn shared(table: &[u8], rows: usize, q: usize, l: usize) -> Option<[bool; MAX_Q]>
     requires { (length table.now ≡ spans_length) × ((rows ≤ 119) × (l < 120)) }
-    ensures { Flagged table.now rows q l rows result.rows result.any }
+    ensures { Flagged table.now rows q l rows (flags_of result) (any_of result) }
 {
-    let mut flags: [bool; MAX_Q] = [false; MAX_Q];
+    let mut flags = [false; MAX_Q];
     let mut any = q == 1;
     flags[rows] = any;
-    let mut g: usize = 0;
-    while g < rows {
+    for g in 0..rows {
         let from = span(table, g, l);
         let to = span(table, g + 1, l);
         let many = from + 1 < to;
         flags[g] = many;
-        any = either(any, many);
-        g += 1;
+        any |= many;
     }
-    Layer {
-        rows: flags,
-        any: any,
-    }
+    if any { Some(flags) } else { None }
 }
