@@ -4,8 +4,9 @@
 -- `RowPart`), and of the table (`Sharing`).
 --
 -- Not here: what a run is made of (Checks, Rows).
-use Rattle.std.specs.Prelude.{◌≡◌, refl, Bool, true, false, List, ℕ, ◌+◌, ◌*◌, ◌-◌, ◌/◌, ◌≤◌, ◌<◌, min, get_or, length, ℤ}
+use Rattle.std.specs.Prelude.{◌≡◌, refl, Bool, true, false, List, ℕ, ◌+◌, ◌*◌, ◌-◌, ◌/◌, ◌%◌, ◌≤◌, ◌<◌, min, get_or, length, ℤ}
 use Rattle.std.proofs.Common.{sym, ap, ◌∙◌, subst, arith, mul-le-mul_right, add-one}
+use Rattle.std.proofs.lemmas.Grind.{div_ceil_times}
 use Rattle.std.proofs.Math.Nat.{add-mul-div_right, div-eq_of_lt}
 use Rattle.iteration.specs.Iteration.{Code, degree, run, in_run, runs, run_count, layers}
 use Rattle.lane16.specs.Column.{column}
@@ -55,11 +56,16 @@ count_is s j h a b =
     let e : 373 + s ≡ (373 + s - j * s) + j * s = omega arith in
     sym (ap (λ (z : ℕ). z / s) e ∙ add-mul-div_right (373 + s - j * s) j h ∙ (let y : 373 + s - j * s < s = omega arith in let z = div-eq_of_lt y in omega arith))
 
-pub runs_end : {n p lanes : ℕ} {o o' : ℤ} {lists : List ℕ} {q s l : ℕ} {a a' : List ℤ} {j at : ℕ} → o ≡ o' → 0 < s → at ≡ j * s → 374 ≤ at → at < 374 + s → RunsMade n p lanes o lists q s l a j a'
-    → RunsMade n p lanes o' lists q s l a (run_count s) a'
-runs_end {n} {p} {lanes} {o} {o'} {lists} {q} {s} {l} {a} {a'} {j} {at} g h e b c v =
-    subst (λ (y : ℕ). RunsMade n p lanes o' lists q s l a y a') (count_is s j h (omega arith) (omega arith))
-    (subst (λ (z : ℤ). RunsMade n p lanes z lists q s l a j a') g v)
+-- run j begins before the layer's end
+pub run_begins : (s j : ℕ) → 0 < s → j < 374 / s + min 1 (374 % s) → j * s < 374
+run_begins s j h k = let m : (j + 1) * s ≤ (374 / s + min 1 (374 % s)) * s = mul-le-mul_right s (omega arith) in omega (arith, div_ceil_times 374 s h)
+
+pub runs_end : {n p lanes : ℕ} {o : ℤ} {lists : List ℕ} {q s l : ℕ} {a a' : List ℤ} {j : ℕ} → 0 < s → j ≡ 374 / s + min 1 (374 % s) → RunsMade n p lanes o lists q s l a j a'
+    → RunsMade n p lanes o lists q s l a (run_count s) a'
+runs_end {n} {p} {lanes} {o} {lists} {q} {s} {l} {a} {a'} {j} h e v =
+    let k : j * s ≡ (374 / s + min 1 (374 % s)) * s = ap (λ (z : ℕ). z * s) e in
+    let d = div_ceil_times 374 s h in
+    subst (λ (y : ℕ). RunsMade n p lanes o lists q s l a y a') (count_is s j h (omega arith) (omega arith)) v
 
 -- ---- the first l layers
 pub record LayersMade (n p lanes : ℕ) (o : ℤ) (lists : List ℕ) (q s : ℕ) (a : List ℤ) (l : ℕ) (a' : List ℤ) : Type 0 where

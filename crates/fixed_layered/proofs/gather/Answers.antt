@@ -24,7 +24,7 @@ byte x h {y} e = subst (λ (int_at : ℤ). nat_abs int_at ≤ 128) e (abs_byte x
 pub loop-i-preserved : goal.loop-i-preserved
 loop-i-preserved c =
     let room : c.args.at + c.loop-i.i < length c.loop-i.sums =
-    omega (arith, c.requires.sums.0, c.loop-i-test.true, c.loop-i.invariant.1.0.long) in
+    omega (arith, c.requires.sums.0, c.loop-i-test.true, c.loop-i.invariant.0.long) in
     let f = column c.args.lanes c.args.work.now c.loop-i.i in
     let is : to_z w32 (of_z w32 c.gathered.result) ≡ plus c.args.seen f c.args.tu c.args.ru c.args.ou (int_at c.loop-i.sums (c.args.at + c.loop-i.i)) =
     to_z-of_z w32 c.gathered.result (sfits_of c.gathered.type_inv)
@@ -35,12 +35,9 @@ loop-i-preserved c =
     (plain c.value-old.result (sfits_of c.value-old.type_inv) ∙ c.value-old.ensures) j))
     ((plain c.value-t.result (sfits_of c.value-t.type_inv) ∙ c.value-t.ensures) j +ℤ
     (plain c.value-new.result (sfits_of c.value-new.type_inv) ∙ c.value-new.ensures) j)) in (
-      search rules,
-      (
-        edge_again _ c.loop-i.invariant.1.0 (omega (arith, room, c.loop-i.invariant.1.0.long)) is,
-        growing_again c.args.seen f c.args.tu c.args.ru c.args.ou _ c.loop-i.invariant.1.1 c.loop-i-test.true room
-            (byte c.value-t.result c.value-t.type_inv c.value-t.ensures)
-            (byte c.value-new.result c.value-new.type_inv c.value-new.ensures)
-            (byte c.value-old.result c.value-old.type_inv c.value-old.ensures) is,
-      ),
+      edge_again _ c.loop-i.invariant.0 (omega (arith, room, c.loop-i.invariant.0.long)) is,
+      growing_again c.args.seen f c.args.tu c.args.ru c.args.ou _ c.loop-i.invariant.1 c.loop-i-test.true room
+          (byte c.value-t.result c.value-t.type_inv c.value-t.ensures)
+          (byte c.value-new.result c.value-new.type_inv c.value-new.ensures)
+          (byte c.value-old.result c.value-old.type_inv c.value-old.ensures) is,
     )

@@ -1,9 +1,7 @@
 use native.Mathlib.Omega.{arith}
-use borrow.Author.Rules.{rules}
-use mathlib.Core.Path.{refl, ap, subst}
+use mathlib.Core.Path.{subst}
 use mathlib.Core.List.{List}
 use Prim.Native.Nat.{ℕ, ◌+◌, ◌-◌}
-use lib.ListN.{length}
 use Rattle.iteration.specs.Lists.{var, edges_in, code_in}
 use Rattle.iteration.specs.Once.{stepped}
 use Rattle.fixed_layered.specs.RunMemory.{in_run_to}
@@ -12,55 +10,28 @@ use Rattle.fixed_layered.specs.Rows.{CheckSettled, settled_row_start, settled_ro
 use Rattle.fixed_layered.proofs.settle_row.Goals as goal
 
 pub loop-x-init : goal.loop-x-init
-loop-x-init c = (
-  search rules,
-  (
-    refl,
-    settled_row_start c.args.of.n (edges_in c.args.of.p c.args.lists.now) (code_in c.args.of.p c.args.lists.now)
-        (stepped c.args.run.first c.args.of.q) c.args.row.base c.args.of.lanes c.args.sums.now c.args.work.now,
-  ),
-)
-
-pub overflow_add-s : goal.overflow_add-s
-overflow_add-s c =
-    let part : (RowPart c.args.of.n c.args.of.p c.args.of.lanes c.args.run.first c.args.of.q c.args.row.base c.args.row.from c.args.row.upto c.loop-x.x c.start-s.result c.degree-d.result c.least-end.result c.args.lists.now c.args.rows.now c.loop-x.work) =
-    row_part (in_run_to {b = c.loop-x.work} c.loop-x.invariant.1.0 c.requires.in_run.0) c.requires.in_run.1
-    c.requires.grouped.0 c.loop-x-test.true c.start-s.ensures (omega (arith, c.start-s.ensures, c.degree-d.ensures))
-    c.least-end.ensures in
-    let w = part in
-    record { fits = omega (arith, w.part_room.edges, w.least, ap length c.requires.in_run.1, c.requires.in_run.0.few_edges) }
-
-pub overflow_sub-end : goal.overflow_sub-end
-overflow_sub-end c =
-    let part : (RowPart c.args.of.n c.args.of.p c.args.of.lanes c.args.run.first c.args.of.q c.args.row.base c.args.row.from c.args.row.upto c.loop-x.x c.start-s.result c.degree-d.result c.least-end.result c.args.lists.now c.args.rows.now c.loop-x.work) =
-    row_part (in_run_to {b = c.loop-x.work} c.loop-x.invariant.1.0 c.requires.in_run.0) c.requires.in_run.1
-    c.requires.grouped.0 c.loop-x-test.true c.start-s.ensures (omega (arith, c.start-s.ensures, c.degree-d.ensures))
-    c.least-end.ensures in
-    part.least
+loop-x-init c =
+    settled_row_start c.args.of.n (edges_in c.args.of.p c.args.of.lists.now) (code_in c.args.of.p c.args.of.lists.now)
+    (stepped c.args.run.first c.args.of.q) c.args.row.base c.args.of.lanes c.args.sums.now c.args.work.now
 
 pub settle_check-requires : goal.settle_check-requires
 settle_check-requires c =
-    let part : (RowPart c.args.of.n c.args.of.p c.args.of.lanes c.args.run.first c.args.of.q c.args.row.base c.args.row.from c.args.row.upto c.loop-x.x c.start-s.result c.degree-d.result c.least-end.result c.args.lists.now c.args.rows.now c.loop-x.work) =
-    row_part (in_run_to {b = c.loop-x.work} c.loop-x.invariant.1.0 c.requires.in_run.0) c.requires.in_run.1
+    let part : (RowPart c.args.of.n c.args.of.p c.args.of.lanes c.args.run.first c.args.of.q c.args.row.base c.args.row.from c.args.row.upto c.loop-x.x c.start-s.result c.degree-d.result c.min-end.result c.args.of.lists.now c.args.of.rows.now c.loop-x.work) =
+    row_part (in_run_to {b = c.loop-x.work} c.loop-x.auto.work c.requires.in_run) c.args.of.rows_in_lists
     c.requires.grouped.0 c.loop-x-test.true c.start-s.ensures (omega (arith, c.start-s.ensures, c.degree-d.ensures))
-    c.least-end.ensures in
+    c.min-end.ensures in
     let w = part in (w.part_room, (c.requires.grouped.1, w.in_row))
 
 pub loop-x-preserved : goal.loop-x-preserved
 loop-x-preserved c =
-    let part : (RowPart c.args.of.n c.args.of.p c.args.of.lanes c.args.run.first c.args.of.q c.args.row.base c.args.row.from c.args.row.upto c.loop-x.x c.start-s.result c.degree-d.result c.least-end.result c.args.lists.now c.args.rows.now c.loop-x.work) =
-    row_part (in_run_to {b = c.loop-x.work} c.loop-x.invariant.1.0 c.requires.in_run.0) c.requires.in_run.1
+    let part : (RowPart c.args.of.n c.args.of.p c.args.of.lanes c.args.run.first c.args.of.q c.args.row.base c.args.row.from c.args.row.upto c.loop-x.x c.start-s.result c.degree-d.result c.min-end.result c.args.of.lists.now c.args.of.rows.now c.loop-x.work) =
+    row_part (in_run_to {b = c.loop-x.work} c.loop-x.auto.work c.requires.in_run) c.args.of.rows_in_lists
     c.requires.grouped.0 c.loop-x-test.true c.start-s.ensures (omega (arith, c.start-s.ensures, c.degree-d.ensures))
-    c.least-end.ensures in
-    let w = part in (
-      omega (arith, c.loop-x-test.true),
-      (
-        omega (arith, c.loop-x.invariant.1.0),
-        settled_row_again c.requires.grouped.0 c.loop-x-test.true w.up w.most w.least w.all w.start_is c.loop-x.invariant.1.1
-            (subst
-            (λ (l : List ℕ).
-            CheckSettled (var l) c.args.row.base (c.start-s.result + c.args.row.from) c.args.of.lanes c.args.sums.now
-            c.loop-x.work (c.least-end.result - c.args.row.from) c.settle_check.new.work) c.requires.in_run.1
-            c.settle_check.ensures),
-      ),
-    )
+    c.min-end.ensures in
+    let w = part in
+    settled_row_again c.requires.grouped.0 c.loop-x-test.true w.up w.most w.least w.all w.start_is c.loop-x.invariant
+    (subst
+    (λ (l : List ℕ).
+    CheckSettled (var l) c.args.row.base (c.start-s.result + c.args.row.from) c.args.of.lanes c.args.sums.now
+    c.loop-x.work (c.min-end.result - c.args.row.from) c.settle_check.new.work) c.args.of.rows_in_lists
+    c.settle_check.ensures)

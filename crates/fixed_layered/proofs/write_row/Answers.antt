@@ -3,7 +3,7 @@ use native.Mathlib.Omega.{arith}
 use mathlib.Core.Path.{◌≡◌, sym, ◌∙◌}
 use mathlib.Core.Bool.{true, false, true≢false}
 use Prim.Native.Nat.{◌*◌}
-use lib.ListN.{get_or, length-replicate}
+use lib.ListN.{get_or}
 use Rattle.iteration.specs.Lists.{code_in}
 use Rattle.iteration.specs.Once.{stepped}
 use Rattle.fixed_conflicts.specs.Table.{zeros}
@@ -15,20 +15,20 @@ pub gather_row-requires : goal.gather_row-requires
 gather_row-requires c =
     let several : (get_or c.args.flags.now c.args.g false ≡ true) =
     c.if-not-flags-g.false in
-    let row_stands : (Grouped (code_in c.args.of.p c.args.lists.now) (stepped c.args.run.first c.args.of.q) c.args.run.m (374 * c.args.g) c.span-from.result c.span-upto.result) =
-    grouped c.args.g several c.requires.shares.1.1.1.1 c.requires.shares.0 c.span-from.ensures.0 c.span-upto.ensures.0 in
+    let row_stands : (Grouped (code_in c.args.of.p c.args.of.lists.now) (stepped c.args.run.first c.args.of.q) c.args.run.m (374 * c.args.g) c.span.result c.span-2.result) =
+    grouped c.args.g several c.requires.shares.1.1.1 c.requires.shares.0 c.span.ensures.0 c.span-2.ensures.0 in
     record {
       in_run = c.requires.in_run;
       grouped = row_stands;
-      lanes_in_bounds = (c.requires.lanes_in_bounds, (length-replicate 374 false, zeros 374));
+      lanes_in_bounds = (c.requires.lanes_in_bounds, zeros 374);
     }
 
 pub settle_row-requires : goal.settle_row-requires
 settle_row-requires c =
     let several : (get_or c.args.flags.now c.args.g false ≡ true) =
     c.if-not-flags-g.false in
-    let row_stands : (Grouped (code_in c.args.of.p c.args.lists.now) (stepped c.args.run.first c.args.of.q) c.args.run.m (374 * c.args.g) c.span-from.result c.span-upto.result) =
-    grouped c.args.g several c.requires.shares.1.1.1.1 c.requires.shares.0 c.span-from.ensures.0 c.span-upto.ensures.0 in
+    let row_stands : (Grouped (code_in c.args.of.p c.args.of.lists.now) (stepped c.args.run.first c.args.of.q) c.args.run.m (374 * c.args.g) c.span.result c.span-2.result) =
+    grouped c.args.g several c.requires.shares.1.1.1 c.requires.shares.0 c.span.ensures.0 c.span-2.ensures.0 in
     record { in_run = c.requires.in_run; grouped = (row_stands, omega (arith, c.requires.lanes_in_bounds)) }
 
 pub returns : goal.returns
