@@ -2,7 +2,7 @@
 #![tactic(auto)]
 
 ghost use Rattle.std.specs.Prelude.{◌≡◌, ◌<◌};
-ghost use Rattle.decoder_plan.specs.Plan.{is_layered, step_of, plan_of};
+ghost use Rattle.decoder_plan.specs.Plan.{is_layered, plan_of};
 
 use ldpc_shape::Sizes;
 
@@ -36,7 +36,8 @@ pub struct Settings {
     pub part: Part,
 }
 
-// What an accepted run goes by: the code's numbers, how many words there are, and the settings.
+// What an accepted run goes by: the code's numbers, how many words there are, and the settings. Not `set: Settings`: `lanes` is a length here, and every
+// reader would say `plan.set.limits` for `plan.limits`.
 #[derive(Clone, Copy)]
 pub struct Plan {
     pub sizes: Sizes,
@@ -48,21 +49,14 @@ pub struct Plan {
     pub part: Part,
 }
 
-pub fn is_layered(s: Schedule) -> bool
-    ensures { result ≡ is_layered s }
-{
-    match s {
-        Schedule::Sequential => false,
-        Schedule::Layered(_) => true,
-    }
-}
-
-pub fn step_of(s: Schedule) -> u32
-    ensures { result ≡ step_of s }
-{
-    match s {
-        Schedule::Sequential => 0,
-        Schedule::Layered(step) => step,
+impl Schedule {
+    pub fn is_layered(self) -> bool
+        ensures { result ≡ is_layered self }
+    {
+        match self {
+            Schedule::Sequential => false,
+            Schedule::Layered(_) => true,
+        }
     }
 }
 
@@ -71,16 +65,13 @@ pub fn plan_of(sizes: Sizes, soft: usize, set: Settings) -> Plan
     requires { 0 < sizes.n }
     ensures { result ≡ plan_of sizes soft set }
 {
-    let limits = set.limits;
-    let schedule = set.schedule;
-    let part = set.part;
     Plan {
-        sizes: sizes,
+        sizes,
         words: soft / sizes.n,
         lanes: set.lanes as usize,
-        limits: limits,
-        schedule: schedule,
+        limits: set.limits,
+        schedule: set.schedule,
         offset: set.offset,
-        part: part,
+        part: set.part,
     }
 }

@@ -1,5 +1,5 @@
 -- Every lane's word has one iteration, by the schedule.
-use Rattle.std.specs.Prelude.{◌≡◌, Bool, true, false, List, ℕ, ◌*◌, ◌/◌, ◌≤◌, ◌<◌, ℤ, length}
+use Rattle.std.specs.Prelude.{◌≡◌, Bool, true, false, List, ℕ, ◌/◌, ◌<◌, ℤ}
 use Rattle.std.proofs.Math.Path.{sym, ap}
 use Rattle.std.proofs.Common.{◌∙◌, arith}
 use Rattle.iteration.specs.Check.{Word}
@@ -14,14 +14,6 @@ use Rattle.fixed_layered.specs.Layered.{Layered}
 abbrev pub Iterates : Bool → ℕ → ℤ → ℕ → ℕ → ℕ → List ℕ → List ℤ → List ℤ → Type 0
 Iterates layers step offset n p lanes lists work work' =
     (l : ℕ) → l < lanes → word n (edges_in p lists) lanes work' l ≡ iteration_of layers step offset (code_in p lists) p (word n (edges_in p lists) lanes work l)
-
--- a layered schedule has a step
-abbrev pub Stepped : Bool → ℕ → Type 0
-Stepped layers step = layers ≡ true → 0 < step
-
--- and what its layers go by, with room for their sums
-abbrev pub Layering : Bool → Sizes → List ℕ → List ℕ → ℕ → List ℤ → Type 0
-Layering layers of lists table lanes sums = layers ≡ true → Prepared of lists table × (374 * lanes ≤ length sums)
 
 module _ (layers : Bool) (step : ℕ) (offset offset' : ℤ) (code : Code) (p : ℕ) (x y : Word) (same : offset' ≡ offset) where
   pub by_sequence : layers ≡ false → y ≡ sequential offset' code p x → y ≡ iteration_of layers step offset code p x

@@ -1,14 +1,8 @@
 -- `decoder_rounds::advance` meets its contract: every lane's word has its iteration, each verdict is its own word's, and the lanes have their turns.
 -- Assumes nothing.
-use Prim.Native.Nat.{ℕ, ◌*◌, ◌≤◌}
-use native.Mathlib.Omega.{arith}
 use Rattle.decoder_lanes.specs.Lane.{working_to}
 use Rattle.decoder_rounds.specs.Rounds.{judged}
 use Rattle.decoder_rounds.proofs.advance.Goals as goal
-
--- the sums that the layered iteration keeps
-enough_sums : {lanes l : ℕ} → lanes ≤ 64 → 23936 ≤ l → 374 * lanes ≤ l
-enough_sums few long = omega (arith, few, long)
 
 pub retire-requires : goal.retire-requires
 retire-requires c =

@@ -1,13 +1,6 @@
-use mathlib.Core.Path.{refl}
-use native.Mathlib.Omega.{arith}
-use Rattle.decoder_rounds.specs.Rounds.{flagging_again}
+-- `decoder_rounds::flags` meets its contract: each call of the closure says whether its lane is held.
+use Rattle.std.proofs.Common.{rules, false}
 use Rattle.decoder_rounds.proofs.flags.Goals as goal
 
-pub loop-l-init : goal.loop-l-init
-loop-l-init c = (omega arith, record { size = refl; below = λ k h. absurd (omega (arith, h)) })
-
-pub loop-l-preserved : goal.loop-l-preserved
-loop-l-preserved c = (omega arith, flagging_again _ c.loop-l.l c.loop-l.r _ c.loop-l-test.true refl c.loop-l.invariant.1)
-
 pub returns : goal.returns
-returns c = λ l h. c.loop-l.invariant.1.below l (omega arith)
+returns c = λ l h. let k = c.map.ensures.items.at l 0 false h in let r = k.2 in search rules

@@ -1,14 +1,16 @@
 -- `decoder_rounds::iterate` meets its contract, by the column laws of the two schedules.
--- Assumes nothing.
+use Rattle.std.proofs.Common.{ap, ◌∙◌, rules}
 use Rattle.laws.specs.Signed.{plain}
+use Rattle.decoder_plan.specs.Plan.{is_layered}
 use Rattle.decoder_rounds.specs.Iterate.{by_sequence, by_layers, layered_words}
 use Rattle.decoder_rounds.proofs.iterate.Goals as goal
 
-pub returns-then-layered : goal.returns-then-layered
-returns-then-layered c =
-    λ l h. by_layers _ _ _ _ _ _ _ _ (plain c.args.offset c.ranges.offset) c.if-layered.true
-    (layered_words (c.requires.2 c.if-layered.true).0 c.layered_iteration.ensures l h)
+pub returns-in-Layered : goal.returns-in-Layered
+returns-in-Layered c =
+    λ l h. by_layers _ _ _ _ _ _ _ _ (plain c.args.plan.offset (search rules)) (ap is_layered c.in-Layered.is)
+    (layered_words (c.requires.1 (ap is_layered c.in-Layered.is)) c.layered_iteration.ensures l h
+    ∙ simp c.in-Layered.is)
 
-pub returns-else-layered : goal.returns-else-layered
-returns-else-layered c =
-    λ l h. by_sequence _ _ _ _ _ _ _ _ (plain c.args.offset c.ranges.offset) c.if-layered.false (c.iteration.ensures.words l h)
+pub returns-in-Sequential : goal.returns-in-Sequential
+returns-in-Sequential c =
+    λ l h. by_sequence _ _ _ _ _ _ _ _ (plain c.args.plan.offset (search rules)) (ap is_layered c.in-Sequential.is) (c.iteration.ensures.words l h)
