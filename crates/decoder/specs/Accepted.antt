@@ -1,5 +1,5 @@
 -- An accepted run, and what it says of a word: what the auditor's two questions are asked of (Audit has the answers).
-use Rattle.std.specs.Prelude.{◌≡◌, List, [], ℕ, ◌/◌, ℤ, length}
+use Rattle.std.specs.Prelude.{◌≡◌, List, [], ℕ, ◌/◌, ℤ, length, Ok}
 use Rattle.iteration.specs.Check.{Word}
 use Rattle.ldpc_shape.specs.Shape.{p_of, sizes_of}
 use Rattle.iteration.specs.Code.{code_of}
@@ -36,7 +36,7 @@ module _ (n : ℕ) (lens addrs : List ℕ) where
     pub lists : List ℕ
     pub lists' : List ℕ
     pub ran : Ran
-    pub runs : Runs n lens addrs soft set out out' records records' work work' lists lists' ran
+    pub runs : Runs n lens addrs soft set out out' records records' work work' lists lists' (Ok ran)
     pub accepted : run_refusal n lens addrs soft set (length records / fields) out work lists ≡ 0
 
   -- what a run says of word w: its record's fields and its bits

@@ -1,5 +1,7 @@
 -- When a run is refused, by what is lent, and what a refused run answers.
-use Rattle.std.specs.Prelude.{false, List, ℕ, ℤ, length}
+use Rattle.std.specs.Prelude.{List, ℕ, ℤ, length, Result, Ok, Err}
+use Rattle.refusal.specs.Number.{refusal_of}
+use Rattle.refusal.specs.declared.Refusal.{Refusal}
 use Rattle.decoder_plan.specs.declared.Settings.{Settings}
 use Rattle.decoder_refuse.specs.Refusal.{first_refusal}
 use Rattle.decoder_refuse.specs.declared.Lent.{Lent}
@@ -13,16 +15,11 @@ lent_of soft room out work lists = record { soft = length soft; room = room; out
 unfoldable pub run_refusal : ℕ → List ℕ → List ℕ → List ℤ → Settings → ℕ → List ℕ → List ℤ → List ℕ → ℕ
 run_refusal n lens addrs soft set room out work lists = first_refusal n lens addrs set (lent_of soft room out work lists)
 
--- what a refused run answers: its number, and 0 words
-abbrev pub nothing : ℕ → Ran
-nothing number =
-    record {
-      refusal = number;
-      stopped = false;
-      words = 0;
-      rounds = 0;
-      loaded = 0;
-      given = 0;
-      kept = 0;
-      lost = 0;
-    }
+-- what a refused run answers
+abbrev pub nothing : ℕ → Result Ran Refusal
+nothing number = Err (refusal_of number)
+
+-- how many words a run has, none where it is refused
+abbrev pub words_ran : Result Ran Refusal → ℕ
+words_ran (Ok r) = r.words
+words_ran (Err e) = 0

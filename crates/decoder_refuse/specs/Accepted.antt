@@ -8,7 +8,7 @@ use Rattle.std.specs.Prelude.{◌≡◌, refl, Bool, true, false, not, ◌||◌,
 use Rattle.std.proofs.Math.Path.{sym}
 use Rattle.std.proofs.Common.{ap, ◌∙◌, subst}
 use native.Mathlib.Omega.{arith}
-use borrow.Author.Tests.{eqb-true, eqb-false, ltb-true, ltb-false, lt-ltb, le-ltb, not-false}
+use borrow.Author.Tests.{eqb-true, eqb-false, ltb-true, ltb-false, le-ltb, not-false}
 use Rattle.std.proofs.Math.Dec.{ltb}
 use Rattle.laws.specs.Choice.{or_left, or_right}
 use Rattle.ldpc_shape.specs.Shape.{sizes_of, code_refusal}
@@ -138,22 +138,6 @@ lanes_few lanes e = ltb-false 64 lanes (or_right (eqb lanes 0) (ltb 64 lanes) e)
 pub words_few : (n soft : ℕ) → bad_words n soft ≡ false → soft / n ≤ 4096
 unfolding bad_words
 words_few n soft e = ltb-false 4096 (soft / n) (or_right (not (eqb (soft % n) 0)) (ltb 4096 (soft / n)) e)
-
--- the last two tests of `too_short`, once output and records suffice
-module _ (of : Sizes) (lanes : ℕ) (lent : Lent) (out : lent.soft / of.n * of.n ≤ lent.out) (room : lent.soft / of.n ≤ lent.room) (need : ℕ) (is : need ≡ work_need of lanes) where
-  pub short_work : lent.work < need → true ≡ too_short of lanes lent
-  unfolding too_short out_need
-  short_work h =
-      let g : lent.work < work_need of lanes = omega arith in
-      sym (λ i. le-ltb lent.out (lent.soft / of.n * of.n) out i
-      || (le-ltb lent.room (lent.soft / of.n) room i || (lt-ltb lent.work (work_need of lanes) g i || ltb lent.lists (lists_need of))))
-
-  pub short_lists : (listed : ℕ) → listed ≡ lists_need of → need ≤ lent.work → ltb lent.lists listed ≡ too_short of lanes lent
-  unfolding too_short out_need
-  short_lists listed e h =
-      let g : work_need of lanes ≤ lent.work = omega arith in
-      sym (λ i. le-ltb lent.out (lent.soft / of.n * of.n) out i
-      || (le-ltb lent.room (lent.soft / of.n) room i || (le-ltb lent.work (work_need of lanes) g i || ltb lent.lists (sym e i))))
 
 -- ---- room for 4,096 words is as good as more: a run with more words is refused by 8
 abbrev pub with_room : ℕ → Lent → Lent

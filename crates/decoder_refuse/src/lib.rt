@@ -1,12 +1,16 @@
 // The refusals of a run: 2 to 6 of its code, 7 to 11 of its settings and soft values, 13 of the lent slices.
 #![tactic(auto)]
 
-ghost use Rattle.std.specs.Prelude.{◌≡◌, ◌/◌, ◌<◌, ◌≤◌};
+ghost use Rattle.std.specs.Prelude.{◌≡◌, ◌/◌, ◌<◌, ◌≤◌, IfOk};
+ghost use Rattle.refusal.specs.Number.{number_of};
+ghost use Rattle.ldpc_shape.specs.Shape.{sizes_of};
 ghost use Rattle.ldpc_shape.specs.Accepted.{Bounded};
+ghost use Rattle.decoder_plan.specs.Plan.{plan_of};
 ghost use Rattle.decoder_refuse.specs.Refusal.{bad_lanes, bad_words, bad_step, bad_part, too_short, work_need, lists_need, first_refusal};
 
-use decoder_plan::{Part, Schedule, Settings};
+use decoder_plan::{Part, Plan, Schedule, Settings};
 use ldpc_shape::Sizes;
+use refusal::Refusal;
 
 // How much is lent: soft values, room for the records of so many words, output, and both work slices.
 #[derive(Drop)]
@@ -18,48 +22,37 @@ pub struct Lent {
     pub lists: usize,
 }
 
+#[tactic(auto, unfolding(crate::specs::Refusal::bad_lanes))]
 fn bad_lanes(lanes: u32) -> bool
     ensures { result ≡ bad_lanes lanes }
 {
-    if lanes == 0 {
-        return true;
-    }
-    64 < lanes
+    lanes == 0 || 64 < lanes
 }
 
+#[tactic(auto, unfolding(crate::specs::Refusal::bad_words))]
 fn bad_words(n: usize, soft: usize) -> bool
     requires { 0 < n }
     ensures { result ≡ bad_words n soft }
 {
-    if soft % n != 0 {
-        return true;
-    }
-    4096 < soft / n
+    soft % n != 0 || 4096 < soft / n
 }
 
 fn bad_step(s: Schedule) -> bool
     ensures { result ≡ bad_step s }
 {
-    match s {
-        Schedule::Sequential => false,
-        Schedule::Layered(step) => step == 0,
-    }
+    matches!(s, Schedule::Layered(0))
 }
 
 // The sum is one of integers.
+#[tactic(auto, unfolding(crate::specs::Refusal::bad_part))]
 fn bad_part(n: usize, part: Part) -> bool
     ensures { result ≡ bad_part n part }
 {
-    if part.length < 193 {
-        return true;
-    }
-    if 65535 < part.length {
-        return true;
-    }
-    n < ldpc_shape::wide(part.first) + ldpc_shape::wide(part.length)
+    part.length < 193 || 65535 < part.length || n < part.first as usize + part.length as usize
 }
 
 // (n + 3E) times lanes.
+#[tactic(auto, unfolding(crate::specs::Refusal::work_need))]
 pub fn work_need(of: Sizes, lanes: usize) -> usize
     requires { Bounded of × (lanes ≤ 64) }
     ensures { result ≡ work_need of lanes }
@@ -68,6 +61,7 @@ pub fn work_need(of: Sizes, lanes: usize) -> usize
 }
 
 // E + P + 1.
+#[tactic(auto, unfolding(crate::specs::Refusal::lists_need))]
 pub fn lists_need(of: Sizes) -> usize
     requires { Bounded of }
     ensures { result ≡ lists_need of }
@@ -75,51 +69,41 @@ pub fn lists_need(of: Sizes) -> usize
     of.e + of.p + 1
 }
 
+#[tactic(auto, unfolding(crate::specs::Refusal::too_short, crate::specs::Refusal::out_need))]
 fn too_short(of: Sizes, lanes: usize, lent: Lent) -> bool
     requires { Bounded of × (lanes ≤ 64) × (lent.soft / of.n ≤ 4096) }
     ensures { result ≡ too_short of lanes lent }
 {
     let words = lent.soft / of.n;
-    if lent.out < words * of.n {
-        return true;
-    }
-    if lent.room < words {
-        return true;
-    }
-    if lent.work < work_need(of, lanes) {
-        return true;
-    }
-    lent.lists < lists_need(of)
+    let work = work_need(of, lanes);
+    let lists = lists_need(of);
+    lent.out < words * of.n || lent.room < words || lent.work < work || lent.lists < lists
 }
 
-// The first of the refusals 2 to 11 and 13 that applies, 0 for none.
-pub fn refusal(n: u32, lens: &[u32], addrs: &[u16], set: Settings, lent: Lent) -> u32
-    ensures { result ≡ first_refusal n lens.now addrs.now set lent }
+// The plan of a run, or the first of the refusals 2 to 11 and 13 that applies.
+pub fn plan(n: u32, lens: &[u32], addrs: &[u16], set: Settings, lent: Lent) -> Result<Plan, Refusal>
+    ensures number { number_of result ≡ first_refusal n lens.now addrs.now set lent }
+    ensures plan { IfOk result (λ p. p ≡ plan_of (sizes_of n lens.now addrs.now) lent.soft set) }
 {
-    let code = ldpc_shape::refusal(n, lens, addrs);
-    if code != 0 {
-        return code;
-    }
-    let of = ldpc_shape::sizes_of(n, lens, addrs);
+    let of = ldpc_shape::accept(n, lens, addrs)?;
     if bad_lanes(set.lanes) {
-        return 7;
+        return Err(Refusal::Lanes);
     }
-    if bad_words(of.n, lent.soft) {
-        return 8;
+    let soft = lent.soft;
+    if bad_words(of.n, soft) {
+        return Err(Refusal::Words);
     }
     if 65535 < set.limits.iterations {
-        return 9;
+        return Err(Refusal::IterationLimit);
     }
-    let schedule = set.schedule;
-    if bad_step(schedule) {
-        return 10;
+    if bad_step(set.schedule) {
+        return Err(Refusal::Step);
     }
-    let part = set.part;
-    if bad_part(of.n, part) {
-        return 11;
+    if bad_part(of.n, set.part) {
+        return Err(Refusal::Bch);
     }
-    if too_short(of, ldpc_shape::wide(set.lanes), lent) {
-        return 13;
+    if too_short(of, set.lanes as usize, lent) {
+        return Err(Refusal::TooShort);
     }
-    0
+    Ok(decoder_plan::plan_of(of, soft, set))
 }

@@ -1,6 +1,6 @@
 -- `decoder::accepted` meets its contract: the lists are built into the lent slice, the words decoded, and what was lent is cleared.
 -- Assumes nothing.
-use mathlib.Core.Path.{◌≡◌, sym, ap, ◌∙◌}
+use mathlib.Core.Path.{◌≡◌, ap, ◌∙◌}
 use mathlib.Core.List.{◌++◌}
 use Prim.Native.Nat.{ℕ, ◌*◌, ◌≤◌}
 use native.Mathlib.Omega.{arith}
@@ -13,28 +13,6 @@ use Rattle.decoder_refuse.specs.Refusal.{lists_need}
 use Rattle.decoder_words.specs.Fields.{fields}
 use Rattle.decoder.specs.Accept.{given_so, working_so, code_so, cleared, accepts, decoded_back, decoded_of_lem, prefix_length}
 use Rattle.decoder.proofs.accepted.Goals as goal
-
-pub work_need-need-requires : goal.work_need-need-requires
-work_need-need-requires c = (c.requires.fair.code, c.requires.fair.few_lanes)
-
-pub lists_need-size-requires : goal.lists_need-size-requires
-lists_need-size-requires c = c.requires.fair.code
-
-pub overflow_mul-filled : goal.overflow_mul-filled
-overflow_mul-filled c = omega (arith, c.requires.fair.few_words)
-
-pub slice_bounds-build-end : goal.slice_bounds-build-end
-slice_bounds-build-end c =
-    let size : ℕ = c.lists_need-size.result in
-    let lists_fit : size ≤ length c.args.lists.now = omega (arith, c.requires.lists_fit, c.lists_need-size.ensures) in
-    lists_fit
-
-pub slice_bounds-build-end-2 : goal.slice_bounds-build-end-2
-slice_bounds-build-end-2 c =
-    let size : ℕ = c.lists_need-size.result in
-    let lists_fit : size ≤ length c.args.lists.now = omega (arith, c.requires.lists_fit, c.lists_need-size.ensures) in
-    let lists_lent : length (take size c.args.lists.now) ≡ size = length-take-le _ c.args.lists.now lists_fit in
-    sym lists_lent
 
 pub build-requires : goal.build-requires
 unfolding lists_need
@@ -50,28 +28,6 @@ lay_spans-requires c =
       code = (c.requires.code, c.requires.sizes);
       blank = (length-replicate {A = ℕ} 14520 0, λ l h. get_or-replicate {A = ℕ} 14520 l 0 0 (omega (arith, h)));
     }
-
-pub slice_bounds-decoded-end-4 : goal.slice_bounds-decoded-end-4
-slice_bounds-decoded-end-4 c =
-    let work_size : ℕ = c.work_need-need.result in
-    let work_fits : work_size ≤ length c.args.work.now = omega (arith, c.requires.work_fits, c.work_need-need.ensures) in
-    work_fits
-
-pub slice_bounds-decoded-end-5 : goal.slice_bounds-decoded-end-5
-slice_bounds-decoded-end-5 c =
-    let work_size : ℕ = c.work_need-need.result in
-    let work_fits : work_size ≤ length c.args.work.now = omega (arith, c.requires.work_fits, c.work_need-need.ensures) in
-    let work_lent : length (take work_size c.args.work.now) ≡ work_size = length-take-le _ c.args.work.now work_fits in
-    sym work_lent
-
-pub slice_bounds-decoded-end-6 : goal.slice_bounds-decoded-end-6
-slice_bounds-decoded-end-6 c = c.requires.records_fit
-
-pub slice_bounds-decoded-end-7 : goal.slice_bounds-decoded-end-7
-slice_bounds-decoded-end-7 c =
-    let records_lent : length (take (c.args.plan.words * fields) c.args.records.now) ≡ c.args.plan.words * fields =
-    length-take-le _ c.args.records.now c.requires.records_fit in
-    sym records_lent
 
 pub decoded-ran-requires : goal.decoded-ran-requires
 decoded-ran-requires c =
@@ -119,7 +75,7 @@ returns c =
     accepts _ _ _ c.requires.fair.some_lanes _ _ _ _ _ by _ _ _ _
     (prefix_length m c.args.records.now c.decoded-ran.new.records c.requires.records_fit q)
     (drop_at c.decoded-ran.new.records (drop m c.args.records.now) m q)
-    (cleared (pos 0) work_size c.args.work.now c.decoded-ran.new.work _ work_fits worked_long c.clear_work.ensures
+    (cleared (pos 0) work_size c.args.work.now c.decoded-ran.new.work _ work_fits worked_long (c.fill.ensures.after (λ y e. e))
     ∙ ap (λ (k : ℕ). replicate k (pos 0) ++ drop k c.args.work.now) c.work_need-need.ensures)
-    (cleared 0 size c.args.lists.now c.build.new.lists _ lists_fit built_long c.clear_numbers.ensures
+    (cleared 0 size c.args.lists.now c.build.new.lists _ lists_fit built_long (c.fill-2.ensures.after (λ y e. e))
     ∙ ap (λ (k : ℕ). replicate k 0 ++ drop k c.args.lists.now) c.lists_need-size.ensures)

@@ -20,8 +20,8 @@ complete-ended-requires c =
     let order_input : take c.args.plan.words c.number.new.order ≡ input_order c.args.plan.words =
     order_is c.args.plan.words c.number.new.order c.requires.given.0.fair.few_words
     (c.number.ensures ∙ ap input_order (length-replicate {A = ℕ} 4096 0)) in
-    let records_zero : c.clear_numbers.new.numbers ≡ replicate (c.args.plan.words * fields) 0 =
-    c.clear_numbers.ensures ∙ ap (λ (m : ℕ). replicate m 0) c.requires.room.1 in
+    let records_zero : c.fill.new.self ≡ replicate (c.args.plan.words * fields) 0 =
+    c.fill.ensures.after (λ y e. e) ∙ ap (λ (m : ℕ). replicate m 0) c.requires.room.1 in
     let o = order_input in
     let z = records_zero in
     record {
@@ -34,13 +34,13 @@ complete-ended-requires c =
 
 pub tally-sums-requires : goal.tally-sums-requires
 tally-sums-requires c =
-    let records_long : length c.clear_numbers.new.numbers ≡ c.args.plan.words * fields = c.clear_numbers.auto.numbers ∙ c.requires.room.1 in
+    let records_long : length c.fill.new.self ≡ c.args.plan.words * fields = c.fill.auto.self ∙ c.requires.room.1 in
     let order_input : take c.args.plan.words c.number.new.order ≡ input_order c.args.plan.words =
     order_is c.args.plan.words c.number.new.order c.requires.given.0.fair.few_words
     (c.number.ensures ∙ ap input_order (length-replicate {A = ℕ} 4096 0)) in
     let finished :
-    Finished (code_by c.args.plan c.args.lists.now) c.args.plan c.args.soft.now (book c.clear_numbers.new.numbers c.args.out.now)
-    c.complete-ended.result.stopped c.complete-ended.result.rounds c.complete-ended.result.next (book c.correct.new.records c.correct.new.out) =
+    Finished (code_by c.args.plan c.args.lists.now) c.args.plan c.args.soft.now (book c.fill.new.self c.args.out.now)
+    c.complete-ended.result.stopped c.complete-ended.result.rounds c.complete-ended.result.lanes.next (book c.correct.new.records c.correct.new.out) =
     finished_so _ _ _ _ _ _ _ _ _ _ order_input c.complete-ended.ensures c.correct.ensures in
     record {
       words_bound =
@@ -48,30 +48,29 @@ tally-sums-requires c =
       iterations_bound = iterations_few _ _ _ _ _ _ _ _ finished c.requires.given.0.fair.some_lanes c.requires.given.0.fair.limit_fits;
     }
 
-pub overflow_cast-loaded : goal.overflow_cast-loaded
-overflow_cast-loaded c =
+pub overflow_cast-result : goal.overflow_cast-result
+overflow_cast-result c =
     let order_input : take c.args.plan.words c.number.new.order ≡ input_order c.args.plan.words =
     order_is c.args.plan.words c.number.new.order c.requires.given.0.fair.few_words
     (c.number.ensures ∙ ap input_order (length-replicate {A = ℕ} 4096 0)) in
     let finished :
-    Finished (code_by c.args.plan c.args.lists.now) c.args.plan c.args.soft.now (book c.clear_numbers.new.numbers c.args.out.now)
-    c.complete-ended.result.stopped c.complete-ended.result.rounds c.complete-ended.result.next (book c.correct.new.records c.correct.new.out) =
+    Finished (code_by c.args.plan c.args.lists.now) c.args.plan c.args.soft.now (book c.fill.new.self c.args.out.now)
+    c.complete-ended.result.stopped c.complete-ended.result.rounds c.complete-ended.result.lanes.next (book c.correct.new.records c.correct.new.out) =
     finished_so _ _ _ _ _ _ _ _ _ _ order_input c.complete-ended.ensures c.correct.ensures in
     omega (arith, next_le _ _ _ _ _ _ _ _ finished c.requires.given.0.fair.some_lanes, c.requires.given.0.fair.few_words)
 
 pub returns : goal.returns
 returns c =
-    let records_zero : c.clear_numbers.new.numbers ≡ replicate (c.args.plan.words * fields) 0 =
-    c.clear_numbers.ensures ∙ ap (λ (m : ℕ). replicate m 0) c.requires.room.1 in
+    let records_zero : c.fill.new.self ≡ replicate (c.args.plan.words * fields) 0 =
+    c.fill.ensures.after (λ y e. e) ∙ ap (λ (m : ℕ). replicate m 0) c.requires.room.1 in
     let order_input : take c.args.plan.words c.number.new.order ≡ input_order c.args.plan.words =
     order_is c.args.plan.words c.number.new.order c.requires.given.0.fair.few_words
     (c.number.ensures ∙ ap input_order (length-replicate {A = ℕ} 4096 0)) in
     let finished :
-    Finished (code_by c.args.plan c.args.lists.now) c.args.plan c.args.soft.now (book c.clear_numbers.new.numbers c.args.out.now)
-    c.complete-ended.result.stopped c.complete-ended.result.rounds c.complete-ended.result.next (book c.correct.new.records c.correct.new.out) =
+    Finished (code_by c.args.plan c.args.lists.now) c.args.plan c.args.soft.now (book c.fill.new.self c.args.out.now)
+    c.complete-ended.result.stopped c.complete-ended.result.rounds c.complete-ended.result.lanes.next (book c.correct.new.records c.correct.new.out) =
     finished_so _ _ _ _ _ _ _ _ _ _ order_input c.complete-ended.ensures c.correct.ensures in
     record {
-      number = refl;
       words_are = refl;
       runs = finished_zero _ _ _ _ _ _ _ _ _ records_zero finished;
       given_are = c.tally-sums.ensures.0;
