@@ -1,55 +1,63 @@
--- The tally, and from the core's run to the metered one. Proofs, not specs, since a wrong `counted` shall be refused for what it means
+-- From the core's run to the metered one. Proofs, not specs, since a wrong `tally_of` shall be refused for what it means
 -- (must-fail/refused_run_clears_the_tally.edit).
-use Rattle.std.specs.Prelude.{false, List, ◌≡◌, refl, ℕ, zero, suc, ◌/◌, ℤ, length}
-use Rattle.std.proofs.Common.{sym, ◌∙◌, ap, not-suc-le-zero, arith}
+use Rattle.std.specs.Prelude.{Bool, List, ◌≡◌, ◌≢◌, refl, ℕ, ◌/◌, ℤ, length, Result, Ok, Err}
+use Rattle.std.proofs.Common.{sym, ◌∙◌, ap, subst, arith}
+use Rattle.refusal.specs.Number.{number_of, refusal_of}
+use Rattle.refusal.specs.declared.Refusal.{Refusal}
 use Rattle.decoder_plan.specs.declared.Settings.{Settings}
 use Rattle.decoder_words.specs.Fields.{fields}
-use Rattle.decoder.specs.Refused.{run_refusal, nothing}
+use Rattle.decoder_words.specs.declared.Noted.{Noted}
+use Rattle.decoder.specs.Refused.{run_refusal, nothing, words_ran}
 use Rattle.decoder.specs.declared.Ran.{Ran}
-use Rattle.meter.specs.declared.Recorded.{Recorded}
-use Rattle.meter.specs.declared.WordRecord.{WordRecord}
 use Rattle.meter.specs.declared.Tally.{Tally}
-use Rattle.meter.specs.declared.Answer.{Answer}
-use Rattle.meter.specs.Metered.{Metered, blank, answer_of, number_of, counted, records_of, tally_of}
+use Rattle.meter.specs.Metered.{Metered, blank, ending_of, answer_of, records_from, records_of, tally_of}
 use Rattle.meter.specs.Recording.{RecordedRun, numbers_of}
-use Rattle.meter.specs.Laws.{answer_refused, answer_number, records_same, blank_room, numbers_record}
+use Rattle.meter.specs.Laws.{records_same, blank_room, numbers_record}
 
--- ---- the tally
-pub counted_afresh : (k : ℕ) (fresh was : Tally) → k ≡ 0 → counted k fresh was ≡ fresh
-counted_afresh zero fresh was e = refl
-counted_afresh (suc k) fresh was e = absurd (not-suc-le-zero {n = k} (omega arith))
+answer_number : (x : Result Ran Refusal) → number_of (answer_of x) ≡ number_of x
+answer_number (Ok r) = refl
+answer_number (Err e) = refl
 
-pub counted_refused : (k : ℕ) (fresh was : Tally) → (k ≡ 0 → ⊥) → counted k fresh was ≡ was
-counted_refused zero fresh was ne = absurd (ne refl)
-counted_refused (suc k) fresh was ne = refl
+-- a refused run leaves the tally as it was
+tally_refused : (x : Result Ran Refusal) (t : Tally) → number_of x ≢ 0 → tally_of x t ≡ t
+tally_refused (Ok r) t some = absurd (some refl)
+tally_refused (Err e) t some = refl
 
--- ---- from the core's run to the metered one; a refused run has no words, and so changes neither records nor tally
-pub metered : {n : ℕ} {lens addrs : List ℕ} {soft : List ℤ} {set : Settings} {out out' : List ℕ} {rs rs' : List WordRecord} {t t' : Tally} {work work' : List ℤ} {lists lists' : List ℕ} {a : Answer}
-    (r : Recorded) → RecordedRun n lens addrs soft set (length rs) out out' work work' lists lists' r → a ≡ answer_of r.ran → rs' ≡ records_of r.ran r.numbers rs → t' ≡ tally_of r.ran t
-    → Metered n lens addrs soft set out out' rs rs' t t' work work' lists lists' a
-metered {n} {lens} {addrs} {soft} {set} {out} {out'} {rs} {rs'} {t} {t'} {work} {work'} {lists} {lists'} {a} r R answers records tallies =
-    let words = r.ran.words in
-    let numbers = numbers_of (length rs) words r.numbers in
+-- it has no words, and so changes no records
+pub metered : {n : ℕ} {lens addrs : List ℕ} {soft : List ℤ} {set : Settings} {out out' : List ℕ} {rs rs' : List Noted} {t t' : Tally} {own : List ℕ} {work work' : List ℤ} {lists lists' : List ℕ}
+    (x : Result Ran Refusal) → RecordedRun n lens addrs soft set (length rs) out out' own work work' lists lists' x → rs' ≡ records_of x own rs → t' ≡ tally_of x t
+    → Metered n lens addrs soft set out out' rs rs' t t' work work' lists lists' (answer_of x)
+metered {n} {lens} {addrs} {soft} {set} {out} {out'} {rs} {rs'} {t} {t'} {own} {work} {work'} {lists} {lists'} x R records tallies =
+    let words = words_ran x in
+    let numbers = numbers_of (length rs) words own in
     let number : ℕ = run_refusal n lens addrs soft set (length rs) out work lists in
     let is : run_refusal n lens addrs soft set (length (blank (length rs)) / fields) out work lists ≡ number =
     ap (λ (k : ℕ). run_refusal n lens addrs soft set k out work lists) (blank_room (length rs)) in
+    let number_is = answer_number x ∙ R.runs.number ∙ is in
     record {
-      ran = r.ran;
+      ran = x;
       numbers = numbers;
       runs = R.runs;
-      answers = answers;
-      number = ap number_of answers ∙ answer_number r.ran;
-      records = records ∙ records_same r.numbers numbers 0 words rs (λ i h. numbers_record (length rs) words r.numbers R.numbers_long i (omega (arith, h)));
+      answers = refl;
+      number = number_is;
+      records = records ∙ records_same own numbers 0 words rs (λ i h. numbers_record (length rs) words own R.numbers_long i (omega (arith, h)));
       tallies = tallies;
       refused = λ some.
           let q = R.runs.refused (λ z. some (sym is ∙ z)) in
-          let answer_is = q.answer ∙ ap nothing is in
-          let so : r.ran.refusal ≡ number = ap (λ (x : Ran). x.refusal) answer_is in (
-            answers ∙ ap answer_of answer_is ∙ sym (answer_refused number false some),
+          let answer_is = q.answer ∙ ap nothing is in (
+            ap answer_of answer_is,
             q.out_is,
-            records ∙ ap (λ (x : Ran). records_of x r.numbers rs) answer_is,
-            tallies ∙ counted_refused r.ran.refusal _ t (λ z. some (sym so ∙ z)),
+            records ∙ ap (λ (y : Result Ran Refusal). records_of y own rs) answer_is,
+            tallies ∙ tally_refused x t (λ z. some (sym is ∙ sym R.runs.number ∙ z)),
             q.work_is,
             q.lists_is,
           );
     }
+
+-- an accepted run whose records are stored one by one
+pub metered_stored : {n : ℕ} {lens addrs : List ℕ} {soft : List ℤ} {set : Settings} {out out' : List ℕ} {rs rs' : List Noted} (t : Tally) {own : List ℕ} {work work' : List ℤ} {lists lists' : List ℕ}
+    (r : Ran) (b : Bool) → RecordedRun n lens addrs soft set (length rs) out out' own work work' lists lists' (Ok r) → (w : ℕ) → rs' ≡ records_from own 0 w rs → w ≡ r.words → r.stopped ≡ b
+    → Metered n lens addrs soft set out out' rs rs' t (tally_of (Ok r) t) work work' lists lists' (Ok (ending_of b))
+metered_stored {n} {lens} {addrs} {soft} {set} {out} {out'} {rs} {rs'} t {own} {work} {work'} {lists} {lists'} r b R w stored all ends =
+    subst (λ (x : Bool). Metered n lens addrs soft set out out' rs rs' t (tally_of (Ok r) t) work work' lists lists' (Ok (ending_of x))) ends
+    (metered (Ok r) R (stored ∙ ap (λ (k : ℕ). records_from own 0 k rs) all) refl)

@@ -1,15 +1,12 @@
--- What the functions below `run` say: a run recorded in numbers of the program's own.
-use Rattle.std.specs.Prelude.{cond, List, ◌++◌, ℕ, ◌-◌, ◌*◌, ◌≤◌, ℤ, ltb, length, replicate}
+-- A run recorded in numbers of the program's own.
+use Rattle.std.specs.Prelude.{cond, List, ◌++◌, ℕ, ◌-◌, ◌*◌, ◌≤◌, ℤ, ltb, length, Result}
 use Rattle.decoder_plan.specs.declared.Settings.{Settings}
 use Rattle.decoder_words.specs.Fields.{fields, first_records}
 use Rattle.decoder.specs.Runs.{Runs}
-use Rattle.meter.specs.declared.Recorded.{Recorded}
-use Rattle.meter.specs.declared.WordRecord.{WordRecord}
+use Rattle.decoder.specs.Refused.{words_ran}
+use Rattle.decoder.specs.declared.Ran.{Ran}
+use Rattle.refusal.specs.declared.Refusal.{Refusal}
 use Rattle.meter.specs.Metered.{blank}
-
--- Room for as many records as a run may have words, not yet written.
-unfoldable pub unwritten : List WordRecord
-unwritten = replicate 4096 (record { state = 0; iterations = 0; unsatisfied = 0; check = 0; bch = 0; changed = 0 })
 
 -- Of numbers with the records of so many words in front: those, and behind them blank ones for the rest of the room.
 abbrev pub numbers_of : ℕ → ℕ → List ℕ → List ℕ
@@ -19,7 +16,7 @@ numbers_of room words numbers = first_records words numbers ++ blank (room - wor
 abbrev pub room_for : ℕ → ℕ
 room_for room = cond (ltb 4096 room) 4096 room
 
--- What `core` answers: a run of the decoder's core over blank records with room for so many words, the words' records in front of the numbers.
-pub record RecordedRun (n : ℕ) (lens addrs : List ℕ) (soft : List ℤ) (set : Settings) (room : ℕ) (out out' : List ℕ) (work work' : List ℤ) (lists lists' : List ℕ) (r : Recorded) : Type 0 where
-  pub runs : Runs n lens addrs soft set out out' (blank room) (numbers_of room r.ran.words r.numbers) work work' lists lists' r.ran
-  pub numbers_long : r.ran.words * fields ≤ length r.numbers
+-- What the core leaves there: a run over blank records with room for so many words, the words' records in front of the numbers.
+pub record RecordedRun (n : ℕ) (lens addrs : List ℕ) (soft : List ℤ) (set : Settings) (room : ℕ) (out out' : List ℕ) (numbers : List ℕ) (work work' : List ℤ) (lists lists' : List ℕ) (a : Result Ran Refusal) : Type 0 where
+  pub runs : Runs n lens addrs soft set out out' (blank room) (numbers_of room (words_ran a) numbers) work work' lists lists' a
+  pub numbers_long : words_ran a * fields ≤ length numbers

@@ -1,6 +1,30 @@
--- The core's run, its records written, its tally and its answer.
-use Rattle.meter.proofs.Metering.{metered}
+-- The core's run over the program's own numbers, its records written, and the tally.
+use Rattle.std.proofs.Common.{refl, ap, ◌∙◌, ◌*◌, Err, arith, set}
+use Rattle.std.proofs.lemmas.Result.{err_from_is_err_and}
+use Rattle.decoder_words.specs.Fields.{fields}
+use Rattle.meter.specs.Laws.{min_room, recorded_so, records_again}
+use Rattle.meter.proofs.Metering.{metered, metered_stored}
 use Rattle.meter.proofs.run.Goals as goal
 
+pub returns-in_err-ran : goal.returns-in_err-ran
+returns-in_err-ran c =
+    let p = err_from_is_err_and c.from_residual.result c.from_residual.ensures.1 in
+    rw (p.1, p.2)
+    (metered (Err c.in_err-ran.field-0.0)
+    (recorded_so _ c.min-size.result (4096 * fields) _ c.core.new.records (c.min-size.ensures ∙ min_room _) refl c.core.auto.records c.in_err-ran.ensures) refl refl)
+
+pub loop-w-preserved : goal.loop-w-preserved
+loop-w-preserved c =
+    ap (λ x. set c.loop-w.records c.loop-w.w x) c.read.ensures ∙ records_again _ c.loop-w.w _ c.loop-w.records c.loop-w.invariant
+
+pub returns-then-ran : goal.returns-then-ran
+returns-then-ran c =
+    metered_stored c.args.tally.now c.in_ok-ran.ran _
+    (recorded_so _ c.min-size.result (4096 * fields) _ c.core.new.records (c.min-size.ensures ∙ min_room _) refl c.core.auto.records c.in_ok-ran.ensures)
+    c.loop-w.w c.loop-w.invariant (omega arith) c.if-ran.true
+
 pub returns : goal.returns
-returns c = metered c.core-ran.result c.core-ran.ensures c.answer_of.ensures c.write.ensures c.tally_of.ensures
+returns c =
+    metered_stored c.args.tally.now c.in_ok-ran.ran _
+    (recorded_so _ c.min-size.result (4096 * fields) _ c.core.new.records (c.min-size.ensures ∙ min_room _) refl c.core.auto.records c.in_ok-ran.ensures)
+    c.loop-w.w c.loop-w.invariant (omega arith) c.if-ran.false
