@@ -1,26 +1,10 @@
 -- What the entry points answer, and what they leave in the lent slices: the first refusal that applies, and then nothing is changed.
-use Rattle.std.specs.Prelude.{cond, List, ◌++◌, ℕ, suc, ◌+◌, eqb, ltb, leb, length, drop}
+use Rattle.std.specs.Prelude.{cond, List, ◌++◌, ℕ, suc, ◌+◌, eqb, ltb, leb, length, drop, Result}
+use Rattle.refusal.specs.Number.{answer}
+use Rattle.refusal.specs.declared.Refusal.{Refusal}
 use Rattle.ldpc_shape.specs.Shape.{k_of, p_of, q_of, e_of, code_refusal}
 use Rattle.ldpc_edges.specs.Code.{check, edge_lists, parity, encode, weight}
-use Rattle.ldpc.specs.declared.Made.{Made}
-use Rattle.ldpc.specs.declared.Made.TheVariants as made
-use Rattle.ldpc.specs.declared.Counted.{Counted}
-use Rattle.ldpc.specs.declared.Counted.TheVariants as counted
-use Rattle.ldpc.specs.declared.Written.{Written}
-use Rattle.ldpc.specs.declared.Written.TheVariants as written
-
--- ---- the scope's number of each answer, 0 for none
-abbrev pub made_number : Made → ℕ
-made_number (made.Refused r) = r
-made_number (made.Code k p q e) = 0
-
-abbrev pub counted_number : Counted → ℕ
-counted_number (counted.Refused r) = r
-counted_number (counted.Count m) = 0
-
-abbrev pub written_number : Written → ℕ
-written_number (written.Refused r) = r
-written_number written.Done = 0
+use Rattle.ldpc.specs.declared.Code.{Code}
 
 -- ---- the refusals: 2 to 6, then 12 and 13 where they concern the call
 -- a if it is a refusal, else b
@@ -59,24 +43,21 @@ weight_refusal n lens addrs size = or_else (code_refusal n lens addrs) (other_of
 
 -- ---- the answers
 -- for a slice of `size` numbers
-unfoldable pub new_answer : ℕ → List ℕ → List ℕ → ℕ → Made
-new_answer n lens addrs size =
-    cond (eqb (new_refusal n lens addrs size) 0) (made.Code (k_of lens) (p_of n lens) (q_of n lens) (e_of n lens addrs)) (made.Refused (new_refusal n lens addrs size))
+unfoldable pub new_answer : ℕ → List ℕ → List ℕ → ℕ → Result Code Refusal
+new_answer n lens addrs size = answer (new_refusal n lens addrs size) (record { k = k_of lens; p = p_of n lens; q = q_of n lens; e = e_of n lens addrs })
 
-unfoldable pub check_answer : ℕ → List ℕ → List ℕ → ℕ → ℕ → Counted
-check_answer n lens addrs c size =
-    cond (eqb (check_refusal n lens addrs c size) 0) (counted.Count (length (check n lens addrs c))) (counted.Refused (check_refusal n lens addrs c size))
+unfoldable pub check_answer : ℕ → List ℕ → List ℕ → ℕ → ℕ → Result ℕ Refusal
+check_answer n lens addrs c size = answer (check_refusal n lens addrs c size) (length (check n lens addrs c))
 
 -- for information of k bytes and a slice of `size` bytes
-unfoldable pub parity_answer : ℕ → List ℕ → List ℕ → ℕ → ℕ → Written
-parity_answer n lens addrs k size = cond (eqb (parity_refusal n lens addrs k size) 0) written.Done (written.Refused (parity_refusal n lens addrs k size))
+unfoldable pub parity_answer : ℕ → List ℕ → List ℕ → ℕ → ℕ → Result Unit Refusal
+parity_answer n lens addrs k size = answer (parity_refusal n lens addrs k size) tt
 
-unfoldable pub encode_answer : ℕ → List ℕ → List ℕ → ℕ → ℕ → Written
-encode_answer n lens addrs k size = cond (eqb (encode_refusal n lens addrs k size) 0) written.Done (written.Refused (encode_refusal n lens addrs k size))
+unfoldable pub encode_answer : ℕ → List ℕ → List ℕ → ℕ → ℕ → Result Unit Refusal
+encode_answer n lens addrs k size = answer (encode_refusal n lens addrs k size) tt
 
-unfoldable pub weight_answer : ℕ → List ℕ → List ℕ → List ℕ → Counted
-weight_answer n lens addrs bits =
-    cond (eqb (weight_refusal n lens addrs (length bits)) 0) (counted.Count (weight n lens addrs bits)) (counted.Refused (weight_refusal n lens addrs (length bits)))
+unfoldable pub weight_answer : ℕ → List ℕ → List ℕ → List ℕ → Result ℕ Refusal
+weight_answer n lens addrs bits = answer (weight_refusal n lens addrs (length bits)) (weight n lens addrs bits)
 
 -- ---- the slices: the result in front and the tail as it was, or all as it was
 unfoldable pub in_front : ℕ → List ℕ → List ℕ → List ℕ

@@ -1,7 +1,10 @@
 -- Laws of the answers: which of two refusals `or_else` gives, and each answer's number is the refusal's.
-use Rattle.std.specs.Prelude.{◌≡◌, refl, Bool, true, false, cond, List, ℕ, eqb, length}
-use Rattle.std.proofs.Common.{sym, ap, ◌∙◌, eq-eqb, ne_eqb, eqb-true}
-use Rattle.ldpc.specs.Answers.{made_number, counted_number, written_number, or_else, new_refusal, check_refusal, parity_refusal, encode_refusal, weight_refusal, new_answer, check_answer, parity_answer, encode_answer, weight_answer}
+use Rattle.std.specs.Prelude.{◌≡◌, Bool, true, false, cond, not, List, ℕ, ◌*◌, ◌≤◌, eqb, ltb, leb, length}
+use Rattle.std.proofs.Common.{sym, ap, ◌∙◌, arith, eq-eqb, ne_eqb}
+use Rattle.refusal.specs.Number.{number_of}
+use Rattle.refusal.specs.NumberLaws.{number_answer}
+use Rattle.ldpc_shape.specs.Shape.{q_of, total, any_over, counts_mod, bad_length, code_refusal}
+use Rattle.ldpc.specs.Answers.{or_else, short_of, other_of, beyond_of, new_refusal, check_refusal, parity_refusal, encode_refusal, weight_refusal, new_answer, check_answer, parity_answer, encode_answer, weight_answer}
 
 pub or_first : (a b r : ℕ) → r ≡ a → (r ≡ 0 → ⊥) → r ≡ or_else a b
 unfolding or_else
@@ -11,28 +14,52 @@ pub or_next : (a b r : ℕ) → a ≡ 0 → r ≡ b → r ≡ or_else a b
 unfolding or_else
 or_next a b r e f = f ∙ sym (ap (λ t. cond t b a) (eq-eqb a 0 e))
 
--- ---- the number of each answer is the refusal
-module _ (f : ℕ) where
-  numbered : {A : Type 0} (number : A → ℕ) (done refused : A) → number done ≡ 0 → number refused ≡ f → (b : Bool) → eqb f 0 ≡ b → number (cond b done refused) ≡ f
-  numbered number done refused d r true e = d ∙ sym (eqb-true f 0 e)
-  numbered number done refused d r false e = r
+-- ---- the number of each answer is the refusal's
+cond_le : (b : Bool) (x y m : ℕ) → x ≤ m → y ≤ m → cond b x y ≤ m
+cond_le true x y m h g = h
+cond_le false x y m h g = g
 
-pub new_number : (n : ℕ) (lens addrs : List ℕ) (size : ℕ) → made_number (new_answer n lens addrs size) ≡ new_refusal n lens addrs size
-unfolding new_answer
-new_number n lens addrs size = numbered (new_refusal n lens addrs size) made_number _ _ refl refl _ refl
+code_le : (n : ℕ) (lens addrs : List ℕ) → code_refusal n lens addrs ≤ 14
+unfolding code_refusal
+code_le n lens addrs =
+    cond_le (bad_length n) 2 _ 14 (omega arith)
+    (cond_le (leb n (374 * length lens)) 3 _ 14 (omega arith)
+    (cond_le (any_over 128 lens) 4 _ 14 (omega arith)
+    (cond_le (not (eqb (total lens) (length addrs))) 5 _ 14 (omega arith)
+    (cond_le (any_over 126 (counts_mod (q_of n lens) addrs (q_of n lens))) 6 0 14 (omega arith) (omega arith)))))
 
-pub check_number : (n : ℕ) (lens addrs : List ℕ) (c size : ℕ) → counted_number (check_answer n lens addrs c size) ≡ check_refusal n lens addrs c size
-unfolding check_answer
-check_number n lens addrs c size = numbered (check_refusal n lens addrs c size) counted_number _ _ refl refl _ refl
+else_le : (a b : ℕ) → a ≤ 14 → b ≤ 14 → or_else a b ≤ 14
+unfolding or_else
+else_le a b h g = cond_le (eqb a 0) b a 14 g h
 
-pub parity_number : (n : ℕ) (lens addrs : List ℕ) (k size : ℕ) → written_number (parity_answer n lens addrs k size) ≡ parity_refusal n lens addrs k size
-unfolding parity_answer
-parity_number n lens addrs k size = numbered (parity_refusal n lens addrs k size) written_number _ _ refl refl _ refl
+short_le : (needed size : ℕ) → short_of needed size ≤ 14
+unfolding short_of
+short_le needed size = cond_le (ltb size needed) 13 0 14 (omega arith) (omega arith)
 
-pub encode_number : (n : ℕ) (lens addrs : List ℕ) (k size : ℕ) → written_number (encode_answer n lens addrs k size) ≡ encode_refusal n lens addrs k size
-unfolding encode_answer
-encode_number n lens addrs k size = numbered (encode_refusal n lens addrs k size) written_number _ _ refl refl _ refl
+other_le : (size wanted : ℕ) → other_of size wanted ≤ 14
+unfolding other_of
+other_le size wanted = cond_le (eqb size wanted) 0 12 14 (omega arith) (omega arith)
 
-pub weight_number : (n : ℕ) (lens addrs bits : List ℕ) → counted_number (weight_answer n lens addrs bits) ≡ weight_refusal n lens addrs (length bits)
-unfolding weight_answer
-weight_number n lens addrs bits = numbered (weight_refusal n lens addrs (length bits)) counted_number _ _ refl refl _ refl
+beyond_le : (c p : ℕ) → beyond_of c p ≤ 14
+unfolding beyond_of
+beyond_le c p = cond_le (leb p c) 12 0 14 (omega arith) (omega arith)
+
+pub new_number : (n : ℕ) (lens addrs : List ℕ) (size : ℕ) → number_of (new_answer n lens addrs size) ≡ new_refusal n lens addrs size
+unfolding new_answer new_refusal
+new_number n lens addrs size = number_answer _ _ (else_le _ _ (code_le n lens addrs) (short_le _ size))
+
+pub check_number : (n : ℕ) (lens addrs : List ℕ) (c size : ℕ) → number_of (check_answer n lens addrs c size) ≡ check_refusal n lens addrs c size
+unfolding check_answer check_refusal
+check_number n lens addrs c size = number_answer _ _ (else_le _ _ (code_le n lens addrs) (else_le _ _ (beyond_le c _) (short_le _ size)))
+
+pub parity_number : (n : ℕ) (lens addrs : List ℕ) (k size : ℕ) → number_of (parity_answer n lens addrs k size) ≡ parity_refusal n lens addrs k size
+unfolding parity_answer parity_refusal
+parity_number n lens addrs k size = number_answer _ tt (else_le _ _ (code_le n lens addrs) (else_le _ _ (other_le k _) (short_le _ size)))
+
+pub encode_number : (n : ℕ) (lens addrs : List ℕ) (k size : ℕ) → number_of (encode_answer n lens addrs k size) ≡ encode_refusal n lens addrs k size
+unfolding encode_answer encode_refusal
+encode_number n lens addrs k size = number_answer _ tt (else_le _ _ (code_le n lens addrs) (else_le _ _ (other_le k _) (short_le _ size)))
+
+pub weight_number : (n : ℕ) (lens addrs bits : List ℕ) → number_of (weight_answer n lens addrs bits) ≡ weight_refusal n lens addrs (length bits)
+unfolding weight_answer weight_refusal
+weight_number n lens addrs bits = number_answer _ _ (else_le _ _ (code_le n lens addrs) (other_le (length bits) n))

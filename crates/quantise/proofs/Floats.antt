@@ -11,9 +11,8 @@ use lib.Signed.{mag}
 use mir.Syntax.{w8}
 use mir.Val.{SFits, to_z, of_z}
 use mir.ValLaws.{to_z-of_z}
-use lib.Ieee.{Float, nan, inf, fin, binary32, up, down, odd, of_fields, of_bits, is_nan, to_bits, fits, ne}
+use lib.Ieee.{Float, nan, inf, fin, binary32, up, down, odd, of_fields, of_bits, is_nan, to_bits, fits}
 use lib.Ieee.Bits.{of_bits-to_bits}
-use lib.Ieee.Compare.{differs_from_itself, nan_differs}
 use lib.Ieee.Exact.{HasValue, odd_sign}
 use lib.Ieee.Fits.{down_pos}
 use lib.Ieee.Nearest.{div_same}
@@ -79,19 +78,16 @@ bits_soft p f n =
     let e = of_bits-to_bits binary32 p f in
     ap soft_value (sym e) ∙ of_bits_soft (to_bits binary32 p) (subst (λ (q : Float). T (not (is_nan q))) (sym e) n)
 
--- ---- a NaN is what differs from itself
+-- ---- what the test for a NaN says
 
-pub not_nan : (p : Float) → ne p p ≡ false → T (not (is_nan p))
+pub not_nan : (p : Float) → is_nan p ≡ false → T (not (is_nan p))
+not_nan p e = subst (λ (b : Bool). T (not b)) (sym e) tt
+
+pub nan_soft : (p : Float) → is_nan p ≡ true → pos 0 ≡ soft_value p
 unfolding is_nan
-not_nan nan e = let z : ◌≡◌ {A = ℕ} 0 1 = cc (nan_differs) in absurd (never z)
-  where
-    never : ◌≡◌ {A = ℕ} 0 1 → ⊥
-    never z = omega arith
-not_nan (inf s) e = tt
-not_nan (fin s m e') e = tt
-
-pub nan_soft : (p : Float) → ne p p ≡ true → pos 0 ≡ soft_value p
-nan_soft p e = sym (ap soft_value (differs_from_itself p (subst T (sym e) tt)))
+nan_soft nan e = refl
+nan_soft (inf s) e = cc
+nan_soft (fin s m e') e = cc
 
 -- ---- the result as an i8
 

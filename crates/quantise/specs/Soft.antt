@@ -1,9 +1,7 @@
 -- "One f32 product, rounded to the nearest whole number with halves away from zero, clamped to ±127. A NaN gives 0."
-use Rattle.std.specs.Prelude.{Bool, true, false, cond, List, map, ◌++◌, ℕ, zero, suc, ◌+◌, ◌*◌, ◌/◌, min, eqb, ltb, ℤ, pos, neg_ℤ, Float, length, drop}
+use Rattle.std.specs.Prelude.{Bool, true, false, cond, List, map, ◌++◌, ℕ, ◌+◌, ◌*◌, ◌/◌, min, eqb, ltb, ℤ, pos, neg_ℤ, Float, length, drop}
 use Rattle.std.specs.Float.{nan, inf, fin, binary32}
 use Rattle.std.specs.Float.Ieee.{up, down, mul}
-use Rattle.quantise.specs.declared.Quantised.{Quantised}
-use Rattle.quantise.specs.declared.Quantised.TheVariants.{Done, Refused}
 
 -- n with a sign, negative where s is true
 abbrev pub signed : Bool → ℕ → ℤ
@@ -28,16 +26,6 @@ soft_of scale x = soft_value (mul binary32 x scale)
 -- "13. A lent output or work slice is too short": here where the output is shorter than the input. 0 where nothing is refused
 abbrev pub quantise_refusal : List Float → List ℤ → ℕ
 quantise_refusal llr out = cond (ltb (length out) (length llr)) 13 0
-
--- the scope's number of each answer, 0 where nothing is refused
-abbrev pub quantised_number : Quantised → ℕ
-quantised_number Done = 0
-quantised_number (Refused n) = n
-
--- and the answer to each number
-abbrev pub answer_of : ℕ → Quantised
-answer_of zero = Done
-answer_of (suc n) = Refused (suc n)
 
 -- a soft value for each float, then the rest of the output as it was
 abbrev pub written_of : List Float → Float → List ℤ → List ℤ

@@ -3,38 +3,31 @@
 #![tactic(auto)]
 
 ghost use Rattle.std.specs.Prelude.{◌≡◌, ◌<◌, ◌≤◌, length};
-ghost use Rattle.quantise.specs.Soft.{soft_of, quantise_refusal, quantised_number, answer_of, written_of, output_of};
+ghost use Rattle.refusal.specs.Number.{number_of, answer};
+ghost use Rattle.quantise.specs.Soft.{soft_of, quantise_refusal, written_of, output_of};
 ghost use Rattle.quantise.specs.Bits.{size_of};
 
-#[derive(Drop)]
-pub enum Quantised {
-    // Every value is written.
-    Done,
-    // The number of the refusal: nothing is changed.
-    Refused(u32),
-}
+use refusal::Refusal;
 
 // The soft values of `llr` times `scale`, into the front of `out`; the rest of `out` stays.
-pub fn quantise(llr: &[f32], scale: f32, out: &mut [i8]) -> Quantised
-    ensures answer { result ≡ answer_of (quantise_refusal llr.now out.old) }
+pub fn quantise(llr: &[f32], scale: f32, out: &mut [i8]) -> Result<(), Refusal>
+    ensures answer { result ≡ answer (quantise_refusal llr.now out.old) tt }
     ensures output { out.new ≡ output_of llr.now scale out.old }
-    ensures number { quantised_number result ≡ quantise_refusal llr.now out.old }
+    ensures number { number_of result ≡ quantise_refusal llr.now out.old }
 {
     if out.len() < llr.len() {
-        return Quantised::Refused(13);
+        return Err(Refusal::TooShort);
     }
     write(llr, scale, out);
-    Quantised::Done
+    Ok(())
 }
 
 fn write(llr: &[f32], scale: f32, out: &mut [i8])
     requires { length llr.now ≤ length out.old }
     ensures { out.new ≡ written_of llr.now scale out.old }
 {
-    let mut i = 0;
-    while i < llr.len() {
-        out[i] = soft(llr[i], scale);
-        i += 1;
+    for (i, &x) in llr.iter().enumerate() {
+        out[i] = soft(x, scale);
     }
 }
 
@@ -43,10 +36,10 @@ fn soft(x: f32, scale: f32) -> i8
     ensures { result ≡ soft_of scale x }
 {
     let product = x * scale;
-    if product != product {
+    if product.is_nan() {
         return 0;
     }
-    let bits = f32::to_bits(product);
+    let bits = product.to_bits();
     let n = magnitude(bits % 2147483648) as i8;
     if bits < 2147483648 { n } else { -n }
 }

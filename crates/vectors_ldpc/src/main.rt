@@ -3,6 +3,9 @@
 // parity and of the encoded word, and the syndrome weights of the encoded word, of it with three bits flipped, and of random bytes.
 #![tactic(auto)]
 
+use ldpc::Code;
+use refusal::Refusal;
+
 // The generator, and a draw below m.
 fn next(x: u64) -> u64 {
     ((x % 2147483648) * 1103515245 + 12345) % 2147483648
@@ -65,7 +68,7 @@ fn sum_rows(lens: &[u32]) -> usize {
     let mut s: usize = 0;
     let mut i: usize = 0;
     while i < lens.len() {
-        s = (s + ldpc_shape::wide(lens[i])) % 65536;
+        s = (s + lens[i] as usize) % 65536;
         i += 1;
     }
     s
@@ -120,37 +123,35 @@ fn flip(s: &mut [u8], x: u64) {
     }
 }
 
-fn show_count(a: ldpc::Counted) {
+fn show_refusal(refusal: Refusal) {
+    io::write_all(1, b"refused ");
+    show(refusal.number() as u64);
+}
+
+fn show_count(a: Result<u32, Refusal>) {
     match a {
-        ldpc::Counted::Count(m) => show(m as u64),
-        ldpc::Counted::Refused(r) => {
-            io::write_all(1, b"refused ");
-            show(r as u64)
-        }
+        Ok(m) => show(m as u64),
+        Err(refusal) => show_refusal(refusal),
     }
 }
 
-fn show_done(a: ldpc::Written) {
-    match a {
-        ldpc::Written::Done => {}
-        ldpc::Written::Refused(r) => {
-            io::write_all(1, b"refused ");
-            show(r as u64)
-        }
+fn show_done(a: Result<(), Refusal>) {
+    if let Err(refusal) = a {
+        show_refusal(refusal);
     }
 }
 
 // The checksum with check c's list.
 fn one_check(h: u64, n: u32, lens: &[u32], addrs: &[u16], c: u32, out: &mut [u32]) -> u64 {
     match ldpc::check(n, lens, addrs, c, out) {
-        ldpc::Counted::Count(m) => {
-            let d = ldpc_shape::wide(m);
+        Ok(m) => {
+            let d = m as usize;
             if d <= out.len() {
                 return mix_words(mix(h, m), &out[..d]);
             }
             h
         }
-        ldpc::Counted::Refused(r) => mix(h, r),
+        Err(refusal) => mix(h, refusal.number()),
     }
 }
 
@@ -216,16 +217,15 @@ fn show_numbers(k: u32, p: u32, q: u32, e: u32) {
 // The code's numbers, lists and checks; P.
 fn show_code(n: u32, lens: &[u32], addrs: &[u16], lists: &mut [u32]) -> usize {
     match ldpc::new(n, lens, addrs, lists) {
-        ldpc::Made::Refused(r) => {
-            io::write_all(1, b"refused ");
-            show(r as u64);
+        Err(refusal) => {
+            show_refusal(refusal);
             0
         }
-        ldpc::Made::Code { k, p, q, e } => {
+        Ok(Code { k, p, q, e }) => {
             show_numbers(k, p, q, e);
             show(mix_words(0, lists));
             show(all_checks(n, lens, addrs, p, lists));
-            ldpc_shape::wide(p)
+            p as usize
         }
     }
 }
@@ -301,7 +301,7 @@ fn replay(
 ) {
     let n = units % 121 * 374;
     let k = rows % 121 * 374;
-    let size = ldpc_shape::wide(n);
+    let size = n as usize;
     if size <= k {
         return;
     }

@@ -23,8 +23,7 @@ fn float(bits: u32) -> f32 {
     if bits % 2147483648 <= 2139095040 {
         return f32::from_bits(bits);
     }
-    let zero = 0.0f32;
-    zero / zero
+    f32::NAN
 }
 
 // A number in 0 .. 2^32 that `i` makes.
@@ -38,10 +37,10 @@ fn near(scale: f32, case: u32) -> f32
 {
     let h = (case / 10 * 2 + 1) as u16;
     let x = h as f32 * 0.5 / scale;
-    if x != x {
+    if x.is_nan() {
         return x;
     }
-    let size = f32::to_bits(x) % 2147483648 + case % 5;
+    let size = x.to_bits() % 2147483648 + case % 5;
     if size < 2 {
         return float(case / 5 % 2 * 2147483648);
     }
@@ -66,10 +65,8 @@ fn input(scale: f32, case: u32) -> f32
 fn fill(inputs: &mut [f32], scale: f32)
     requires { length inputs.old ≤ 1530 }
 {
-    let mut i = 0;
-    while i < inputs.len() {
+    for i in 0..inputs.len() {
         inputs[i] = input(scale, i as u32);
-        i += 1;
     }
 }
 
@@ -84,29 +81,15 @@ fn differing(out: &[i8], answers: &[u8]) -> usize
     requires { length out.now ≤ length answers.now }
     ensures { result ≤ length out.now }
 {
-    let mut n: usize = 0;
-    let mut i = 0;
-    while i < out.len() {
-        if out[i] != value(answers[i]) {
-            n += 1;
-        }
-        i += 1;
-    }
-    n
+    out.iter()
+        .zip(answers)
+        .filter(|(o, a)| **o != value(**a))
+        .count()
 }
 
-// How many places of `out` agree before the first that differs.
-fn agreeing(out: &[i8], answers: &[u8]) -> usize
-    requires { length out.now ≤ length answers.now }
-{
-    let mut i = 0;
-    while i < out.len() {
-        if out[i] != value(answers[i]) {
-            return i;
-        }
-        i += 1;
-    }
-    i
+// The first place of `out` that differs from the answer there.
+fn first_differing(out: &[i8], answers: &[u8]) -> Option<usize> {
+    out.iter().zip(answers).position(|(o, a)| *o != value(*a))
 }
 
 // How many of one scale's soft values differ from the answers.
@@ -117,28 +100,27 @@ fn replay(scale: f32, answers: &[u8]) -> usize
     let mut inputs = [0.0f32; 1530];
     let mut out = [0i8; 1530];
     fill(&mut inputs, scale);
-    quantise::quantise(&inputs, scale, &mut out);
-    let n = differing(&out, answers);
-    if 0 < n {
+    let _ = quantise::quantise(&inputs, scale, &mut out);
+    if let Some(i) = first_differing(&out, answers) {
         io::write_all(1, b"first at case ");
-        io::print_decimal(1, agreeing(&out, answers) as u64);
+        io::print_decimal(1, i as u64);
         io::write_all(1, b"\n");
     }
-    n
+    differing(&out, answers)
 }
 
 // Every scale whose answers are there.
 fn replay_all(answers: &[u8]) {
+    let mut compared: usize = 0;
     let mut differ: usize = 0;
-    let mut s: usize = 0;
-    while s < 13 {
-        if answers.len() < s * 1530 + 1530 {
+    for (s, &scale) in SCALES.iter().enumerate() {
+        if answers.len() < (s + 1) * 1530 {
             break;
         }
-        differ += replay(float(SCALES[s]), &answers[s * 1530..]);
-        s += 1;
+        differ += replay(float(scale), &answers[s * 1530..]);
+        compared += 1530;
     }
-    io::print_decimal(1, (s * 1530) as u64);
+    io::print_decimal(1, compared as u64);
     io::write_all(1, b" compared, ");
     io::print_decimal(1, differ as u64);
     io::write_all(1, b" differ\n");
@@ -147,7 +129,7 @@ fn replay_all(answers: &[u8]) {
 // Scale 1: 0.5 to 1, -2.5 to -3, 200 to 127.
 fn figures() {
     let mut out = [0i8; 3];
-    quantise::quantise(&[0.5, -2.5, 200.0], 1.0, &mut out);
+    let _ = quantise::quantise(&[0.5, -2.5, 200.0], 1.0, &mut out);
     if out[0] == 1 && out[1] == -3 && out[2] == 127 {
         io::write_all(1, b"3 figures agree\n");
     } else {

@@ -1,10 +1,5 @@
--- `vectors_quantise::float` is safe: the test is that the bits are no NaN's.
--- Assumes nothing.
-use mathlib.Core.Path.{sym, ◌∙◌, subst}
-use mathlib.Core.Bool.{Bool, not}
-use Prim.Native.Nat.{◌%◌}
-use borrow.Author.Tests.{le-ltb}
-use lib.Dec.{T}
+use Rattle.std.proofs.Common.{sym, ◌∙◌, subst, Bool, not, ◌%◌, T}
+use Rattle.std.proofs.lemmas.Bool.{le-ltb}
 use lib.Ieee.{binary32}
 use lib.Ieee.Bits.{nan_bits_above}
 use Rattle.vectors_quantise.proofs.float.Goals as goal
