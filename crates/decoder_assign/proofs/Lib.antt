@@ -1,1 +1,3 @@
-pub mod Taking
+pub mod Held
+mod Taking
+mod Filling

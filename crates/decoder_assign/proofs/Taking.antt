@@ -1,4 +1,4 @@
--- Refilling, step by step, up to what `Assigns` (specs/Assign.antt) says of it.
+-- Refilling, step by step: the lowest empty lane takes the next word, or the word leaves at once.
 use Rattle.std.specs.Prelude.{◌≡◌, refl, ◌≢◌, Bool, true, false, ◌||◌, List, ℕ, ◌+◌, ◌*◌, ◌≤◌, ◌<◌, eqb, ℤ, length, get_or, set, drop}
 use Rattle.std.proofs.Common.{sym, ◌∙◌, arith}
 use Rattle.std.proofs.Math.ListN.{length-set}
@@ -8,9 +8,8 @@ use Rattle.iteration.specs.Check.{Word}
 use Rattle.iteration.specs.Iteration.{Code}
 use Rattle.schedule.specs.Run.{over}
 use Rattle.schedule.specs.Status.{Status, done}
-use Rattle.schedule.specs.Lanes.{any_held}
 use Rattle.schedule.specs.Refill.{Assigning}
-use Rattle.schedule.proofs.Refill.{assigning_start, assigning_on, assigning_quick, assigning_hold, assigning_end}
+use Rattle.schedule.proofs.Refill.{assigning_start, assigning_on, assigning_quick, assigning_hold}
 use Rattle.outcome.specs.Outcome.{begin, met_of}
 use Rattle.decoder_words.specs.Fields.{own_part}
 use Rattle.decoder_words.specs.Book.{Book, view}
@@ -19,7 +18,6 @@ use Rattle.decoder_words.specs.Written.{Same, Only, same_refl, same_on}
 use Rattle.decoder_words.specs.Shows.{Over, shown_put}
 use Rattle.decoder_words.specs.Given.{setup, ShownIn}
 use Rattle.decoder_plan.specs.declared.Plan.{Plan}
-use Rattle.decoder_assign.specs.Assign.{Assigns}
 
 module _ (code : Code) (plan : Plan) (soft : List ℤ) (order : List ℕ) where
   -- on the way
@@ -62,9 +60,13 @@ module _ (code : Code) (plan : Plan) (soft : List ℤ) (order : List ℕ) where
             (y.0, y.1, assigning_on (setup code iterate plan soft order) x.2 y.2);
       }
 
+  -- the word that is next leaves at once
+  abbrev pub AtOnce : ℕ → Bool → Type 0
+  AtOnce next once = once ≡ (met_of code plan.sizes.p (begin plan.sizes.n (own_part plan.sizes.n (get_or order next 0) soft)) || eqb 0 plan.limits.iterations)
+
   -- lane l is the lowest empty lane, and a word waits
   module _ (held iters : List ℕ) (next : ℕ) (B : Book) (l : ℕ) (in-lanes : l < plan.lanes) (p : (k : ℕ) → k < l → get_or held k 0 ≢ 0) (none : get_or held l 0 ≡ 0) (some : next < length order)
-      (once : Bool) (is : once ≡ (met_of code plan.sizes.p (begin plan.sizes.n (own_part plan.sizes.n (get_or order next 0) soft)) || eqb 0 plan.limits.iterations)) where
+      (once : Bool) (is : AtOnce next once) where
     abbrev W : ℕ
     W = get_or order next 0
 
@@ -108,16 +110,3 @@ module _ (code : Code) (plan : Plan) (soft : List ℤ) (order : List ℕ) where
             assigning_hold (setup code iterate plan soft order) held iters next memory l in-lanes p none some a b (sym is ∙ z),
           );
         }
-
-  -- every lane is held, or no word waits
-  pub takes_end : (held₀ iters₀ : List ℕ) (next₀ : ℕ) (B₀ : Book) (held iters : List ℕ) (next : ℕ) (B : Book) (busy : Bool) → Takes held₀ iters₀ next₀ B₀ held iters next B
-      → (next < length order → (k : ℕ) → k < plan.lanes → get_or held k 0 ≢ 0) → busy ≡ any_held held plan.lanes → Assigns code plan soft order held₀ iters₀ next₀ B₀ held iters next busy B
-  unfolding setup
-  takes_end held₀ iters₀ next₀ B₀ held iters next B busy a full b =
-      record {
-        same = a.same;
-        tail = a.tail;
-        assigned = λ iterate old memory₀ t.
-            let x = a.taking iterate old memory₀ t in
-            (x.0, x.1, assigning_end (setup code iterate plan soft order) held₀ iters₀ next₀ memory₀ held iters next x.0 busy x.2 full b);
-      }

@@ -42,6 +42,3 @@ pub stored_end : {A : Type 0} (x : A) (old new : List A) (k : ℕ) → k ≡ len
 stored_end x old new k e v =
     ext_get_or x new (replicate (length old) x) (v.long ∙ sym (length-replicate (length old) x))
     (λ i h. let g : i < length old = omega (arith, h, v.long) in v.below i (omega arith) ∙ sym (get_or-replicate (length old) i x x g))
-
-pub numbered_end : (old new : List ℕ) (k : ℕ) → k ≡ length old → FirstStored 0 (λ i. i) old k new → new ≡ input_order (length old)
-numbered_end old new k e v = input_is (length old) new v.long (λ i h. v.below i (omega arith))

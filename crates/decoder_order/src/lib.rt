@@ -9,9 +9,7 @@ pub fn number(order: &mut [u32])
     requires { length order.old ≤ 4096 }
     ensures { order.new ≡ input_order (length order.old) }
 {
-    let mut k: usize = 0;
-    while k < order.len() {
-        order[k] = k as u32;
-        k += 1;
+    for (k, place) in order.iter_mut().enumerate() {
+        *place = k as u32;
     }
 }

@@ -4,7 +4,7 @@ use Rattle.std.proofs.Common.{sym, ap, ◌∙◌, add-one, arith}
 use Rattle.laws.specs.Choice.{by_cond}
 use Rattle.schedule.specs.Status.{sum}
 use Rattle.schedule.specs.Run.{counting, input_order}
-use Rattle.outcome.specs.Outcome.{is_finished, kept_of, lost_of}
+use Rattle.outcome.specs.Outcome.{is_finished}
 use Rattle.outcome.specs.Laws.{kept_or_lost}
 use Rattle.decoder_words.specs.Fields.{record_at}
 use Rattle.decoder_words.specs.Tally.{given_in, kept_by, lost_by, kept_in, lost_in}
@@ -44,8 +44,14 @@ tallying_start records =
       lost_le = omega arith;
     }
 
-at_most_one : (s b : ℕ) → kept_of s b + lost_of s b ≤ 1
-at_most_one s b = omega (arith, kept_or_lost s b, by_cond (λ m. m ≤ 1) (is_finished s) 1 0 (λ _. omega arith) (λ _. omega arith))
+one : (r : Noted) → kept_by r + lost_by r ≤ 1
+one r = omega (arith, kept_or_lost r.state r.bch, by_cond (λ m. m ≤ 1) (is_finished r.state) 1 0 (λ _. omega arith) (λ _. omega arith))
+
+pub kept_one : (r : Noted) → kept_by r ≤ 1
+kept_one r = omega (arith, one r)
+
+pub lost_one : (r : Noted) → lost_by r ≤ 1
+lost_one r = omega (arith, one r)
 
 pub tallying_again : (records : List ℕ) (k given kept lost : ℕ) (r : Noted) (a b : ℕ) → r ≡ record_at records k → a ≡ kept_by r → b ≡ lost_by r
     → (record_at records k).iterations ≤ 65535 → Tallying records k given kept lost → Tallying records (k + 1) (given + r.iterations) (kept + a) (lost + b)
@@ -54,12 +60,11 @@ tallying_again records k given kept lost r a b is ka kb few t =
     let i : r.iterations ≡ (record_at records k).iterations = ap (λ (x : Noted). x.iterations) is in
     let ka' : a ≡ kept_by (record_at records k) = ka ∙ ap kept_by is in
     let kb' : b ≡ lost_by (record_at records k) = kb ∙ ap lost_by is in
-    let one = at_most_one (record_at records k).state (record_at records k).bch in
     record {
       given_is = omega (arith, t.given_is, i, sum_more (λ w. (record_at records w).iterations) k);
       kept_is = omega (arith, t.kept_is, ka', sum_more (λ w. kept_by (record_at records w)) k);
       lost_is = omega (arith, t.lost_is, kb', sum_more (λ w. lost_by (record_at records w)) k);
       given_le = omega (arith, t.given_le, i, few);
-      kept_le = omega (arith, t.kept_le, ka', one);
-      lost_le = omega (arith, t.lost_le, kb', one);
+      kept_le = omega (arith, t.kept_le, ka', kept_one (record_at records k));
+      lost_le = omega (arith, t.lost_le, kb', lost_one (record_at records k));
     }

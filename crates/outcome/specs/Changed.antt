@@ -40,8 +40,12 @@ module _ (xs ys : List ℕ) where
       }
 
   -- and those behind them
-  pub comparing_on : (from i k count more : ℕ) → Comparing xs ys from i count → Comparing xs ys i k more → Comparing xs ys from k (count + more)
-  comparing_on from i k count more c d = record { rest = omega (arith, c.rest, d.rest); few = omega (arith, c.few, d.few) }
+  pub comparing_on : {from i count more : ℕ} (i' k k' : ℕ) → i ≡ i' → k ≡ k' → Comparing xs ys from i count → Comparing xs ys i' k more → Comparing xs ys from k' (count + more)
+  comparing_on i' k k' e f c d =
+      record {
+        rest = omega (arith, c.rest, d.rest, ap (λ (j : ℕ). distance (drop j xs) (drop j ys)) e, ap (λ (j : ℕ). distance (drop j xs) (drop j ys)) f);
+        few = omega (arith, c.few, d.few, e, f);
+      }
 
   pub comparing_end : (i count : ℕ) → length xs ≤ i → Comparing xs ys 0 i count → count ≡ distance xs ys
   unfolding distance

@@ -58,15 +58,5 @@ module _ (code : Code) (x : Word) where
       let z : count' ≡ count + 0 = omega arith in
       counted_again code x 0 count' check' k (sym (clear c e)) z g
 
-  pub counted_end : {c count check : ℕ} (p : ℕ) → c ≡ p → UnmetCounted code c x count check → UnmetCounted code p x count check
-  counted_end {c} {count} {check} p e k = subst (λ (z : ℕ). UnmetCounted code z x count check) e k
-
   pub counted_le : {c count check : ℕ} → UnmetCounted code c x count check → count ≤ c
   counted_le {c} {count} {check} k = omega (arith, k.all, unmet_few code x c)
-
-  pub named_le : {c count check : ℕ} → UnmetCounted code c x count check → check ≤ c
-  named_le {c} {count} {check} k = go (dec_lt 0 (unsatisfied_count code c x.L))
-    where
-      go : Dec (0 < unsatisfied_count code c x.L) → check ≤ c
-      go (yes h) = omega (arith, (k.named.some h).0)
-      go (no h) = let z : unsatisfied_count code c x.L ≡ 0 = omega arith in omega (arith, k.named.none z)

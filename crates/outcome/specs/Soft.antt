@@ -57,13 +57,14 @@ module _ (p n c s d : ℕ) (lists : List ℕ) (h : c < p) (e : s ≡ get_or list
   check_edges l =
       subst (λ (r : List ℕ). Edges r s d n) (sym (rows_part p lists)) (record { inside = omega (arith, l.within (c + 1) (omega arith)); below = l.variables })
 
-  pub unmet_of_lem : (r : ℕ) (L : ℕ → ℤ) → r ≡ negatives (var lent) s d L → r % 2 ≡ unmet_at (code_in p lists) L c
+  unmet_is : (r : ℕ) (L : ℕ → ℤ) → r ≡ negatives (var lent) s d L → r % 2 ≡ unmet_at (code_in p lists) L c
   unfolding unsatisfied
-  unmet_of_lem r L g =
+  unmet_is r L g =
       ap (λ (z : ℕ). z % 2) g
       ∙ (λ i. negatives (var (rows_part p lists i)) ((e ∙ sym (start_in p lists c (omega arith))) i) (sym (degree_in p lists c s d h e f) i) L % 2)
 
--- what the scan finds at check c is what the code and the word say
-pub odd_is : (p c : ℕ) (lists : List ℕ) (soft : List ℤ) (r b : Bool) → r ≡ eqb (unmet_at (code_in p lists) (values soft) c) 1 → r ≡ b
-    → eqb (unmet_at (code_in p lists) (begin (length soft) soft).L c) 1 ≡ b
-odd_is p c lists soft r b f g = ap (λ (L : ℕ → ℤ). eqb (unmet_at (code_in p lists) L c) 1) (begin_values (length soft) soft refl) ∙ sym f ∙ g
+  -- the parity of the negative soft values is what the code and the word say
+  pub odd_is : (soft : List ℤ) (r : ℕ) → r ≡ negatives (var lent) s d (values soft) → eqb (r % 2) 1 ≡ eqb (unmet_at (code_in p lists) (begin (length soft) soft).L c) 1
+  odd_is soft r g =
+      ap (λ (z : ℕ). eqb z 1) (unmet_is r (values soft) g)
+      ∙ ap (λ (L : ℕ → ℤ). eqb (unmet_at (code_in p lists) L c) 1) (sym (begin_values (length soft) soft refl))

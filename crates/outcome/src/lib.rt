@@ -6,7 +6,8 @@ ghost use Rattle.iteration.specs.Iteration.{negatives};
 ghost use Rattle.iteration.specs.Lists.{var, Lists, code_in};
 ghost use Rattle.iteration.specs.Count.{unmet_at};
 ghost use Rattle.iteration.specs.CountLaws.{UnmetCounted};
-ghost use Rattle.outcome.specs.Outcome.{begin, bits_of, met_of, corrected, bch_result, bch_of, state_of, is_finished, kept_of, lost_of};
+ghost use Rattle.outcome.specs.Outcome.{begin, bits_of, met_of, corrected, bch_result, bch_of, is_finished, kept_of, lost_of};
+ghost use Rattle.outcome.specs.State.{number, ended};
 ghost use Rattle.outcome.specs.Changed.{changed_bits, Comparing};
 ghost use Rattle.outcome.specs.Soft.{Edges, values, Lent};
 
@@ -26,12 +27,10 @@ fn negative(rows: &[u32], s: usize, d: usize, soft: &[i8]) -> usize
     requires { Edges rows.now s d (length soft.now) }
     ensures { result ≡ negatives (var rows.now) s d (values soft.now) }
 {
-    let mut count: usize = 0;
-    let mut k: usize = 0;
-    while k < d {
+    let mut count = 0;
+    for k in 0..d {
         let v = fixed_code::variable(rows, s + k);
-        count += lane_math::bit(soft[v]) as usize;
-        k += 1;
+        count += usize::from(lane_math::bit(soft[v]));
     }
     count
 }
@@ -39,7 +38,7 @@ fn negative(rows: &[u32], s: usize, d: usize, soft: &[i8]) -> usize
 // Whether check c of p is unsatisfied: an odd number of its variables' values are negative.
 fn odd(lists: &[u32], p: usize, c: usize, soft: &[i8]) -> bool
     requires { (c < p) × Lists (length soft.now) p lists.now }
-    ensures { result ≡ eqb (unmet_at (code_in p lists.now) (values soft.now) c) 1 }
+    ensures { result ≡ eqb (unmet_at (code_in p lists.now) (begin (length soft.now) soft.now).L c) 1 }
 {
     let s = fixed_code::start(lists, c);
     let d = fixed_code::degree(lists, soft.len(), p, c);
@@ -52,12 +51,10 @@ pub fn soft_met(p: usize, lists: &[u32], soft: &[i8]) -> bool
     requires { Lent p lists.now soft.now }
     ensures { result ≡ met_of (code_in p lists.now) p (begin (length soft.now) soft.now) }
 {
-    let mut c = 0;
-    while c < p {
+    for c in 0..p {
         if odd(lists, p, c, soft) {
             return false;
         }
-        c += 1;
     }
     true
 }
@@ -67,73 +64,51 @@ pub fn soft_unmet(p: usize, lists: &[u32], soft: &[i8]) -> Unmet
     requires { Lent p lists.now soft.now }
     ensures { UnmetCounted (code_in p lists.now) p (begin (length soft.now) soft.now) result.count result.check }
 {
-    let mut count: u32 = 0;
-    let mut check: usize = 0;
-    let mut c: usize = 0;
-    while c < p {
+    let mut count = 0;
+    let mut check = 0;
+    for c in 0..p {
         if odd(lists, p, c, soft) {
             count += 1;
-            check = c;
+            check = c as u32;
         }
-        c += 1;
     }
-    Unmet {
-        count: count,
-        check: check as u32,
-    }
+    Unmet { count, check }
 }
 
 // A word's hard decisions before any iteration.
-pub fn soft_bits(n: usize, soft: &[i8], out: &mut [u8])
-    requires { (length soft.now ≡ n) × (length out.old ≡ n) }
-    ensures { out.new ≡ bits_of n (begin n soft.now) }
+pub fn soft_bits(soft: &[i8], out: &mut [u8])
+    requires { length out.old ≡ length soft.now }
+    ensures { out.new ≡ bits_of (length soft.now) (begin (length soft.now) soft.now) }
 {
-    let mut i: usize = 0;
-    while i < n {
-        out[i] = lane_math::bit(soft[i]);
-        i += 1;
+    for (i, &value) in soft.iter().enumerate() {
+        out[i] = lane_math::bit(value);
     }
 }
 
 // So many positions are compared at a time: their count fits a u8, of which the compiler adds sixteen at once.
 const BLOCK: usize = 224;
 
-fn block_end(k: usize, n: usize) -> usize
-    requires { k < n }
-    ensures { (k < result) × (result ≤ n) × (result ≤ k + 224) }
-{
-    if n - k < BLOCK {
-        return n;
-    }
-    k + BLOCK
-}
-
 // In how many of the positions from `from` to before `to` a word's bits differ from its hard decisions before any iteration.
-fn differing(n: usize, soft: &[i8], bits: &[u8], from: usize, to: usize) -> u8
-    requires { (length soft.now ≡ n) × (length bits.now ≡ n) × (from ≤ to) × (to ≤ n) × (to ≤ from + 255) }
-    ensures { Comparing (bits_of n (begin n soft.now)) bits.now from to result }
+fn differing(soft: &[i8], bits: &[u8], from: usize, to: usize) -> u8
+    requires { (length bits.now ≡ length soft.now) × (from ≤ to) × (to ≤ length soft.now) × (to ≤ from + 255) }
+    ensures { Comparing (bits_of (length soft.now) (begin (length soft.now) soft.now)) bits.now from to result }
 {
-    let mut count: u8 = 0;
-    let mut k = from;
-    while k < to {
-        let differ = (lane_math::bit(soft[k]) ^ bits[k]) % 2;
-        count += differ;
-        k += 1;
+    let mut count = 0;
+    for k in from..to {
+        count += (lane_math::bit(soft[k]) ^ bits[k]) % 2;
     }
     count
 }
 
 // In how many positions a word's bits differ from its hard decisions before any iteration.
-pub fn changed(n: usize, soft: &[i8], bits: &[u8]) -> u32
-    requires { (length soft.now ≡ n) × (length bits.now ≡ n) × (n ≤ 65535) }
-    ensures { result ≡ changed_bits n (begin n soft.now) bits.now }
+pub fn changed(soft: &[i8], bits: &[u8]) -> u32
+    requires { (length bits.now ≡ length soft.now) × (length soft.now ≤ 65535) }
+    ensures { result ≡ changed_bits (length soft.now) (begin (length soft.now) soft.now) bits.now }
 {
-    let mut count: u32 = 0;
-    let mut k: usize = 0;
-    while k < n {
-        let end = block_end(k, n);
-        count += differing(n, soft, bits, k, end) as u32;
-        k = end;
+    let n = soft.len();
+    let mut count = 0;
+    for from in (0..n).step_by(BLOCK) {
+        count += u32::from(differing(soft, bits, from, n.min(from + BLOCK)));
     }
     count
 }
@@ -165,41 +140,55 @@ pub fn correct(word: &mut [u8], part: Part) -> u32
     result_of(answer)
 }
 
-// A finished word's state.
-pub fn state_of(met: bool) -> u32
-    ensures { result ≡ state_of met }
-{
-    if met { 2 } else { 3 }
+// A word's state: its number in a record.
+#[derive(Debug, Clone, Copy, PartialEq, Eq, Drop)]
+pub enum State {
+    Waiting,
+    Held,
+    Met,
+    Unmet,
 }
 
-// Whether a state is a finished word's.
+impl State {
+    // A finished word's.
+    pub fn ended(met: bool) -> State
+        ensures { result ≡ ended met }
+    {
+        if met { State::Met } else { State::Unmet }
+    }
+
+    pub fn number(self) -> u32
+        ensures { result ≡ number self }
+    {
+        match self {
+            State::Waiting => 0,
+            State::Held => 1,
+            State::Met => 2,
+            State::Unmet => 3,
+        }
+    }
+}
+
+// Whether a state's number is a finished word's. (A record that a caller lends may hold any number.)
+#[tactic(auto, unfolding(crate::specs::Outcome::is_finished))]
 pub fn is_finished(state: u32) -> bool
     ensures { result ≡ is_finished state }
 {
-    if state == 2 {
-        return true;
-    }
-    state == 3
+    state == State::Met.number() || state == State::Unmet.number()
 }
 
 // What a word adds to the tally's `kept`.
+#[tactic(auto, unfolding(crate::specs::Outcome::kept_of, crate::specs::Outcome::is_lost, crate::specs::Outcome::lost))]
 pub fn kept_of(state: u32, bch: u32) -> u32
     ensures { result ≡ kept_of state bch }
 {
-    if is_finished(state) {
-        if bch == LOST { 0 } else { 1 }
-    } else {
-        0
-    }
+    u32::from(is_finished(state) && bch != LOST)
 }
 
 // What a word adds to the tally's `lost`.
+#[tactic(auto, unfolding(crate::specs::Outcome::lost_of, crate::specs::Outcome::is_lost, crate::specs::Outcome::lost))]
 pub fn lost_of(state: u32, bch: u32) -> u32
     ensures { result ≡ lost_of state bch }
 {
-    if is_finished(state) {
-        if bch == LOST { 1 } else { 0 }
-    } else {
-        0
-    }
+    u32::from(is_finished(state) && bch == LOST)
 }

@@ -1,16 +1,11 @@
 -- `decoder_retire::close` meets its contract: what is counted is asked for if a word is held.
 -- Assumes nothing.
+use Rattle.std.proofs.Common.{◌∙◌, arith}
+use Rattle.decoder_assign.proofs.Held.{some_of}
 use Rattle.decoder_retire.specs.Counts.{counted_held}
 use Rattle.decoder_retire.proofs.close.Goals as goal
 
-pub some_held-asked-requires : goal.some_held-asked-requires
-some_held-asked-requires c = c.requires.working.stored.fair.few_lanes
-
-pub write_held-requires : goal.write_held-requires
-write_held-requires c =
-    record {
-      working = c.requires.working;
-      room = c.requires.room;
-      sized = c.requires.sized;
-      counted_held = counted_held c.requires.working.stored.fair.few_lanes c.counts-u.ensures c.args.held c.some_held-asked.ensures;
-    }
+pub write_held-requires-clause-counted_held : goal.write_held-requires-clause-counted_held
+write_held-requires-clause-counted_held c =
+    counted_held c.requires.working.stored.fair.few_lanes c.counts-unmet.ensures c.args.held
+    (c.some_held-asked.ensures ∙ some_of c.args.held c.args.plan.lanes (omega (arith, c.requires.working.stored.fair.few_lanes, c.requires.sized.0.held_fit)))

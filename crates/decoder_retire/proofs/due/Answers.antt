@@ -1,27 +1,20 @@
-use borrow.Author.Rules.{rules}
-use native.Mathlib.Omega.{arith}
-use mathlib.Core.Path.{◌≡◌, ap, ◌∙◌}
-use mathlib.Core.Bool.{false}
-use lib.ListN.{get_or}
+use Rattle.std.proofs.Common.{◌≡◌, refl, sym, ◌∙◌, ℕ, ◌<◌, Bool, true, false}
 use Rattle.schedule.specs.Lanes.{any_of}
-use Rattle.schedule.proofs.Lanes.{any_start, any_again}
-use Rattle.decoder_retire.specs.Counts.{due_at}
+use Rattle.schedule.proofs.Lanes.{any_start, any_again, any_not}
 use Rattle.decoder_retire.proofs.due.Goals as goal
 
-pub loop-l-init : goal.loop-l-init
-loop-l-init c = (search rules, any_start _)
+one : (f : ℕ → Bool) (m k : ℕ) → k < m → true ≡ f k → true ≡ any_of f m
+one f m k h e = go (any_of f m) refl
+  where
+    go : (b : Bool) → any_of f m ≡ b → true ≡ any_of f m
+    go true a = sym a
+    go false a = let n = any_not f m k a h in cc
 
-pub due_at-d-requires : goal.due_at-d-requires
-due_at-d-requires c = λ h. omega (arith, c.requires.2.short c.loop-l.l c.loop-l-test.true h, c.requires.1)
+pub loop-l-init : goal.loop-l-init
+loop-l-init c = sym (any_start _)
+
+pub returns-then-due_at : goal.returns-then-due_at
+returns-then-due_at c = one _ _ c.loop-l.l c.loop-l-test.true (sym c.if-due_at.true ∙ c.due_at.ensures)
 
 pub loop-l-preserved : goal.loop-l-preserved
-loop-l-preserved c = (
-  omega (arith, c.loop-l-test.true),
-  any_again (due_at c.args.held c.args.iters (λ k. get_or c.args.verdict k false) c.args.plan.limits.iterations) c.loop-l.l _ _ _
-      c.loop-l.invariant.1 c.due_at-d.ensures c.either-any.ensures,
-)
-
-pub returns : goal.returns
-returns c =
-    let e : c.loop-l.l ≡ c.args.plan.lanes = omega (arith, c.loop-l.invariant.0, c.loop-l-test.false) in
-    c.loop-l.invariant.1 ∙ ap (any_of (due_at c.args.held c.args.iters (λ k. get_or c.args.verdict k false) c.args.plan.limits.iterations)) e
+loop-l-preserved c = sym (any_again _ c.loop-l.l false false false (sym c.loop-l.invariant) (sym c.if-due_at.false ∙ c.due_at.ensures) refl)

@@ -1,7 +1,5 @@
 -- `decoder_retire::turns` meets its contract. The loop's invariant: lanes below l have had their turn, as the schedule says.
 -- Assumes nothing.
-use mathlib.Core.Path.{◌≡◌}
-use Prim.Native.Nat.{◌-◌, ◌≤◌}
 use Rattle.decoder_words.specs.Book.{book}
 use Rattle.decoder_words.specs.Given.{code_by}
 use Rattle.decoder_lanes.specs.Lane.{lane_word}
@@ -10,10 +8,4 @@ use Rattle.decoder_retire.proofs.turns.Given as goal
 
 abbrev pub invariant-loop-l : goal.invariant-loop-l
 invariant-loop-l l =
-    (l.lanes ≡ l.plan.lanes)
-    × (l.limit ≡ l.plan.limits.iterations)
-    × (l.l ≤ l.lanes)
-    × Leaves (code_by l.plan l.lists) l.plan (lane_word l.plan l.work) l.initial.held l.initial.iters (book l.initial.records l.initial.out) l.l l.held l.iters (book l.records l.out)
-
-abbrev pub decreases-loop-l : goal.decreases-loop-l
-decreases-loop-l l = l.lanes - l.l
+    Leaves (code_by l.plan l.lists) l.plan (lane_word l.plan l.work) l.initial.held l.initial.iters (book l.initial.records l.initial.out) l.l l.held l.iters (book l.records l.out)

@@ -1,7 +1,5 @@
 -- `decoder_retire::write_held` meets its contract. The loop's invariant: the words of the lanes below l are written.
 -- Assumes nothing.
-use mathlib.Core.Path.{◌≡◌}
-use Prim.Native.Nat.{◌-◌, ◌≤◌}
 use Rattle.decoder_words.specs.Book.{book}
 use Rattle.decoder_words.specs.Given.{code_by}
 use Rattle.decoder_lanes.specs.Lane.{lane_word}
@@ -10,9 +8,4 @@ use Rattle.decoder_retire.proofs.write_held.Given as goal
 
 abbrev pub invariant-loop-l : goal.invariant-loop-l
 invariant-loop-l l =
-    (l.lanes ≡ l.plan.lanes)
-    × (l.l ≤ l.lanes)
-    × Closes (code_by l.plan l.lists) l.plan l.held l.iters (lane_word l.plan l.work) (book l.initial.records l.initial.out) l.l (book l.records l.out)
-
-abbrev pub decreases-loop-l : goal.decreases-loop-l
-decreases-loop-l l = l.lanes - l.l
+    Closes (code_by l.plan l.lists) l.plan l.held l.iters (lane_word l.plan l.work) (book l.initial.records l.initial.out) l.l (book l.records l.out)

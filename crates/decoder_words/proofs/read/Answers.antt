@@ -1,8 +1,8 @@
 -- `decoder_words::read` meets its contract: the word's part of the records is lent from the middle.
 -- Assumes nothing.
-use mathlib.Core.Path.{◌∙◌}
+use Rattle.std.proofs.Common.{◌∙◌}
 use Rattle.decoder_words.specs.Part.{own_record}
 use Rattle.decoder_words.proofs.read.Goals as goal
 
 pub returns : goal.returns
-returns c = c.get.ensures ∙ own_record c.args.w c.args.records.now
+returns c = c.of.ensures ∙ own_record c.args.w c.args.records.now

@@ -1,11 +1,7 @@
 -- `decoder_words::tally` meets its contract. The loop's invariant: the sums over the first w words.
 -- Assumes nothing.
-use Prim.Native.Nat.{◌-◌, ◌≤◌}
 use Rattle.decoder_words.specs.Tallying.{Tallying}
 use Rattle.decoder_words.proofs.tally.Given as goal
 
 abbrev pub invariant-loop-w : goal.invariant-loop-w
-invariant-loop-w l = (l.w ≤ l.words) × Tallying l.records l.w l.given l.kept l.lost
-
-abbrev pub decreases-loop-w : goal.decreases-loop-w
-decreases-loop-w l = l.words - l.w
+invariant-loop-w l = Tallying l.records l.w l.given l.kept l.lost

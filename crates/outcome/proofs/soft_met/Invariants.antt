@@ -1,13 +1,8 @@
 -- `outcome::soft_met` meets its contract. Assumes nothing.
-use mathlib.Core.Path.{◌≡◌}
-use Prim.Native.Nat.{◌-◌, ◌≤◌}
-use lib.ListN.{length}
+use Rattle.std.proofs.Common.{◌≡◌, length}
 use Rattle.iteration.specs.Lists.{code_in}
 use Rattle.outcome.specs.Outcome.{begin, unmet_of}
 use Rattle.outcome.proofs.soft_met.Given as goal
 
 abbrev pub invariant-loop-c : goal.invariant-loop-c
-invariant-loop-c l = (l.c ≤ l.p) × (unmet_of (code_in l.p l.lists) l.c (begin (length l.soft) l.soft) ≡ 0)
-
-abbrev pub decreases-loop-c : goal.decreases-loop-c
-decreases-loop-c l = l.p - l.c
+invariant-loop-c l = unmet_of (code_in l.p l.lists) l.c (begin (length l.soft) l.soft) ≡ 0

@@ -1,13 +1,9 @@
 -- `outcome::soft_unmet` meets its contract. Assumes nothing.
-use Prim.Native.Nat.{◌-◌, ◌≤◌}
-use lib.ListN.{length}
+use Rattle.std.proofs.Common.{length}
 use Rattle.iteration.specs.Lists.{code_in}
 use Rattle.iteration.specs.CountLaws.{UnmetCounted}
 use Rattle.outcome.specs.Outcome.{begin}
 use Rattle.outcome.proofs.soft_unmet.Given as goal
 
 abbrev pub invariant-loop-c : goal.invariant-loop-c
-invariant-loop-c l = (l.c ≤ l.p) × UnmetCounted (code_in l.p l.lists) l.c (begin (length l.soft) l.soft) l.count l.check
-
-abbrev pub decreases-loop-c : goal.decreases-loop-c
-decreases-loop-c l = l.p - l.c
+invariant-loop-c l = UnmetCounted (code_in l.p l.lists) l.c (begin (length l.soft) l.soft) l.count l.check
