@@ -1,7 +1,7 @@
 // Lengths of ISDB-S3 (ARIB STD-B44 v2.1 sections 3.2 to 3.4): the code, the slot, the frame, and the eleven rates r / 120.
 #![tactic(auto)]
 
-ghost use Rattle.std.specs.Prelude.{◌≡◌, get_or};
+ghost use Rattle.std.specs.Prelude.{◌≡◌, slice_get};
 ghost use Rattle.params.specs.Lengths.{rates, k_of, p_of, q_of, data_of};
 
 // LDPC code length.
@@ -44,27 +44,18 @@ pub const TMCC_INFO_BITS: u32 = 9422;
 // The numerators of the eleven rates.
 pub const RATES: [u8; 11] = [41, 49, 61, 73, 81, 89, 93, 97, 101, 105, 109];
 
-fn wide(x: u8) -> u32
-    ensures { result ≡ x }
+// The i-th rate's numerator; none from the twelfth on.
+pub fn rate(i: usize) -> Option<u8>
+    ensures { result ≡ slice_get rates i }
 {
-    x as u32
-}
-
-// The i-th rate's numerator; 0 from the twelfth on, of which there is none.
-pub fn rate(i: usize) -> u8
-    ensures { result ≡ get_or rates i 0 }
-{
-    if i < 11 {
-        return RATES[i];
-    }
-    0
+    RATES.get(i).copied()
 }
 
 // LDPC information bits, 374 r.
 pub fn k_ldpc(r: u8) -> u32
     ensures { result ≡ k_of r }
 {
-    GROUP * wide(r)
+    GROUP * u32::from(r)
 }
 
 // Parity checks, n - k; none where r is above 120.
