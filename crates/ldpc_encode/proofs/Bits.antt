@@ -96,32 +96,23 @@ module _ (x w : List ℕ) (s : ℕ) (lx : length x ≡ 374) (lw : length w ≡ 3
           ∙ ap₂ (λ (y z : ℕ). (get_or x y 0 + get_or w z 0 % 2) % 2) e f
 
   -- in the code's terms: u is what the first call leaves, v what the second does
-  module _ (u : List ℕ) (e : u ≡ xors (take (length x - s) (drop s x)) (take (374 - s) w)) where
-    high_is : take s x ++ (u ++ drop (length x - s) (drop s x)) ≡ high
-    unfolding high
+  module _ (u : List ℕ) (e : u ≡ xors (take (374 - s) (drop s x)) (take (374 - s) w)) where
+    middle : List ℕ
+    middle = take s x ++ (u ++ drop (374 - s) (drop s x))
+
+    high_is : middle ≡ high
+    unfolding high middle
     high_is =
-        back_from s x u ∙ ap (λ (z : List ℕ). take s x ++ z) (e ∙ ap (λ (y : List ℕ). xors y (take (374 - s) w)) (lent_from s x))
-
-    pub middle_length : length (take s x ++ (u ++ drop (length x - s) (drop s x))) ≡ 374
-    middle_length = ap length high_is ∙ high_length
-
-    pub second_fits : length (take s (take s x ++ (u ++ drop (length x - s) (drop s x)))) ≡ length (take (length w - (374 - s)) (drop (374 - s) w))
-    second_fits =
-        length-take-le s (take s x ++ (u ++ drop (length x - s) (drop s x))) (omega (arith, middle_length))
-        ∙ sym (ap length (lent_from (374 - s) w) ∙ length-drop (374 - s) w ∙ omega arith)
+        ap (λ (n : ℕ). take s x ++ (u ++ drop (n - s) (drop s x))) (sym lx)
+        ∙ back_from s x u ∙ ap (λ (z : List ℕ). take s x ++ z) (e ∙ ap (λ (n : ℕ). xors (take (n - s) (drop s x)) (take (374 - s) w)) (sym lx) ∙ ap (λ (y : List ℕ). xors y (take (374 - s) w)) (lent_from s x))
 
     pub turned_done : (v : List ℕ)
-        → v ≡ xors (take s (take s x ++ (u ++ drop (length x - s) (drop s x)))) (take (length w - (374 - s)) (drop (374 - s) w))
-        → AddedToSums x (v ++ drop s (take s x ++ (u ++ drop (length x - s) (drop s x)))) (turned_bit w s)
-    unfolding both
+        → v ≡ xors (take s (take s x ++ (u ++ drop (374 - s) (drop s x)))) (take (length w - (374 - s)) (drop (374 - s) w))
+        → AddedToSums x (v ++ drop s (take s x ++ (u ++ drop (374 - s) (drop s x)))) (turned_bit w s)
+    unfolding both middle
     turned_done v f =
         subst (λ (y : List ℕ). AddedToSums x y (turned_bit w s))
         (sym (ap₂ (λ (y z : List ℕ). y ++ z) (f ∙ ap₂ (λ (y z : List ℕ). xors (take s y) z) high_is (lent_from (374 - s) w)) (ap (drop s) high_is))) turned
-
-  pub first_fits : length (take (length x - s) (drop s x)) ≡ length (take (374 - s) w)
-  first_fits =
-      ap length (lent_from s x) ∙ length-drop s x
-      ∙ sym (length-take-le (374 - s) w (omega arith) ∙ omega arith)
 
 -- ---- what is left to add: the sums x and f come to the sums x₀ and g
 abbrev pub Left : List ℕ → (ℕ → ℕ) → List ℕ → (ℕ → ℕ) → Type 0

@@ -11,50 +11,44 @@ use Rattle.laws.specs.Modulo.{sum_to, sum_none, sum_more, sum_same, sum_grid}
 use Rattle.laws.specs.Stores.{set_at}
 use Rattle.laws.specs.Lists.{lent_from}
 use Rattle.ldpc_shape.specs.Shape.{k_of, p_of, q_of, rows_of, total, code_refusal}
-use Rattle.ldpc_shape.specs.Accepted.{Accepted, p_is, p_pos, n_is, q_pos, q_le}
+use Rattle.ldpc_shape.specs.Accepted.{Accepted, p_is, p_pos, n_is, q_pos, q_le, rows_le}
 use Rattle.ldpc_shape.proofs.Accepted.{accepted}
 use Rattle.ldpc_edges.specs.Code.{of_rows, meets, only, ones, stairs, check, sums, parity, unmet, unmets, weight}
 use Rattle.ldpc_edges.proofs.Encoder.{parity_from}
 use Rattle.ldpc_encode.specs.Sums.{AddedToSums, info_bit, Scattered, stair_bit, unmet_at}
 use Rattle.ldpc_encode.proofs.Rows.{at_mod, at_lt, ones_append}
 
-pub at_next : (q l i c : ℕ) → c ≡ l + i * q → c + q ≡ l + (i + 1) * q
-at_next q l i c e = omega arith
-
-pub at_fits : (q l i c : ℕ) → l < q → q ≤ 120 → i < 374 → c ≡ l + i * q → (c < 374 * q) × (c + q ≤ 45000)
-at_fits q l i c h g k e = let a = at_lt q l i h k in (omega arith, omega arith)
-
 -- ---- scattering
 pub scatter_start : (q l : ℕ) (x out : List ℕ) → Scattered 0 q l x out out
 scatter_start q l x out = record { long = refl; put = λ i h. absurd (omega arith); kept = λ c h. refl }
 
-pub scatter_again : (q l : ℕ) (x out out' : List ℕ) (i c : ℕ) → l < q → i < 374 → length out ≡ 374 * q → c ≡ l + i * q → Scattered i q l x out out'
-    → Scattered (i + 1) q l x out (set out' c (get_or x i 0 % 2))
-scatter_again q l x out out' i c hl hi lo e S =
+pub scatter_again : (q l : ℕ) (x out out' : List ℕ) (i : ℕ) → l < q → i < 374 → length out ≡ 374 * q → Scattered i q l x out out'
+    → Scattered (i + 1) q l x out (set out' (l + i * q) (get_or x i 0 % 2))
+scatter_again q l x out out' i hl hi lo S =
     record {
-      long = length-set out' c _ ∙ S.long;
+      long = length-set out' (l + i * q) _ ∙ S.long;
       put = λ j h. put j h (ℕ_discrete j i);
-      kept = λ d h. get_or-set_other out' c d _ 0 (λ f. h (ap (λ (z : ℕ). z % q) (f ∙ e) ∙ at_mod q l i hl)) ∙ S.kept d h;
+      kept = λ d h. get_or-set_other out' (l + i * q) d _ 0 (λ f. h (ap (λ (z : ℕ). z % q) f ∙ at_mod q l i hl)) ∙ S.kept d h;
     }
   where
-    put : (j : ℕ) → j < i + 1 → Dec (j ≡ i) → get_or (set out' c (get_or x i 0 % 2)) (l + j * q) 0 ≡ get_or x j 0 % 2
+    put : (j : ℕ) → j < i + 1 → Dec (j ≡ i) → get_or (set out' (l + i * q) (get_or x i 0 % 2)) (l + j * q) 0 ≡ get_or x j 0 % 2
     put j h (yes f) =
-        set_at 0 out' c _ (l + j * q) (omega (arith, S.long, at_lt q l i hl hi)) (ap (λ (z : ℕ). l + z * q) f ∙ sym e) ∙ ap (λ (z : ℕ). get_or x z 0 % 2) (sym f)
+        set_at 0 out' (l + i * q) _ (l + j * q) (omega (arith, S.long, at_lt q l i hl hi)) (ap (λ (z : ℕ). l + z * q) f) ∙ ap (λ (z : ℕ). get_or x z 0 % 2) (sym f)
     put j h (no f) =
         let g : j < i = omega arith in
-        get_or-set_other out' c (l + j * q) _ 0 (λ z. omega (arith, mul-lt-mul_of_pos_right {k = q} g (omega arith))) ∙ S.put j g
+        get_or-set_other out' (l + i * q) (l + j * q) _ 0 (λ z. omega (arith, mul-lt-mul_of_pos_right {k = q} g (omega arith))) ∙ S.put j g
 
 -- ---- counting
-pub count_next : (q l : ℕ) (x p : List ℕ) (i c s r b : ℕ) → c ≡ l + i * q → s ≡ sum_to i (unmet_at q l x p) → b % 2 ≡ stair_bit p c % 2 → r ≡ (get_or x i 0 + b) % 2
+pub count_next : (q l : ℕ) (x p : List ℕ) (i s r b : ℕ) → s ≡ sum_to i (unmet_at q l x p) → b % 2 ≡ stair_bit p (l + i * q) % 2 → r ≡ (get_or x i 0 + b) % 2
     → s + r ≡ sum_to (i + 1) (unmet_at q l x p)
 unfolding unmet_at
-count_next q l x p i c s r b e f g h = ap₂ (λ (y z : ℕ). y + z) f bit ∙ sum_more i (unmet_at q l x p)
+count_next q l x p i s r b f g h = ap₂ (λ (y z : ℕ). y + z) f bit ∙ sum_more i (unmet_at q l x p)
   where
     low : (x b t : ℕ) → b % 2 ≡ t % 2 → (x + b) % 2 ≡ (x + t) % 2
     low x b t e = omega arith
 
     bit : r ≡ unmet_at q l x p i
-    bit = h ∙ low (get_or x i 0) b (stair_bit p c) g ∙ ap (λ (z : ℕ). (get_or x i 0 + stair_bit p z) % 2) e
+    bit = h ∙ low (get_or x i 0) b (stair_bit p (l + i * q)) g
 
 -- ---- the residues, for the parity: those below l are done
 abbrev pub Done : ℕ → ℕ → List ℕ → (ℕ → ℕ) → Type 0
@@ -92,6 +86,9 @@ module _ (n : ℕ) (lens addrs : List ℕ) (e : code_refusal n lens addrs ≡ 0)
 
   pub adds : total lens ≡ length addrs
   adds = A.adds
+
+  pub few : length lens ≤ 120
+  few = omega (arith, rows_le n lens addrs A)
 
   pub k_fits : (w : List ℕ) → length w ≡ k_of lens → 374 * length lens ≤ length w
   unfolding k_of
@@ -173,6 +170,3 @@ module _ (n : ℕ) (lens addrs : List ℕ) (e : code_refusal n lens addrs ≡ 0)
 -- ---- a fresh array of sums
 pub from_zeros : (x : List ℕ) (f : ℕ → ℕ) → AddedToSums (replicate 374 0) x f → (i : ℕ) → i < 374 → get_or x i 0 % 2 ≡ f i % 2
 from_zeros x f a i h = a.sum i h ∙ ap (λ (z : ℕ). (z + f i) % 2) (get_or-replicate 374 i 0 0 h) ∙ ap (λ (z : ℕ). z % 2) (zero-add (f i))
-
-pub scatter_end : (q l : ℕ) (x out out' : List ℕ) (i : ℕ) → i ≡ 374 → Scattered i q l x out out' → Scattered 374 q l x out out'
-scatter_end q l x out out' i e S = subst (λ (z : ℕ). Scattered z q l x out out') e S

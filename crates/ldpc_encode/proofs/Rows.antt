@@ -1,20 +1,23 @@
 -- The rows' information bits at the checks l + jq.
-use mathlib.Core.Path.{◌≡◌, refl, sym, ap, ap₂, ◌∙◌, subst}
+use mathlib.Core.Path.{◌≡◌, sym, ap, ap₂, ◌∙◌, subst}
 use mathlib.Core.Bool.{Bool, true, false, cond}
 use mathlib.Core.List.{List, [], ◌∷◌, ◌++◌}
-use Prim.Native.Nat.{ℕ, ◌+◌, ◌-◌, ◌*◌, ◌/◌, ◌%◌, ◌≤◌, ◌<◌}
+use Prim.Native.Nat.{ℕ, ◌+◌, ◌-◌, ◌*◌, ◌/◌, ◌%◌, ◌<◌}
 use native.Mathlib.Omega.{arith}
 use native.Mathlib.Nat.{mod-lt, mod-eq_of_lt, add-mul-div_right, add-mul-mod_self_right, div-eq_of_lt}
 use lib.Arith.{digits_lt}
 use lib.Dec.{eqb}
 use lib.ListN.{length, take, drop, get_or}
 use lib.Seq.{get_or-take, get_or-drop}
-use Rattle.ldpc_shape.specs.Shape.{rows_of}
-use Rattle.ldpc_edges.specs.Code.{Edge, of_bits, of_rows, only, ones}
-use Rattle.ldpc_edges.proofs.Inside.{only_append, rows_next, rows_none}
+use Rattle.ldpc_edges.specs.Code.{Edge, of_bits, only, ones}
+use Rattle.ldpc_edges.proofs.Inside.{only_append}
 use Rattle.ldpc_edges.specs.Insert.{insert, place}
 use Rattle.ldpc_edges.proofs.Insert.{insert_ones, row_cons}
 use Rattle.ldpc_edges.proofs.Degree.{bits_none}
+use Rattle.ldpc_rows.specs.declared.Row.{Row}
+use Rattle.ldpc_rows.specs.declared.Rows.{Rows}
+use Rattle.ldpc_rows.specs.Rows.{seen, left}
+use Rattle.ldpc_rows.proofs.Edges.{left_edges, edges_start, edges_first, edges_none}
 use Rattle.ldpc_encode.specs.Sums.{turned_bit, row_bit, info_bit, AddedToSums}
 use Rattle.ldpc_encode.proofs.Bits.{Left, left_add, left_none}
 
@@ -62,45 +65,38 @@ module _ (q l j : ℕ) (hl : l < q) (hj : j < 374) (m : ℕ) (w : List ℕ) wher
           insert_ones w (m + place q (l + j * q) a) (only (l + j * q) (of_bits (374 * q) q 374 m 0 row)) ∙ ap₂ (λ (y z : ℕ). y + z) (turned_place a) ih
       go false ih = ih
 
--- ---- the rows from row g on, whose addresses begin at `from`
-unfoldable pub info_from : ℕ → ℕ → List ℕ → List ℕ → List ℕ → ℕ → ℕ → ℕ → ℕ
-info_from q l w lens addrs g from j = ones w (only (l + j * q) (of_rows (374 * q) q (374 * g) (rows_of (drop g lens) (drop from addrs))))
+-- ---- the rows that are left
+unfoldable pub info_left : ℕ → ℕ → List ℕ → Rows → ℕ → ℕ
+info_left q l w s j = ones w (only (l + j * q) (left_edges (374 * q) q s))
 
-module _ (q l : ℕ) (w lens addrs : List ℕ) (g from : ℕ) (h : g < length lens) where
-  info_next : l < q → (j : ℕ) → j < 374 → info_from q l w lens addrs g from j
-      ≡ row_bit q l (take 374 (drop (374 * g) w)) (take (get_or lens g 0) (drop from addrs)) j + info_from q l w lens addrs (g + 1) (from + get_or lens g 0) j
-  unfolding info_from
-  info_next hl j hj =
-      let r : List ℕ = take (get_or lens g 0) (drop from addrs) in
-      let rest : List Edge = of_rows (374 * q) q (374 * (g + 1)) (rows_of (drop (g + 1) lens) (drop (from + get_or lens g 0) addrs)) in
-      ap (λ (es : List Edge). ones w (only (l + j * q) es)) (rows_next (374 * q) q lens addrs g from h)
-      ∙ ap (ones w) (only_append (l + j * q) (of_bits (374 * q) q 374 (374 * g) 0 r) rest)
-      ∙ ones_append w (only (l + j * q) (of_bits (374 * q) q 374 (374 * g) 0 r)) (only (l + j * q) rest)
-      ∙ ap (λ (z : ℕ). z + ones w (only (l + j * q) rest)) (row_bit_lem q l j hl hj (374 * g) w r)
-
+module _ (q l : ℕ) (w : List ℕ) (s : Rows) where
   -- the code's parts: the row's bits and its addresses
-  pub info_add : l < q → (x y x₀ : List ℕ) (r first : ℕ) (f : ℕ → ℕ) → r ≡ get_or lens g 0 → first ≡ 374 * g
-      → AddedToSums x y (row_bit q l (take (first + 374 - first) (drop first w)) (take (from + r - from) (drop from addrs)))
-      → Left x (info_from q l w lens addrs g from) x₀ f → Left y (info_from q l w lens addrs (g + 1) (from + r)) x₀ f
-  info_add hl x y x₀ r first f e d a =
-      left_add x y x₀ (row_bit q l (take (first + 374 - first) (drop first w)) (take (from + r - from) (drop from addrs))) (info_from q l w lens addrs g from)
-      (info_from q l w lens addrs (g + 1) (from + r)) f a
-      (λ j hj. info_next hl j hj ∙ ap₂ (λ (u v : ℕ). u + v) (same j) (ap (λ (z : ℕ). info_from q l w lens addrs (g + 1) (from + z) j) (sym e)))
+  pub info_add : (t : Rows) (r : Row) → l < q → (x y x₀ : List ℕ) (f : ℕ → ℕ) → left s ≡ seen r ∷ left t
+      → AddedToSums x y (row_bit q l (take (r.first + 374 - r.first) (drop r.first w)) r.addrs.now)
+      → Left x (info_left q l w s) x₀ f → Left y (info_left q l w t) x₀ f
+  unfolding info_left
+  info_add t r hl x y x₀ f e a =
+      left_add x y x₀ (row_bit q l (take (r.first + 374 - r.first) (drop r.first w)) r.addrs.now) (info_left q l w s) (info_left q l w t) f a (λ j hj. next j hj)
     where
-      same : (j : ℕ) → row_bit q l (take 374 (drop (374 * g) w)) (take (get_or lens g 0) (drop from addrs)) j
-          ≡ row_bit q l (take (first + 374 - first) (drop first w)) (take (from + r - from) (drop from addrs)) j
-      same j =
-          let s : 374 ≡ first + 374 - first = omega arith in
-          let t : get_or lens g 0 ≡ from + r - from = omega arith in
-          ap₂ (λ (u v : List ℕ). row_bit q l u v j) (ap₂ (λ (y z : ℕ). take y (drop z w)) s (sym d)) (ap (λ (z : ℕ). take z (drop from addrs)) t)
+      size : r.first + 374 - r.first ≡ 374
+      size = omega arith
 
-pub info_start : (q l : ℕ) (w lens addrs x : List ℕ) → Left x (info_from q l w lens addrs 0 0) x (info_bit q l w lens addrs)
-unfolding info_from info_bit
-info_start q l w lens addrs x j h = refl
+      next : (j : ℕ) → j < 374 → info_left q l w s j ≡ row_bit q l (take (r.first + 374 - r.first) (drop r.first w)) r.addrs.now j + info_left q l w t j
+      next j hj =
+          let bits : List Edge = of_bits (374 * q) q 374 r.first 0 r.addrs.now in
+          let rest : List Edge = left_edges (374 * q) q t in
+          ap (λ (es : List Edge). ones w (only (l + j * q) es)) (edges_first (374 * q) q s t r e)
+          ∙ ap (ones w) (only_append (l + j * q) bits rest) ∙ ones_append w (only (l + j * q) bits) (only (l + j * q) rest)
+          ∙ ap (λ (z : ℕ). z + ones w (only (l + j * q) rest))
+          (row_bit_lem q l j hl hj r.first w r.addrs.now ∙ ap (λ (z : ℕ). row_bit q l (take z (drop r.first w)) r.addrs.now j) (sym size))
 
-pub info_end : (q l : ℕ) (w lens addrs x x₀ : List ℕ) (g from : ℕ) → length x ≡ 374 → length lens ≤ g
-    → Left x (info_from q l w lens addrs g from) x₀ (info_bit q l w lens addrs) → AddedToSums x₀ x (info_bit q l w lens addrs)
-unfolding info_from only ones
-info_end q l w lens addrs x x₀ g from k h =
-    left_none x x₀ (info_from q l w lens addrs g from) (info_bit q l w lens addrs) k
-    (λ j i. ap (λ (es : List Edge). ones w (only (l + j * q) es)) (rows_none (374 * q) q (374 * g) g lens (drop from addrs) h))
+  pub info_start : (n : Rows) (lens addrs x : List ℕ) → s ≡ n → n.first ≡ 0 → n.lens.now ≡ lens → n.addrs.now ≡ addrs → Left x (info_left q l w s) x (info_bit q l w lens addrs)
+  unfolding info_left info_bit
+  info_start n lens addrs x i e f g j h =
+      ap (λ (es : List Edge). (get_or x j 0 + ones w (only (l + j * q) es)) % 2) (edges_start (374 * q) q s n lens addrs i e f g)
+
+  pub info_end : (x x₀ : List ℕ) (f : ℕ → ℕ) → length x ≡ 374 → left s ≡ [] → Left x (info_left q l w s) x₀ f → AddedToSums x₀ x f
+  unfolding info_left only ones
+  info_end x x₀ f k e =
+      left_none x x₀ (info_left q l w s) f k
+      (λ j i. ap (λ (es : List Edge). ones w (only (l + j * q) es)) (edges_none (374 * q) q s e))

@@ -1,29 +1,23 @@
+use Rattle.std.proofs.Common.{sym, subst, ap, ◌∙◌, length}
 use Rattle.ldpc_encode.specs.Sums.{AddedToSums, turned_bit}
-use mathlib.Core.Path.{subst}
 use Rattle.ldpc_encode.proofs.Bits.{row_hit, row_miss, row_end}
-use lib.ListN.{length}
-use mathlib.Core.Path.{sym, ap, ◌∙◌}
-use borrow.Author.Rules.{rules}
-use native.Mathlib.Omega.{arith}
 use Rattle.ldpc_encode.proofs.add_row.Goals.{then-residue-l, else-residue-l}
 use Rattle.ldpc_encode.proofs.add_row.Goals as goal
 
-pub loop-i-preserved : goal.loop-i-preserved
-loop-i-preserved c =
+pub loop-a-preserved : goal.loop-a-preserved
+loop-a-preserved c =
     elim c.if-residue-l.branch [
-      | then-residue-l w ↦ (
-        omega arith,
-        ap length w.x-is ∙ w.add_turned.ensures.long,
-        row_hit c.args.q c.args.l c.args.w.now c.args.row.now c.loop-i.i c.loop-i.x _ c.args.x.now c.residue.result w.turn.result c.loop-i-test.true c.residue.ensures.0 w.if-residue-l.true
-            w.turn.ensures.0 (subst (λ y. AddedToSums c.loop-i.x y (turned_bit c.args.w.now w.turn.result)) (sym w.x-is) w.add_turned.ensures) c.loop-i.invariant.2,
-      )
-      | else-residue-l w ↦ (
-        omega arith,
-        ap length w.x-is ∙ c.loop-i.invariant.1,
-        row_miss c.args.q c.args.l c.args.w.now c.args.row.now c.loop-i.i c.loop-i.x _ c.args.x.now c.residue.result c.loop-i-test.true c.residue.ensures.0 w.if-residue-l.false w.x-is
-            c.loop-i.invariant.2,
-      )
+      | then-residue-l w ↦ record {
+        long = ap length w.x-is ∙ w.add_turned.ensures.long;
+        sums = row_hit c.args.q c.args.l c.args.w.now c.args.row.now c.loop-a.a-index c.loop-a.x _ c.args.x.now c.residue.result w.turn.result c.loop-a-test.true c.residue.ensures.0 w.if-residue-l.true
+            w.turn.ensures.0 (subst (λ y. AddedToSums c.loop-a.x y (turned_bit c.args.w.now w.turn.result)) (sym w.x-is) w.add_turned.ensures) c.loop-a.invariant.sums;
+      }
+      | else-residue-l w ↦ record {
+        long = ap length w.x-is ∙ c.loop-a.invariant.long;
+        sums = row_miss c.args.q c.args.l c.args.w.now c.args.row.now c.loop-a.a-index c.loop-a.x _ c.args.x.now c.residue.result c.loop-a-test.true c.residue.ensures.0 w.if-residue-l.false w.x-is
+            c.loop-a.invariant.sums;
+      }
     ]
 
 pub returns : goal.returns
-returns c = row_end c.args.q c.args.l c.args.w.now c.args.row.now c.loop-i.i c.loop-i.x c.args.x.now c.loop-i.invariant.1 (search rules) c.loop-i.invariant.2
+returns c = row_end c.args.q c.args.l c.args.w.now c.args.row.now c.loop-a.a-index c.loop-a.x c.args.x.now c.loop-a.invariant.long c.loop-a-test.false c.loop-a.invariant.sums
