@@ -9,7 +9,7 @@ use native.Mathlib.Numerals.{add-one}
 use borrow.Author.Tests.{eq-eqb, ne_eqb, lt-ltb, le-ltb}
 use lib.Dec.{eqb, ltb}
 use lib.ListN.{length, take, drop, get_or, set, length-append, length-take, length-drop, length-set, take-append-drop}
-use lib.Seq.{drop-cons, drop-drop, drop-length, drop-set-lt, take-suc, take-suc-set, take_at, drop_at, set_split, length-take-le}
+use lib.Seq.{drop-cons, drop-drop, drop-set-lt, take-suc, take-suc-set, take_at, drop_at, set_split, length-take-le}
 use Rattle.laws.specs.Lists.{lent_from, back_from}
 use Rattle.ldpc_shape.specs.declared.Sizes.{Sizes}
 use Rattle.ldpc_shape.specs.Shape.{p_of, q_of, sizes_of, rows_of, total, count_mod, code_refusal}
@@ -17,8 +17,13 @@ use Rattle.ldpc_shape.specs.Accepted.{Accepted, Bounded, rows_le, addrs_le}
 use Rattle.ldpc_shape.proofs.Accepted.{accepted, sizes_bounded}
 use Rattle.ldpc_shape.specs.Counts.{CountsBelow}
 use Rattle.ldpc_edges.specs.Code.{of_bits, of_rows, meets, only, stairs, check}
-use Rattle.ldpc_edges.proofs.Inside.{only_append, rows_next, rows_none}
+use Rattle.ldpc_edges.proofs.Inside.{only_append}
 use Rattle.ldpc_edges.specs.Insert.{insert, place}
+use Rattle.ldpc_rows.specs.declared.Row.{Row}
+use Rattle.ldpc_rows.specs.declared.Rows.{Rows}
+use Rattle.ldpc_rows.specs.Rows.{seen, left}
+use Rattle.ldpc_rows.proofs.Edges.{left_edges, edges_start, edges_first, edges_none}
+use Rattle.ldpc_check.specs.Found.{found, all_of}
 use Rattle.ldpc_edges.proofs.Insert.{insert_length, row_cons}
 use Rattle.ldpc_edges.proofs.Degree.{bits_none, bits_count, count_split, degree, degree_le}
 
@@ -72,102 +77,99 @@ module _ (m n : ℕ) (out₀ : List ℕ) where
       ∙ sym (inv ∙ ap (λ (y : ℕ). take y out ++ (insert v (take (n - y) (drop y out)) ++ drop (n + 1) out)) e
       ∙ ap (λ (y : ℕ). take n out ++ (insert v (take y (drop n out)) ++ drop (n + 1) out)) z)
 
--- ---- the addresses of a row, from the last
--- check c's bits by the addresses from the i-th on
-unfoldable pub found : ℕ → ℕ → ℕ → List ℕ → ℕ → List ℕ
-found q c first row i = only c (of_bits (374 * q) q 374 first 0 (drop i row))
+-- ---- the addresses of a row, from the last: those of `rest` are left
+pub record Gathered (q c first : ℕ) (row rest out₀ out : List ℕ) (n : ℕ) : Type 0 where
+  pub done : List ℕ
+  pub parts : row ≡ rest ++ done
+  pub size : n ≡ length (found q c first done)
+  pub list : out ≡ found q c first done ++ drop n out₀
 
 module _ (q c first : ℕ) (row : List ℕ) (pos : 0 < q) (inside : c < 374 * q) where
-  found_le : (i : ℕ) → length (found q c first row i) ≤ length (only c (of_bits (374 * q) q 374 first 0 row))
+  found_le : (rest done : List ℕ) → row ≡ rest ++ done → length (found q c first done) ≤ length (found q c first row)
   unfolding found
-  found_le i = omega (arith, bits_count q c pos inside first (drop i row), bits_count q c pos inside first row, count_split q (c % q) i row)
-
-  pub found_fits : (out out₀ : List ℕ) (n i : ℕ) → n ≡ length (found q c first row i) → out ≡ found q c first row i ++ drop n out₀
-      → length (only c (of_bits (374 * q) q 374 first 0 row)) ≤ length out₀ → length out ≡ length out₀
-  found_fits out out₀ n i en eo fit = ap length eo ∙ length-append (found q c first row i) (drop n out₀) ∙ omega (arith, length-drop n out₀, found_le i)
-
-  found_next : (i : ℕ) → 0 < i → i ≤ length row
-      → found q c first row (i - 1) ≡ cond (eqb (get_or row (i - 1) 0 % q) (c % q)) (insert (first + place q c (get_or row (i - 1) 0)) (found q c first row i)) (found q c first row i)
-  unfolding found
-  found_next i h g =
-      let e : suc (i - 1) ≡ i = omega arith in
-      ap (λ (z : List ℕ). only c (of_bits (374 * q) q 374 first 0 z)) (drop-cons row (i - 1) 0 (omega arith) ∙ ap (λ (z : ℕ). get_or row (i - 1) 0 ∷ drop z row) e)
-      ∙ row_cons q c (get_or row (i - 1) 0) pos inside first (drop i row)
-
-  module _ (i : ℕ) (h : 0 < i) (g : i ≤ length row) (r l : ℕ) (er : r ≡ get_or row (i - 1) 0 % q) (el : l ≡ c % q) where
-    found_hit : r ≡ l → found q c first row (i - 1) ≡ insert (first + place q c (get_or row (i - 1) 0)) (found q c first row i)
-    found_hit f =
-        found_next i h g ∙ ap (λ t. cond t (insert (first + place q c (get_or row (i - 1) 0)) (found q c first row i)) (found q c first row i)) (eq-eqb _ _ (sym er ∙ f ∙ el))
-
-    found_miss : (r ≡ l → ⊥) → found q c first row (i - 1) ≡ found q c first row i
-    found_miss f =
-        found_next i h g ∙ ap (λ t. cond t (insert (first + place q c (get_or row (i - 1) 0)) (found q c first row i)) (found q c first row i)) (ne_eqb _ _ (λ e. f (er ∙ e ∙ sym el)))
-
-    module _ (out out₀ : List ℕ) (n : ℕ) (en : n ≡ length (found q c first row i)) (eo : out ≡ found q c first row i ++ drop n out₀)
-        (fit : length (only c (of_bits (374 * q) q 374 first 0 row)) ≤ length out₀) where
-      pub row_size : length out ≡ length out₀
-      row_size = found_fits out out₀ n i en eo fit
-
-      pub row_room : r ≡ l → n < length out
-      row_room f = omega (arith, row_size, found_le (i - 1), ap length (found_hit f), insert_length (first + place q c (get_or row (i - 1) 0)) (found q c first row i))
-
-      pub row_hit : r ≡ l → (m n' : ℕ) (out' : List ℕ) → m ≡ first + place q c (get_or row (i - 1) 0) → out' ≡ insert m (take n out) ++ drop (n + 1) out → n' ≡ n + 1
-          → (n' ≡ length (found q c first row (i - 1))) × (out' ≡ found q c first row (i - 1) ++ drop n' out₀)
-      row_hit f m n' out' em e k = (
-        k ∙ omega (arith, ap length (found_hit f), insert_length (first + place q c (get_or row (i - 1) 0)) (found q c first row i)),
-        e
-            ∙ ap₂ (λ (y z : List ℕ). y ++ z)
-            (ap₂ insert em (ap (take n) eo ∙ take_at (found q c first row i) (drop n out₀) n (sym en)) ∙ sym (found_hit f))
-            (sym (drop-drop 1 n out) ∙ ap (drop 1) (ap (drop n) eo ∙ drop_at (found q c first row i) (drop n out₀) n (sym en)) ∙ drop-drop 1 n out₀ ∙ ap (λ (z : ℕ). drop z out₀) (sym k)),
+  found_le rest done e =
+      omega (
+        arith,
+        bits_count q c pos inside first done,
+        bits_count q c pos inside first row,
+        ap (count_mod q (c % q)) e,
+        count_split q (c % q) (length rest) (rest ++ done),
+        ap (count_mod q (c % q)) (drop_at rest done (length rest) refl),
       )
 
-      pub row_miss : (r ≡ l → ⊥) → (n' : ℕ) (out' : List ℕ) → out' ≡ out → n' ≡ n → (n' ≡ length (found q c first row (i - 1))) × (out' ≡ found q c first row (i - 1) ++ drop n' out₀)
-      row_miss f n' out' e k =
-          (k ∙ en ∙ ap length (sym (found_miss f)), e ∙ eo ∙ ap₂ (λ (y : List ℕ) (z : ℕ). y ++ drop z out₀) (sym (found_miss f)) (sym k))
-
-  pub row_start_lem : (out : List ℕ) (i : ℕ) → i ≡ length row → (0 ≡ length (found q c first row i)) × (out ≡ found q c first row i ++ drop 0 out)
+  found_next : (a : ℕ) (done : List ℕ)
+      → found q c first (a ∷ done) ≡ cond (eqb (a % q) (c % q)) (insert (first + place q c a) (found q c first done)) (found q c first done)
   unfolding found
-  row_start_lem out i e =
-      let z : only c (of_bits (374 * q) q 374 first 0 (drop i row)) ≡ [] =
-      ap (λ (y : ℕ). only c (of_bits (374 * q) q 374 first 0 (drop y row))) e ∙ ap (λ (y : List ℕ). only c (of_bits (374 * q) q 374 first 0 y)) (drop-length row) ∙ bits_none (374 * q) q c 374 first 0 in
-      (ap length (sym z), ap (λ (y : List ℕ). y ++ out) (sym z))
+  found_next a done = row_cons q c a pos inside first done
 
-  pub row_end : (out out₀ : List ℕ) (n i : ℕ) → i ≤ 0 → n ≡ length (found q c first row i) → out ≡ found q c first row i ++ drop n out₀
-      → (n ≡ length (only c (of_bits (374 * q) q 374 first 0 row))) × (out ≡ only c (of_bits (374 * q) q 374 first 0 row) ++ drop n out₀)
+  -- a is the next address
+  module _ (rest rest' out out₀ : List ℕ) (n a r l : ℕ) (I : Gathered q c first row rest out₀ out n) (step : rest ≡ rest' ++ (a ∷ []))
+      (fit : length (found q c first row) ≤ length out₀) (er : r ≡ a % q) (el : l ≡ c % q) where
+    row_parts : row ≡ rest' ++ (a ∷ I.done)
+    row_parts = I.parts ∙ ap (λ (z : List ℕ). z ++ I.done) step ∙ append_assoc rest' (a ∷ []) I.done
+
+    row_size : length out ≡ length out₀
+    row_size = ap length I.list ∙ length-append (found q c first I.done) (drop n out₀) ∙ omega (arith, length-drop n out₀, I.size, found_le rest I.done I.parts)
+
+    found_hit : r ≡ l → found q c first (a ∷ I.done) ≡ insert (first + place q c a) (found q c first I.done)
+    found_hit f =
+        found_next a I.done ∙ ap (λ t. cond t (insert (first + place q c a) (found q c first I.done)) (found q c first I.done)) (eq-eqb _ _ (sym er ∙ f ∙ el))
+
+    found_miss : (r ≡ l → ⊥) → found q c first (a ∷ I.done) ≡ found q c first I.done
+    found_miss f =
+        found_next a I.done ∙ ap (λ t. cond t (insert (first + place q c a) (found q c first I.done)) (found q c first I.done)) (ne_eqb _ _ (λ e. f (er ∙ e ∙ sym el)))
+
+    pub row_room : r ≡ l → n < length out
+    row_room f =
+        omega (arith, row_size, I.size, found_le rest' (a ∷ I.done) row_parts, ap length (found_hit f), insert_length (first + place q c a) (found q c first I.done))
+
+    pub row_hit : r ≡ l → (m : ℕ) (out' : List ℕ) → m ≡ first + place q c a → out' ≡ insert m (take n out) ++ drop (n + 1) out → Gathered q c first row rest' out₀ out' (n + 1)
+    row_hit f m out' em e = record {
+      done = a ∷ I.done;
+      parts = row_parts;
+      size = omega (arith, I.size, ap length (found_hit f), insert_length (first + place q c a) (found q c first I.done));
+      list = e
+          ∙ ap₂ (λ (y z : List ℕ). y ++ z)
+          (ap₂ insert em (ap (take n) I.list ∙ take_at (found q c first I.done) (drop n out₀) n (sym I.size)) ∙ sym (found_hit f))
+          (sym (drop-drop 1 n out) ∙ ap (drop 1) (ap (drop n) I.list ∙ drop_at (found q c first I.done) (drop n out₀) n (sym I.size)) ∙ drop-drop 1 n out₀);
+    }
+
+    pub row_miss : (r ≡ l → ⊥) → Gathered q c first row rest' out₀ out n
+    row_miss f = record {
+      done = a ∷ I.done;
+      parts = row_parts;
+      size = I.size ∙ ap length (sym (found_miss f));
+      list = I.list ∙ ap (λ (y : List ℕ). y ++ drop n out₀) (sym (found_miss f));
+    }
+
+  pub row_start_lem : (rest out : List ℕ) → rest ≡ row → Gathered q c first row rest out out 0
   unfolding found
-  row_end out out₀ n i h en eo =
-      let e : i ≡ 0 = omega arith in
-      let f = ap (λ (z : ℕ). only c (of_bits (374 * q) q 374 first 0 (drop z row))) e in
-      (en ∙ ap length f, eo ∙ ap (λ (z : List ℕ). z ++ drop n out₀) f)
+  row_start_lem rest out e =
+      let z : only c (of_bits (374 * q) q 374 first 0 []) ≡ [] = bits_none (374 * q) q c 374 first 0 in
+      record { done = []; parts = sym e ∙ sym (append-nil rest); size = ap length (sym z); list = ap (λ (y : List ℕ). y ++ out) (sym z) }
 
--- ---- all rows
--- check c's bits of the rows from row g on, whose addresses begin at `from`
-unfoldable pub rest_of : ℕ → ℕ → List ℕ → List ℕ → ℕ → ℕ → List ℕ
-rest_of q c lens addrs g from = only c (of_rows (374 * q) q (374 * g) (rows_of (drop g lens) (drop from addrs)))
+  pub row_end : (rest out out₀ : List ℕ) (n : ℕ) → rest ≡ [] → Gathered q c first row rest out₀ out n
+      → (n ≡ length (found q c first row)) × (out ≡ found q c first row ++ drop n out₀)
+  row_end rest out out₀ n e I =
+      let f : found q c first I.done ≡ found q c first row = ap (found q c first) (sym (I.parts ∙ ap (λ (z : List ℕ). z ++ I.done) e)) in
+      (I.size ∙ ap length f, I.list ∙ ap (λ (z : List ℕ). z ++ drop n out₀) f)
 
-unfoldable pub all_of : ℕ → ℕ → List ℕ → List ℕ → List ℕ
-all_of q c lens addrs = only c (of_rows (374 * q) q 0 (rows_of lens addrs))
+-- ---- all rows: check c's bits of those that are left
+unfoldable pub rest_of : ℕ → ℕ → Rows → List ℕ
+rest_of q c s = only c (left_edges (374 * q) q s)
 
-pub rest_start : (q c : ℕ) (lens addrs : List ℕ) → all_of q c lens addrs ≡ rest_of q c lens addrs 0 0
-unfolding all_of rest_of
-rest_start q c lens addrs = refl
+module _ (q c : ℕ) (s : Rows) where
+  pub rest_start : (n : Rows) (lens addrs : List ℕ) → s ≡ n → n.first ≡ 0 → n.lens.now ≡ lens → n.addrs.now ≡ addrs → all_of q c lens addrs ≡ rest_of q c s
+  unfolding all_of rest_of
+  rest_start n lens addrs i e f g = ap (only c) (sym (edges_start (374 * q) q s n lens addrs i e f g))
 
-pub rest_end : (q c : ℕ) (lens addrs : List ℕ) (g from : ℕ) → length lens ≤ g → rest_of q c lens addrs g from ≡ []
-unfolding rest_of only
-rest_end q c lens addrs g from h = ap (only c) (rows_none (374 * q) q (374 * g) g lens (drop from addrs) h)
+  pub rest_end : left s ≡ [] → rest_of q c s ≡ []
+  unfolding rest_of only
+  rest_end e = ap (only c) (edges_none (374 * q) q s e)
 
-module _ (q c : ℕ) (lens addrs : List ℕ) (g from : ℕ) (h : g < length lens) where
-  -- the row's addresses as they are lent
-  pub rest_next : (r first : ℕ) → r ≡ get_or lens g 0 → first ≡ 374 * g
-      → rest_of q c lens addrs g from ≡ only c (of_bits (374 * q) q 374 first 0 (take (from + r - from) (drop from addrs))) ++ rest_of q c lens addrs (g + 1) (from + r)
-  unfolding rest_of
-  rest_next r first e f =
-      let t : get_or lens g 0 ≡ from + r - from = omega arith in
-      ap (only c) (rows_next (374 * q) q lens addrs g from h)
-      ∙ only_append c (of_bits (374 * q) q 374 (374 * g) 0 (take (get_or lens g 0) (drop from addrs))) _
-      ∙ ap₂ (λ (y z : List ℕ). y ++ z)
-      (ap₂ (λ (y z : ℕ). only c (of_bits (374 * q) q 374 y 0 (take z (drop from addrs)))) (sym f) t)
-      (ap (λ (z : ℕ). only c (of_rows (374 * q) q (374 * (g + 1)) (rows_of (drop (g + 1) lens) (drop (from + z) addrs)))) (sym e))
+  pub rest_next : (t : Rows) (r : Row) → left s ≡ seen r ∷ left t → rest_of q c s ≡ found q c r.first r.addrs.now ++ rest_of q c t
+  unfolding rest_of found
+  rest_next t r e = ap (only c) (edges_first (374 * q) q s t r e) ∙ only_append c (of_bits (374 * q) q 374 r.first 0 r.addrs.now) _
 
 -- a list put in front of the part from n on
 module _ (out list ys : List ℕ) (n d : ℕ) (ed : d ≡ length list) (ey : ys ≡ list ++ drop d (take (length out - n) (drop n out))) (fit : n + d ≤ length out) where
@@ -240,12 +242,13 @@ set_two out n a b h =
     ∙ append_assoc (take n out) (a ∷ []) (b ∷ drop (n + 1 + 1) out)
 
 pub stair_two : (out : List ℕ) (n k c v : ℕ) → v ≡ k + c → (c ≡ 0 → ⊥) → n + length (stairs k c) ≤ length out
-    → (n + 1 < length out) × (n + 1 + 1 ≡ n + length (stairs k c)) × (set (set out n (v - 1)) (n + 1) v ≡ take n out ++ (stairs k c ++ drop (n + 1 + 1) out))
+    → (n + 1 < length out) × (n + 2 ≡ n + length (stairs k c)) × (set (set out n (v - 1)) (n + 1) v ≡ take n out ++ (stairs k c ++ drop (n + 2) out))
 unfolding stairs
 stair_two out n k zero v e z h = absurd (z refl)
 stair_two out n k (suc c) v e z h =
     let f : v - 1 ≡ k + c = omega arith in
-    (omega arith, omega arith, set_two out n (v - 1) v (omega arith) ∙ ap₂ (λ (y i : ℕ). take n out ++ (y ∷ i ∷ drop (n + 1 + 1) out)) f e)
+    let g : n + 1 + 1 ≡ n + 2 = omega arith in
+    (omega arith, omega arith, set_two out n (v - 1) v (omega arith) ∙ ap (λ (z : ℕ). take n out ++ ((v - 1) ∷ v ∷ drop z out)) g ∙ ap₂ (λ (y i : ℕ). take n out ++ (y ∷ i ∷ drop (n + 2) out)) f e)
 
 -- ---- an accepted code, with its sizes as the program has them
 module _ (n : ℕ) (lens addrs : List ℕ) (e : code_refusal n lens addrs ≡ 0) (S : Sizes) (D : S ≡ sizes_of n lens addrs) where

@@ -1,36 +1,22 @@
-use Rattle.ldpc_check.proofs.Loops.{row_start_lem, row_room, row_hit, row_miss, row_end}
-use lib.ListN.{length}
-use Prim.Native.Nat.{◌+◌}
-use mathlib.Core.Path.{refl, ap}
-use native.Mathlib.Omega.{arith}
+use Rattle.std.proofs.Common.{◌+◌, ap, refl, ◌∙◌}
+use Rattle.std.specs.Slice.Iter.{iter_rest}
+use Rattle.std.specs.Iterator.Adapters.{rev_source}
+use Rattle.ldpc_check.proofs.Loops.{row_start_lem, row_room, row_hit, row_miss}
 use Rattle.ldpc_check.proofs.check_row.Goals as goal
 
-pub loop-i-init : goal.loop-i-init
-loop-i-init c =
-    let e = row_start_lem c.args.q c.args.c c.args.first c.args.row.now c.requires.0 c.requires.1 c.args.out.now (length c.args.row.now) refl in
-    (omega arith, e.0, e.1)
+pub loop-a-init : goal.loop-a-init
+loop-a-init c = row_start_lem c.args.q c.args.c c.args.row.first c.args.row.addrs.now c.requires.0 c.requires.1 _ c.args.out.now
+    (ap (λ z. iter_rest (rev_source z)) c.into_iter-a-iterator.ensures.into_iter_gives ∙ ap iter_rest c.rev-a-items.ensures.source ∙ c.iter.ensures.rest)
 
 pub insert_bit-requires : goal.insert_bit-requires
 insert_bit-requires c =
-    row_room c.args.q c.args.c c.args.first c.args.row.now c.requires.0 c.requires.1 c.loop-i.i c.loop-i-test.true c.loop-i.invariant.0 c.residue.result c.wide-l.result c.residue.ensures.0 c.wide-l.ensures
-    c.loop-i.out c.args.out.now c.loop-i.n c.loop-i.invariant.1 c.loop-i.invariant.2 c.requires.4 c.if-residue-l.true
+    row_room c.args.q c.args.c c.args.row.first c.args.row.addrs.now c.requires.0 c.requires.1 _ _ c.loop-a.out c.args.out.now c.loop-a.n c.in-Some.field-0.now c.residue.result _ c.loop-a.invariant c.in-Some.ensures.steps c.requires.3 c.residue.ensures.0 refl c.if-residue-l.true
 
-pub loop-i-preserved-then-residue-l : goal.loop-i-preserved-then-residue-l
-loop-i-preserved-then-residue-l c =
-    let r =
-    row_hit c.args.q c.args.c c.args.first c.args.row.now c.requires.0 c.requires.1 c.loop-i.i c.loop-i-test.true c.loop-i.invariant.0 c.residue.result c.wide-l.result c.residue.ensures.0 c.wide-l.ensures
-    c.loop-i.out c.args.out.now c.loop-i.n c.loop-i.invariant.1 c.loop-i.invariant.2 c.requires.4 c.if-residue-l.true
-    (c.args.first + c.bit_of.result) (c.loop-i.n + 1) c.insert_bit.new.out (ap (λ z. c.args.first + z) c.bit_of.ensures.0) c.insert_bit.ensures refl
-    in
-    (omega arith, r.0, r.1)
+pub loop-a-preserved-then-residue-l : goal.loop-a-preserved-then-residue-l
+loop-a-preserved-then-residue-l c =
+    row_hit c.args.q c.args.c c.args.row.first c.args.row.addrs.now c.requires.0 c.requires.1 _ _ c.loop-a.out c.args.out.now c.loop-a.n c.in-Some.field-0.now c.residue.result _ c.loop-a.invariant c.in-Some.ensures.steps c.requires.3 c.residue.ensures.0 refl c.if-residue-l.true _ c.insert_bit.new.out
+    (ap (λ z. c.args.row.first + z) c.bit_of.ensures.0) c.insert_bit.ensures
 
-pub loop-i-preserved : goal.loop-i-preserved
-loop-i-preserved c =
-    let r =
-    row_miss c.args.q c.args.c c.args.first c.args.row.now c.requires.0 c.requires.1 c.loop-i.i c.loop-i-test.true c.loop-i.invariant.0 c.residue.result c.wide-l.result c.residue.ensures.0 c.wide-l.ensures
-    c.loop-i.out c.args.out.now c.loop-i.n c.loop-i.invariant.1 c.loop-i.invariant.2 c.requires.4 c.if-residue-l.false c.loop-i.n c.loop-i.out refl refl
-    in
-    (omega arith, r.0, r.1)
-
-pub returns : goal.returns
-returns c = row_end c.args.q c.args.c c.args.first c.args.row.now c.requires.0 c.requires.1 c.loop-i.out c.args.out.now c.loop-i.n c.loop-i.i c.loop-i-test.false c.loop-i.invariant.1 c.loop-i.invariant.2
+pub loop-a-preserved : goal.loop-a-preserved
+loop-a-preserved c =
+    row_miss c.args.q c.args.c c.args.row.first c.args.row.addrs.now c.requires.0 c.requires.1 _ _ c.loop-a.out c.args.out.now c.loop-a.n c.in-Some.field-0.now c.residue.result _ c.loop-a.invariant c.in-Some.ensures.steps c.requires.3 c.residue.ensures.0 refl c.if-residue-l.false

@@ -1,13 +1,8 @@
 -- `ldpc_check::check_row` meets its contract. Assumes nothing.
-use Rattle.ldpc_check.proofs.Loops.{found}
-use lib.ListN.{length, drop}
-use Prim.Native.Nat.{◌≤◌}
-use mathlib.Core.List.{◌++◌}
-use mathlib.Core.Path.{◌≡◌}
+use Rattle.std.specs.Slice.Iter.{iter_rest}
+use Rattle.std.specs.Iterator.Adapters.{rev_source}
+use Rattle.ldpc_check.proofs.Loops.{Gathered}
 use Rattle.ldpc_check.proofs.check_row.Given as goal
 
-abbrev pub invariant-loop-i : goal.invariant-loop-i
-invariant-loop-i l = (l.i ≤ length l.row) × (l.n ≡ length (found l.q l.c l.first l.row l.i)) × (l.out ≡ found l.q l.c l.first l.row l.i ++ drop l.n l.initial.out)
-
-abbrev pub decreases-loop-i : goal.decreases-loop-i
-decreases-loop-i l = l.i
+abbrev pub invariant-loop-a : goal.invariant-loop-a
+invariant-loop-a l = Gathered l.q l.c l.row.first l.row.addrs.now (iter_rest (rev_source l.a-iterator)) l.initial.out l.out l.n
