@@ -2,7 +2,7 @@
 use mathlib.Core.Path.{◌≡◌, refl, sym, ap, ap₂, ◌∙◌, subst}
 use mathlib.Core.Bool.{cond}
 use mathlib.Core.List.{List, [], ◌++◌}
-use Prim.Native.Nat.{ℕ, zero, suc, ◌+◌, ◌-◌, ◌*◌, ◌%◌, ◌≤◌, ◌<◌}
+use Prim.Native.Nat.{ℕ, zero, suc, ◌+◌, ◌-◌, ◌%◌, ◌≤◌, ◌<◌}
 use native.Mathlib.Omega.{arith}
 use native.Mathlib.Nat.{mod-lt}
 use native.Mathlib.Numerals.{add-one}
@@ -12,7 +12,7 @@ use lib.Seq.{slice, get_or-take, length-take-le, ext_get_or, drop-drop}
 use Rattle.laws.specs.Lists.{drop_take}
 use Rattle.ldpc_shape.specs.declared.Sizes.{Sizes}
 use Rattle.ldpc_shape.specs.Shape.{k_of, p_of, q_of, e_of, sizes_of, rows_of, total, code_refusal}
-use Rattle.ldpc_shape.specs.Accepted.{Accepted, Bounded, p_pos, q_pos, addrs_le, few}
+use Rattle.ldpc_shape.specs.Accepted.{Accepted, Bounded, p_pos, q_pos, addrs_le, rows_le, few}
 use Rattle.ldpc_shape.proofs.Accepted.{accepted, sizes_bounded}
 use Rattle.ldpc_shape.specs.Counts.{CountsBelow}
 use Rattle.ldpc_edges.specs.Code.{Edge, of_rows, meets, check, start_of, joined, row_start, rows, edge_lists}
@@ -131,9 +131,8 @@ module _ (n : ℕ) (lens addrs : List ℕ) (e : code_refusal n lens addrs ≡ 0)
   pub bounds : Bounded S
   bounds = sizes_bounded S n lens addrs D e
 
-  pub lent : (length addrs ≤ 15360) × (total lens ≡ length addrs) × (S.k ≡ 374 * length lens)
-  unfolding k_of
-  lent = (addrs_le n lens addrs A, A.adds, ap (λ (z : Sizes). z.k) D)
+  pub lent : (length addrs ≤ 15360) × (total lens ≡ length addrs) × (length lens ≤ 120)
+  lent = (addrs_le n lens addrs A, A.adds, omega (arith, rows_le n lens addrs A))
 
   k_same : S.k ≡ k_of lens
   k_same = ap (λ (z : Sizes). z.k) D

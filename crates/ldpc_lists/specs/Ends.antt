@@ -23,11 +23,11 @@ pub record EndsSet (r : List ℕ) (q : ℕ) (at : List ℕ) (i : ℕ) : Type 0 w
   pub set_to : (c : ℕ) → c < i → get_or at c 0 ≡ ending r q (suc c)
 
 pub ends_again : (r : List ℕ) (q : ℕ) (at : List ℕ) (i e s : ℕ) → i < length at → s ≡ cond (eqb i 0) 1 2 → e ≡ ending r q i → EndsSet r q at i
-    → EndsSet r q (set at i (e + get_or r (i % q) 0 + s)) (i + 1)
+    → EndsSet r q (set at i (e + (get_or r (i % q) 0 + s))) (i + 1)
 unfolding ending
 ends_again r q at i e s h f g E = record { set_to = grown 0 (λ c x. x ≡ ending r q c + (get_or r (c % q) 0 + cond (eqb c 0) 1 2)) at i _ h E.set_to (omega arith) }
 
-pub ending_next : (r : List ℕ) (q i e s : ℕ) → s ≡ cond (eqb i 0) 1 2 → e ≡ ending r q i → e + get_or r (i % q) 0 + s ≡ ending r q (i + 1)
+pub ending_next : (r : List ℕ) (q i e s : ℕ) → s ≡ cond (eqb i 0) 1 2 → e ≡ ending r q i → e + (get_or r (i % q) 0 + s) ≡ ending r q (i + 1)
 unfolding ending
 ending_next r q i e s f g = sym (ap (ending r q) (add-one i) ∙ omega arith)
 

@@ -8,9 +8,6 @@ use mathlib.Core.Path.{◌≡◌, ap}
 use native.Mathlib.Omega.{arith}
 use Rattle.ldpc_lists.proofs.build.Goals as goal
 
-pub overflow_cast-n : goal.overflow_cast-n
-overflow_cast-n c = omega (arith, bounds _ _ _ c.requires.accepted.0 _ c.requires.accepted.1)
-
 pub overflow_cast-k : goal.overflow_cast-k
 overflow_cast-k c = omega (arith, bounds _ _ _ c.requires.accepted.0 _ c.requires.accepted.1)
 
@@ -20,8 +17,11 @@ overflow_cast-p c = omega (arith, bounds _ _ _ c.requires.accepted.0 _ c.require
 pub overflow_cast-q : goal.overflow_cast-q
 overflow_cast-q c = omega (arith, bounds _ _ _ c.requires.accepted.0 _ c.requires.accepted.1)
 
-pub counts-r-requires : goal.counts-r-requires
-counts-r-requires c =
+pub overflow_cast-q-2 : goal.overflow_cast-q-2
+overflow_cast-q-2 c = omega (arith, bounds _ _ _ c.requires.accepted.0 _ c.requires.accepted.1)
+
+pub counts-counts-requires : goal.counts-counts-requires
+counts-counts-requires c =
     let b = bounds _ _ _ c.requires.accepted.0 _ c.requires.accepted.1 in
     (b.q_pos, b.q_le, (lent _ _ _ c.requires.accepted.0 _ c.requires.accepted.1).0)
 
@@ -30,16 +30,16 @@ ends-requires c =
     let p = ap (λ (z : Sizes). z.p) c.requires.accepted.1 in
     let e = ap (λ (z : Sizes). z.e) c.requires.accepted.1 in
     let long : length c.args.lists.now ≡ suc (p_of c.args.of.n c.args.lens.now) + e_of c.args.of.n c.args.lens.now c.args.addrs.now = omega (arith, c.requires.size) in
-    ends_ready _ _ _ c.requires.accepted.0 _ c.requires.accepted.1 c.counts-r.result c.args.lists.now c.counts-r.ensures.below long
+    ends_ready _ _ _ c.requires.accepted.0 _ c.requires.accepted.1 c.counts-counts.result c.args.lists.now c.counts-counts.ensures.below long
 
 pub put_stairs-requires : goal.put_stairs-requires
 put_stairs-requires c =
     let p = ap (λ (z : Sizes). z.p) c.requires.accepted.1 in
     let e = ap (λ (z : Sizes). z.e) c.requires.accepted.1 in
     let long : length c.ends.new.lists ≡ suc (p_of c.args.of.n c.args.lens.now) + e_of c.args.of.n c.args.lens.now c.args.addrs.now = omega (arith, c.requires.size) in (
-      base_fits _ _ _ c.requires.accepted.0 _ c.requires.accepted.1 c.counts-r.result c.ends.new.lists c.counts-r.ensures.below long c.ends.ensures.0 c.ends.ensures.1,
-      (bounds _ _ _ c.requires.accepted.0 _ c.requires.accepted.1).n_is,
-      stairs_ready _ _ _ c.requires.accepted.0 _ c.requires.accepted.1 c.counts-r.result c.ends.new.lists c.counts-r.ensures.below long c.ends.ensures.0 c.ends.ensures.1,
+      base_fits _ _ _ c.requires.accepted.0 _ c.requires.accepted.1 c.counts-counts.result c.ends.new.lists c.counts-counts.ensures.below long c.ends.ensures.0 c.ends.ensures.1,
+      omega (arith, bounds _ _ _ c.requires.accepted.0 _ c.requires.accepted.1),
+      stairs_ready _ _ _ c.requires.accepted.0 _ c.requires.accepted.1 c.counts-counts.result c.ends.new.lists c.counts-counts.ensures.below long c.ends.ensures.0 c.ends.ensures.1,
     )
 
 pub put_rows-requires : goal.put_rows-requires
@@ -49,13 +49,12 @@ put_rows-requires c =
     let p = ap (λ (z : Sizes). z.p) c.requires.accepted.1 in
     let e = ap (λ (z : Sizes). z.e) c.requires.accepted.1 in
     let long : length c.ends.new.lists ≡ suc (p_of c.args.of.n c.args.lens.now) + e_of c.args.of.n c.args.lens.now c.args.addrs.now = omega (arith, c.requires.size) in (
-      omega (arith, base_fits _ _ _ c.requires.accepted.0 _ c.requires.accepted.1 c.counts-r.result c.ends.new.lists c.counts-r.ensures.below long c.ends.ensures.0 c.ends.ensures.1),
+      omega (arith, base_fits _ _ _ c.requires.accepted.0 _ c.requires.accepted.1 c.counts-counts.result c.ends.new.lists c.counts-counts.ensures.below long c.ends.ensures.0 c.ends.ensures.1),
       b.p_pos,
       b.q_le,
       rows.2,
-      omega (arith, b),
       rows.1,
-      meets_ready _ _ _ c.requires.accepted.0 _ c.requires.accepted.1 c.counts-r.result c.ends.new.lists c.counts-r.ensures.below long c.ends.ensures.0 c.ends.ensures.1
+      meets_ready _ _ _ c.requires.accepted.0 _ c.requires.accepted.1 c.counts-counts.result c.ends.new.lists c.counts-counts.ensures.below long c.ends.ensures.0 c.ends.ensures.1
           c.put_stairs.new.lists c.put_stairs.ensures,
     )
 
@@ -64,5 +63,5 @@ returns c =
     let p = ap (λ (z : Sizes). z.p) c.requires.accepted.1 in
     let e = ap (λ (z : Sizes). z.e) c.requires.accepted.1 in
     let long : length c.ends.new.lists ≡ suc (p_of c.args.of.n c.args.lens.now) + e_of c.args.of.n c.args.lens.now c.args.addrs.now = omega (arith, c.requires.size) in
-    build_done _ _ _ c.requires.accepted.0 _ c.requires.accepted.1 c.counts-r.result c.ends.new.lists c.counts-r.ensures.below long c.ends.ensures.0 c.ends.ensures.1
+    build_done _ _ _ c.requires.accepted.0 _ c.requires.accepted.1 c.counts-counts.result c.ends.new.lists c.counts-counts.ensures.below long c.ends.ensures.0 c.ends.ensures.1
     c.put_stairs.new.lists c.put_stairs.ensures c.put_rows.new.lists c.put_rows.ensures

@@ -1,23 +1,29 @@
-use Rattle.ldpc_lists.proofs.Loops.{met_start, met_room, met_again}
-use Rattle.ldpc_lists.specs.Build.{parts}
-use borrow.Author.Rules.{rules}
-use native.Mathlib.Omega.{arith}
+use Rattle.std.proofs.Common.{ap, ◌∙◌, arith}
+use Rattle.std.specs.Slice.Iter.{iter_rest}
+use Rattle.std.specs.Iterator.Adapters.{rev_source}
+use Rattle.ldpc_edges.specs.Code.{met}
+use Rattle.ldpc_lists.proofs.Loops.{fill_start, fill_end, met_ready, met_next, met_none}
 use Rattle.ldpc_lists.proofs.put_met.Goals as goal
 
-pub loop-i-init : goal.loop-i-init
-loop-i-init c = (omega arith, c.requires.0, met_start _ _ _ _ c.args.row.now _)
+pub loop-a-init : goal.loop-a-init
+loop-a-init c =
+    fill_start c.args.checks c.args.base _ _ c.args.lists.now
+    (ap (λ z. met c.args.checks c.args.q c.args.m c.args.j (iter_rest (rev_source z))) c.into_iter-a-iterator.ensures.into_iter_gives
+    ∙ ap (λ z. met c.args.checks c.args.q c.args.m c.args.j (iter_rest z)) c.rev-a-items.ensures.source ∙ ap (met c.args.checks c.args.q c.args.m c.args.j) c.iter.ensures.rest)
+    c.requires.4
 
 pub put_one-requires : goal.put_one-requires
 put_one-requires c = (
-  c.loop-i.invariant.1,
-  met_room c.args.checks c.args.q c.args.m c.args.j c.args.row.now c.loop-i.i _ (parts c.args.base c.loop-i.lists) (parts c.args.base c.args.lists.now) c.requires.1
-      (search rules) c.loop-i.invariant.0 c.meets-p.ensures c.requires.4 c.loop-i.invariant.2,
+  omega arith,
+  met_ready c.args.checks c.args.q c.args.m c.args.j c.args.base c.args.row.now c.args.lists.now c.loop-a.lists _ _ c.in-Some.field-0.now c.meets.result c.requires.1
+      c.loop-a.invariant c.in-Some.ensures.steps c.meets.ensures,
 )
 
-pub loop-i-preserved : goal.loop-i-preserved
-loop-i-preserved c = (
-  omega arith,
-  omega arith,
-  met_again c.args.checks c.args.q c.args.m c.args.j c.args.row.now c.loop-i.i _ (parts c.args.base c.loop-i.lists) _ (parts c.args.base c.args.lists.now)
-      (search rules) c.loop-i.invariant.0 c.meets-p.ensures c.loop-i.invariant.2 c.put_one.ensures,
-)
+pub loop-a-preserved : goal.loop-a-preserved
+loop-a-preserved c =
+    met_next c.args.checks c.args.q c.args.m c.args.j c.args.base c.args.row.now c.args.lists.now c.loop-a.lists _ _ c.in-Some.field-0.now c.meets.result c.requires.1
+    c.loop-a.invariant c.in-Some.ensures.steps c.meets.ensures c.put_one.new.lists c.put_one.ensures
+
+pub returns : goal.returns
+returns c =
+    fill_end c.args.checks c.args.base _ _ c.args.lists.now c.loop-a.lists (met_none c.args.checks c.args.q c.args.m c.args.j _ c.in-None.ensures.steps.0) c.loop-a.invariant

@@ -1,27 +1,29 @@
-use Rattle.ldpc_lists.proofs.Loops.{bits_start, bits_room, bits_again}
-use Rattle.ldpc_lists.specs.Build.{parts}
-use borrow.Author.Rules.{rules}
-use native.Mathlib.Omega.{arith}
+use Rattle.std.proofs.Common.{◌+◌, ◌-◌, refl, arith}
+use Rattle.ldpc_edges.proofs.Inside.{met_inside}
+use Rattle.ldpc_lists.proofs.Loops.{fill_start, fill_end, fill_room, fill_next, bits_step, bits_end}
 use Rattle.ldpc_lists.proofs.put_row.Goals as goal
 
 pub loop-j-init : goal.loop-j-init
-loop-j-init c = (omega arith, omega arith, c.requires.0, bits_start _ _ _ _ _)
+loop-j-init c = fill_start c.args.checks c.args.base _ _ c.args.lists.now refl c.requires.3
 
 pub put_met-requires : goal.put_met-requires
 put_met-requires c = (
-  c.loop-j.invariant.2,
+  omega arith,
   c.requires.1,
   omega arith,
   c.requires.2,
-  bits_room c.args.checks c.args.q c.args.first c.loop-j.j c.loop-j.m c.args.row.now (parts c.args.base c.loop-j.lists) (parts c.args.base c.args.lists.now)
-      c.requires.1 (search rules) c.loop-j.invariant.0 c.loop-j.invariant.1 c.requires.4 c.loop-j.invariant.3,
+  fill_room c.args.checks c.args.base _ _ c.args.lists.now c.loop-j.lists c.loop-j.invariant _ _
+      (bits_step c.args.checks c.args.q c.args.row.first c.loop-j.j c.args.row.addrs.now (omega arith)),
 )
 
 pub loop-j-preserved : goal.loop-j-preserved
-loop-j-preserved c = (
-  omega arith,
-  omega arith,
-  omega arith,
-  bits_again c.args.checks c.args.q c.args.first c.loop-j.j c.loop-j.m c.args.row.now (parts c.args.base c.loop-j.lists) _ (parts c.args.base c.args.lists.now)
-      (search rules) c.loop-j.invariant.0 c.loop-j.invariant.1 c.loop-j.invariant.3 c.put_met.ensures,
-)
+loop-j-preserved c =
+    let m = c.args.row.first + (c.loop-j.j - 1) in
+    fill_next c.args.checks c.args.base _ _ c.args.lists.now c.loop-j.lists c.loop-j.invariant _ _
+    (bits_step c.args.checks c.args.q c.args.row.first c.loop-j.j c.args.row.addrs.now (omega arith)) (m + 1) c.put_met.new.lists
+    (met_inside c.args.checks c.args.q (m + 1) m (c.loop-j.j - 1) c.args.row.addrs.now c.requires.1 (omega arith)) c.put_met.ensures
+
+pub returns : goal.returns
+returns c =
+    fill_end c.args.checks c.args.base _ _ c.args.lists.now c.loop-j.lists (bits_end c.args.checks c.args.q c.args.row.first c.loop-j.j c.args.row.addrs.now (omega arith))
+    c.loop-j.invariant

@@ -1,43 +1,35 @@
-use Rattle.ldpc_lists.proofs.Loops.{before_all, rows_start, row_fits, part_room, from_before, part_again, rows_end}
-use Rattle.ldpc_lists.specs.Build.{parts}
-use lib.ListN.{length}
-use mathlib.Core.Path.{sym, ◌∙◌}
-use borrow.Author.Rules.{rules}
-use native.Mathlib.Omega.{arith}
+use Rattle.std.proofs.Common.{ap, ◌∙◌, arith, ◌+◌}
+use Rattle.std.specs.Iterator.Adapters.{rev_source}
+use Rattle.ldpc_edges.proofs.Inside.{bits_inside}
+use Rattle.ldpc_rows.proofs.Edges.{edges_start, edges_last, edges_none}
+use Rattle.ldpc_lists.proofs.Loops.{fill_start, fill_end, fill_room, fill_next}
 use Rattle.ldpc_lists.proofs.put_rows.Goals as goal
 
-pub loop-g-init : goal.loop-g-init
-loop-g-init c =
-    (omega arith, c.requires.3, sym c.requires.5 ∙ before_all _, omega arith, c.requires.0, rows_start _ _ c.args.lens.now c.args.addrs.now (length c.args.addrs.now) _)
-
-pub overflow_sub-from : goal.overflow_sub-from
-overflow_sub-from c =
-    row_fits c.args.checks c.args.q c.args.lens.now c.args.addrs.now c.loop-g.g c.loop-g.m c.loop-g.end c.wide-l.result (parts c.args.base c.loop-g.lists)
-    (parts c.args.base c.args.lists.now) (search rules) c.loop-g.invariant.0 c.loop-g.invariant.1 c.loop-g.invariant.2 c.wide-l.ensures c.loop-g.invariant.5
+pub loop-row-init : goal.loop-row-init
+loop-row-init c =
+    let n = c.new.ensures in
+    fill_start c.args.checks c.args.base _ _ c.args.lists.now
+    (edges_start c.args.checks c.args.q (rev_source c.into_iter-row-iterator.result) c.new.result c.args.lens.now c.args.addrs.now
+    (ap rev_source c.into_iter-row-iterator.ensures.into_iter_gives ∙ c.rev-row-items.ensures.source) n.first n.lens n.addrs)
+    c.requires.5
 
 pub put_row-requires : goal.put_row-requires
 put_row-requires c = (
-  c.loop-g.invariant.4,
+  omega arith,
   c.requires.1,
   c.requires.2,
-  omega (arith, c.requires.3, c.requires.4),
-  part_room c.args.checks c.args.q c.args.lens.now c.args.addrs.now c.loop-g.g c.loop-g.m c.loop-g.end c.wide-l.result (parts c.args.base c.loop-g.lists)
-      (parts c.args.base c.args.lists.now) (search rules) c.loop-g.invariant.0 c.loop-g.invariant.1 c.loop-g.invariant.2 c.wide-l.ensures c.loop-g.invariant.5
-      c.requires.1 c.requires.6,
+  fill_room c.args.checks c.args.base _ _ c.args.lists.now c.loop-row.lists c.loop-row.invariant _ _
+      (edges_last c.args.checks c.args.q (rev_source c.loop-row.row-iterator) (rev_source c.next.new.self) c.in-Some.row c.in-Some.ensures.steps),
 )
 
-pub loop-g-preserved : goal.loop-g-preserved
-loop-g-preserved c = (
-  omega arith,
-  omega arith,
-  from_before c.args.checks c.args.q c.args.lens.now c.args.addrs.now c.loop-g.g c.loop-g.m c.loop-g.end c.wide-l.result (parts c.args.base c.loop-g.lists)
-      (parts c.args.base c.args.lists.now) (search rules) c.loop-g.invariant.0 c.loop-g.invariant.1 c.loop-g.invariant.2 c.wide-l.ensures c.loop-g.invariant.5,
-  omega arith,
-  omega arith,
-  part_again c.args.checks c.args.q c.args.lens.now c.args.addrs.now c.loop-g.g c.loop-g.m c.loop-g.end c.wide-l.result (parts c.args.base c.loop-g.lists)
-      (parts c.args.base c.args.lists.now) (search rules) c.loop-g.invariant.0 c.loop-g.invariant.1 c.loop-g.invariant.2 c.wide-l.ensures c.loop-g.invariant.5 _
-      c.put_row.ensures,
-)
+pub loop-row-preserved : goal.loop-row-preserved
+loop-row-preserved c =
+    fill_next c.args.checks c.args.base _ _ c.args.lists.now c.loop-row.lists c.loop-row.invariant _ _
+    (edges_last c.args.checks c.args.q (rev_source c.loop-row.row-iterator) (rev_source c.next.new.self) c.in-Some.row c.in-Some.ensures.steps)
+    (c.in-Some.row.first + 374) c.put_row.new.lists
+    (bits_inside c.args.checks c.args.q (c.in-Some.row.first + 374) 374 c.in-Some.row.first 0 c.in-Some.row.addrs.now c.requires.1 (omega arith)) c.put_row.ensures
 
 pub returns : goal.returns
-returns c = rows_end _ _ _ _ c.loop-g.g c.loop-g.end _ _ (search rules) c.loop-g.invariant.2 c.loop-g.invariant.5
+returns c =
+    fill_end c.args.checks c.args.base _ _ c.args.lists.now c.loop-row.lists
+    (edges_none c.args.checks c.args.q (rev_source c.loop-row.row-iterator) c.in-None.ensures.steps.0) c.loop-row.invariant

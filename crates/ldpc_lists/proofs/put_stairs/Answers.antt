@@ -1,25 +1,23 @@
-use Rattle.ldpc_lists.proofs.Stairs.{stairs_start, stairs_room, stairs_again}
-use Rattle.ldpc_lists.specs.Build.{parts}
-use borrow.Author.Rules.{rules}
-use native.Mathlib.Omega.{arith}
+use Rattle.std.proofs.Common.{◌+◌, ◌-◌, refl, arith}
+use Rattle.ldpc_lists.proofs.Loops.{fill_start, fill_end, fill_room, fill_next}
+use Rattle.ldpc_lists.proofs.Stairs.{stairs_step, stairs_end, stair_inside, narrow}
 use Rattle.ldpc_lists.proofs.put_stairs.Goals as goal
 
 pub loop-c-init : goal.loop-c-init
-loop-c-init c = (omega arith, c.requires.1, c.requires.0, stairs_start _ _ _)
+loop-c-init c = fill_start c.args.checks c.args.base _ _ c.args.lists.now refl c.requires.2
 
 pub put_stair-requires : goal.put_stair-requires
 put_stair-requires c = (
-  c.loop-c.invariant.2,
   omega arith,
-  stairs_room c.args.k c.args.checks c.loop-c.c (parts c.args.base c.loop-c.lists) (parts c.args.base c.args.lists.now) (search rules) c.loop-c.invariant.0
-      c.requires.2 c.loop-c.invariant.3,
+  omega arith,
+  narrow c.args.checks (c.loop-c.c - 1) _ _ (omega arith)
+      (fill_room c.args.checks c.args.base _ _ c.args.lists.now c.loop-c.lists c.loop-c.invariant _ _ (stairs_step c.args.k c.loop-c.c (omega arith))),
 )
 
 pub loop-c-preserved : goal.loop-c-preserved
-loop-c-preserved c = (
-  omega arith,
-  omega arith,
-  omega arith,
-  stairs_again c.args.k c.args.checks c.loop-c.c (parts c.args.base c.loop-c.lists) _ (parts c.args.base c.args.lists.now) (search rules) c.loop-c.invariant.0
-      c.loop-c.invariant.3 c.put_stair.ensures,
-)
+loop-c-preserved c =
+    fill_next c.args.checks c.args.base _ _ c.args.lists.now c.loop-c.lists c.loop-c.invariant _ _ (stairs_step c.args.k c.loop-c.c (omega arith))
+    (c.args.k + c.args.checks) c.put_stair.new.lists (stair_inside c.args.checks c.args.k (c.loop-c.c - 1) (omega arith)) c.put_stair.ensures
+
+pub returns : goal.returns
+returns c = fill_end c.args.checks c.args.base _ _ c.args.lists.now c.loop-c.lists (stairs_end c.args.k c.loop-c.c (omega arith)) c.loop-c.invariant
