@@ -4,14 +4,10 @@
 -- the edges of a row in a check's list; what a layer's runs count on (`shares`).
 --
 -- Not here: how the table is made (Marks); how often a bit stands in a layer's lists (Count).
-use Rattle.std.specs.Prelude.{◌≡◌, Bool, true, false, ℕ, zero, suc, ◌+◌, ◌*◌, ◌-◌, ◌/◌, ◌%◌, ◌≤◌, ◌<◌, take, drop}
+use Rattle.std.proofs.Common.{◌≡◌, Bool, true, false, ℕ, zero, suc, ◌+◌, ◌*◌, ◌-◌, ◌/◌, ◌%◌, ◌≤◌, ◌<◌, take, drop, ◌∙◌, true≢false, mul-div_cancel, mod-eq_of_lt, mul-le-mul_right, add-one, get_or-take, get_or-drop, List, [], ◌∷◌, ◌++◌, arith, ltb-false, eq-eqb, eqb-true}
 use Rattle.std.proofs.Math.Path.{refl, sym, ap, subst}
-use Rattle.std.proofs.Common.{◌∙◌, true≢false, mul-div_cancel, mod-eq_of_lt, mul-le-mul_right, add-one, get_or-take, get_or-drop}
-use mathlib.Core.List.{List, [], ◌∷◌, ◌++◌}
-use native.Mathlib.Omega.{arith}
 use Rattle.std.proofs.Math.Nat.{add-mul-mod_self_right}
 use Rattle.std.proofs.Math.Decide.{ℕ_discrete, dec_lt}
-use borrow.Author.Tests.{ltb-false, eq-eqb, eqb-true}
 use Rattle.std.proofs.Math.ListN.{length, get_or, length-append, get_or-append}
 use Rattle.std.proofs.Math.Seq.{get_or-append-add}
 use Rattle.iteration.specs.Iteration.{degree}

@@ -2,13 +2,9 @@
 --
 -- In order: how often a number stands in a list (`occurs`); sums over the first checks; the checks of a layer (`layer_occurs`); of one bit, of a row's
 -- bits, of all rows (`rows_own`).
-use Rattle.std.specs.Prelude.{◌≡◌, Bool, eqb, length, take, drop, get_or}
+use Rattle.std.proofs.Common.{◌≡◌, Bool, eqb, length, take, drop, get_or, sym, ◌∙◌, mod-eq_of_lt, mul-le-mul_right, div-add-mod', eqb-true, eq-eqb, ne_eqb, List, [], ◌∷◌, ◌++◌, ℕ, zero, suc, ◌+◌, ◌*◌, ◌-◌, ◌/◌, ◌%◌, ◌≤◌, ◌<◌, arith}
 use Rattle.std.proofs.Math.Path.{refl, ap, ap₂, subst}
-use Rattle.std.proofs.Common.{sym, ◌∙◌, mod-eq_of_lt, mul-le-mul_right, div-add-mod', eqb-true, eq-eqb, ne_eqb}
 use Rattle.std.proofs.Math.Bool.{true, false, cond}
-use mathlib.Core.List.{List, [], ◌∷◌, ◌++◌}
-use Prim.Native.Nat.{ℕ, zero, suc, ◌+◌, ◌*◌, ◌-◌, ◌/◌, ◌%◌, ◌≤◌, ◌<◌}
-use native.Mathlib.Omega.{arith}
 use Rattle.std.proofs.Math.Nat.{add-mul-mod_self_right}
 use Rattle.std.proofs.Math.Decide.{ℕ_discrete, dec_lt}
 use Rattle.std.proofs.lemmas.Bool.{eqb-false}

@@ -1,9 +1,6 @@
 -- A check's list and its parity bits: each is in two checks, once.
-use Rattle.std.specs.Prelude.{◌≡◌, refl, Bool, true, false, cond, eqb, take, drop, get_or}
+use Rattle.std.proofs.Common.{◌≡◌, refl, Bool, true, false, cond, eqb, take, drop, get_or, ap, ◌∙◌, arith, eqb-true, get_or-append-add, drop-drop, List, [], ◌∷◌, ◌++◌, ℕ, zero, suc, ◌+◌, ◌-◌, ◌≤◌, ◌<◌}
 use Rattle.std.proofs.Math.Path.{sym}
-use Rattle.std.proofs.Common.{ap, ◌∙◌, arith, eqb-true, get_or-append-add, drop-drop}
-use mathlib.Core.List.{List, [], ◌∷◌, ◌++◌}
-use Prim.Native.Nat.{ℕ, zero, suc, ◌+◌, ◌-◌, ◌≤◌, ◌<◌}
 use Rattle.std.proofs.Math.Decide.{dec_lt}
 use Rattle.std.proofs.Math.ListN.{length, length-append, get_or-append}
 use Rattle.ldpc_shape.specs.Shape.{k_of, p_of, total}

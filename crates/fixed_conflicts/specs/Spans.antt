@@ -1,10 +1,6 @@
 -- A row's edges stand together in a check's list, at the same place in every check of a layer: as many as the row has addresses equal to l modulo q.
-use Rattle.std.specs.Prelude.{◌≡◌, refl, take, drop}
-use Rattle.std.proofs.Common.{sym, ◌∙◌, length-drop}
+use Rattle.std.proofs.Common.{◌≡◌, refl, take, drop, sym, ◌∙◌, length-drop, List, [], ◌∷◌, ◌++◌, ℕ, zero, suc, ◌+◌, ◌*◌, ◌-◌, ◌%◌, ◌≤◌, ◌<◌, arith}
 use Rattle.std.proofs.Math.Path.{ap, subst}
-use mathlib.Core.List.{List, [], ◌∷◌, ◌++◌}
-use Prim.Native.Nat.{ℕ, zero, suc, ◌+◌, ◌*◌, ◌-◌, ◌%◌, ◌≤◌, ◌<◌}
-use native.Mathlib.Omega.{arith}
 use Rattle.std.proofs.Math.Decide.{dec_lt}
 use Rattle.std.proofs.Math.ListN.{length, get_or, length-append, get_or-append}
 use Rattle.std.proofs.Math.Seq.{get_or-append-add}

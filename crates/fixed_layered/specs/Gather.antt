@@ -1,11 +1,7 @@
 -- What a variable gathers from the edges of a run, read off a column's rows of t, of messages and of old messages.
-use Rattle.std.specs.Prelude.{◌≡◌, Bool, ℤ, ◌+ℤ◌, ◌-ℤ◌}
+use Rattle.std.proofs.Common.{◌≡◌, Bool, ℤ, ◌+ℤ◌, ◌-ℤ◌, sym, ◌∙◌, ℕ, zero, suc, ◌+◌, ◌*◌, ◌-◌, ◌≤◌, ◌<◌, arith, eqb-true, ne_eqb}
 use Rattle.std.proofs.Math.Path.{refl, ap}
-use Rattle.std.proofs.Common.{sym, ◌∙◌}
 use Rattle.std.proofs.Math.Bool.{true, false, cond}
-use Prim.Native.Nat.{ℕ, zero, suc, ◌+◌, ◌*◌, ◌-◌, ◌≤◌, ◌<◌}
-use native.Mathlib.Omega.{arith}
-use borrow.Author.Tests.{eqb-true, ne_eqb}
 use Rattle.std.proofs.Math.Dec.{eqb}
 use Rattle.iteration.specs.Value.{sat_z}
 use Rattle.iteration.specs.Iteration.{Code, degree, Run, Sum, nothing, gather, gather_edge, gather_check, gather_run}

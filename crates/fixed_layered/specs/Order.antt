@@ -1,9 +1,6 @@
 -- Where the t and the old messages of a run's checks stand one after the other: within E, and each stays.
-use Rattle.std.specs.Prelude.{◌≡◌, ℤ}
-use Rattle.std.proofs.Common.{sym, ◌∙◌}
+use Rattle.std.proofs.Common.{◌≡◌, ℤ, sym, ◌∙◌, ℕ, zero, suc, ◌+◌, ◌-◌, ◌≤◌, ◌<◌, arith}
 use Rattle.std.proofs.Math.Path.{ap, subst}
-use Prim.Native.Nat.{ℕ, zero, suc, ◌+◌, ◌-◌, ◌≤◌, ◌<◌}
-use native.Mathlib.Omega.{arith}
 use Rattle.std.proofs.Math.Decide.{ℕ_discrete}
 use Rattle.iteration.specs.Check.{wrote}
 use Rattle.iteration.specs.Iteration.{Code, degree}

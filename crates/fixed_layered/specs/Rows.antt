@@ -4,12 +4,9 @@
 -- of a row at the end of the run (`RowWritten`), and of the flagged ones of the first rows (`Written`).
 --
 -- Not here: what one variable gathers (Gather); that its sums fit (Bounds, Sums).
-use Rattle.std.specs.Prelude.{◌≡◌, refl, true, false, eqb, get_or, set, length, ℤ, nat_abs}
-use Rattle.std.proofs.Common.{sym, ap, ◌∙◌, true≢false, arith, add-one, eqb-true, eq-eqb, ne_eqb, get_or-set_same, get_or-set_other}
+use Rattle.std.proofs.Common.{◌≡◌, refl, true, false, eqb, get_or, set, length, ℤ, nat_abs, sym, ap, ◌∙◌, true≢false, arith, add-one, eqb-true, eq-eqb, ne_eqb, get_or-set_same, get_or-set_other, List, ℕ, zero, suc, ◌+◌, ◌*◌, ◌-◌, ◌/◌, ◌≤◌, ◌<◌}
 use Rattle.std.proofs.Math.Path.{subst}
 use Rattle.std.proofs.Math.Bool.{Bool, cond}
-use mathlib.Core.List.{List}
-use Prim.Native.Nat.{ℕ, zero, suc, ◌+◌, ◌*◌, ◌-◌, ◌/◌, ◌≤◌, ◌<◌}
 use Rattle.std.proofs.Math.Decide.{ℕ_discrete, dec_lt}
 use Rattle.laws.specs.Choice.{eqb_sym}
 use Rattle.laws.specs.Definitions.{put}

@@ -1,8 +1,5 @@
 -- `fixed_lanes::place` meets its contract. Assumes nothing.
-use mathlib.Core.Path.{sym, subst}
-use Prim.Native.Nat.{◌+◌, ◌*◌}
-use lib.ListN.{set}
-use lib.IntN.{ℤ}
+use Rattle.std.proofs.Common.{sym, subst, ◌+◌, ◌*◌, set, ℤ}
 use Rattle.laws.specs.Signed.{plain}
 use Rattle.fixed_lanes.specs.Place.{Placed, placed}
 use Rattle.fixed_lanes.proofs.place.Goals as goal

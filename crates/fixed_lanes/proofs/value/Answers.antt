@@ -1,8 +1,5 @@
 -- `fixed_lanes::value` meets its contract. Assumes nothing.
-use Prim.Native.Nat.{◌+◌, ◌*◌}
-use lib.ListN.{get_or}
-use lib.IntN.{pos}
-use borrow.Author.Rules.{rules}
+use Rattle.std.proofs.Common.{◌+◌, ◌*◌, get_or, pos, rules}
 use Rattle.laws.specs.Signed.{plain}
 use Rattle.lane16.specs.Column.{column}
 use Rattle.fixed_lanes.proofs.value.Goals as goal

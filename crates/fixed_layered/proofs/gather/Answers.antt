@@ -1,15 +1,7 @@
-use borrow.Author.Rules.{rules}
-use native.Mathlib.Omega.{arith}
-use mathlib.Core.Path.{◌≡◌, ◌∙◌, subst}
-use mathlib.Core.Bool.{cond}
-use Prim.Native.Nat.{◌+◌, ◌≤◌, ◌<◌}
-use lib.ListN.{length}
-use lib.IntN.{ℤ, nat_abs, ◌+ℤ◌, ◌-ℤ◌}
+use Rattle.std.proofs.lemmas.Int.{to_z-of_z}
+use Rattle.std.proofs.Common.{rules, arith, ◌≡◌, ◌∙◌, subst, cond, ◌+◌, ◌≤◌, ◌<◌, length, ℤ, nat_abs, ◌+ℤ◌, ◌-ℤ◌, w32, to_z, of_z}
 use borrow.Author.Rules.{sfits_of}
 use lib.Signed.{mag}
-use mir.Syntax.{w32}
-use mir.Val.{to_z, of_z}
-use mir.ValLaws.{to_z-of_z}
 use Rattle.laws.specs.Signed.{plain}
 use Rattle.lane16.specs.Lanes.{int_at}
 use Rattle.fixed_layered.specs.Bounds.{abs_byte}

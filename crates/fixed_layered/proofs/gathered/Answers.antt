@@ -1,8 +1,6 @@
 -- `fixed_layered::gathered` meets its contract. Assumes nothing.
-use mathlib.Core.Path.{refl}
-use lib.IntN.{◌+ℤ◌, ◌-ℤ◌}
-use mir.Syntax.{w32}
-use mir.ValLaws.{to_z-of_z}
+use Rattle.std.proofs.lemmas.Int.{to_z-of_z}
+use Rattle.std.proofs.Common.{refl, ◌+ℤ◌, ◌-ℤ◌, w32}
 use Rattle.fixed_layered.specs.Bounds.{wide32, diff_fits32, more_fits32}
 use Rattle.fixed_layered.proofs.gathered.Goals as goal
 

@@ -1,7 +1,4 @@
-use native.Mathlib.Omega.{arith}
-use mathlib.Core.Path.{subst}
-use mathlib.Core.List.{List}
-use Prim.Native.Nat.{ℕ, ◌+◌, ◌-◌}
+use Rattle.std.proofs.Common.{arith, subst, List, ℕ, ◌+◌, ◌-◌}
 use Rattle.iteration.specs.Lists.{var, edges_in, code_in}
 use Rattle.iteration.specs.Once.{stepped}
 use Rattle.fixed_layered.specs.RunMemory.{in_run_to}

@@ -1,10 +1,4 @@
-use borrow.Author.Rules.{rules}
-use native.Mathlib.Omega.{arith}
-use mathlib.Core.Path.{◌≡◌, refl, sym, ap, subst}
-use mathlib.Core.List.{List}
-use lib.IntN.{ℤ}
-use Prim.Native.Nat.{ℕ, ◌+◌, ◌≤◌, ◌<◌}
-use lib.ListN.{length, get_or}
+use Rattle.std.proofs.Common.{rules, arith, ◌≡◌, refl, sym, ap, subst, List, ℤ, ℕ, ◌+◌, ◌≤◌, ◌<◌, length, get_or}
 use Rattle.laws.specs.Signed.{plain}
 use Rattle.lane16.specs.Memory.{CheckMemory, check_memory, memory_to}
 use Rattle.iteration.specs.Once.{shared_in, stepped}

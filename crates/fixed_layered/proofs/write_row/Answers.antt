@@ -1,9 +1,5 @@
 -- `fixed_layered::write_row` meets its contract. Assumes nothing.
-use native.Mathlib.Omega.{arith}
-use mathlib.Core.Path.{◌≡◌, sym, ◌∙◌}
-use mathlib.Core.Bool.{true, false, true≢false}
-use Prim.Native.Nat.{◌*◌}
-use lib.ListN.{get_or}
+use Rattle.std.proofs.Common.{arith, ◌≡◌, sym, ◌∙◌, true, false, true≢false, ◌*◌, get_or}
 use Rattle.iteration.specs.Lists.{code_in}
 use Rattle.iteration.specs.Once.{stepped}
 use Rattle.fixed_conflicts.specs.Table.{zeros}

@@ -1,7 +1,6 @@
-use Rattle.std.proofs.lemmas.Grind.{div_ceil_times}
 use Rattle.std.proofs.Common.{arith, refl}
 use Rattle.std.proofs.lemmas.List.{get_or-replicate}
-use Rattle.fixed_syndrome.specs.Count.{to_start, to_again, counted_lanes}
+use Rattle.fixed_syndrome.specs.Count.{to_start, to_again}
 use Rattle.fixed_syndrome.proofs.count_lanes.Goals as goal
 
 pub loop-j-init : goal.loop-j-init

@@ -1,6 +1,5 @@
 -- `fixed_syndrome::judge` meets its contract. Assumes nothing.
-use Rattle.std.proofs.Common.{false, get_or}
-use Rattle.std.specs.Prelude.{eqb}
+use Rattle.std.proofs.Common.{false, get_or, eqb}
 use Rattle.fixed_syndrome.specs.Chunk.{ChunkWritten}
 use Rattle.fixed_syndrome.proofs.judge.Given as goal
 

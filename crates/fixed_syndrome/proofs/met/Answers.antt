@@ -1,8 +1,7 @@
-use Rattle.std.proofs.lemmas.Grind.{div_ceil_times}
 use Rattle.std.proofs.Common.{arith, false, refl}
 use Rattle.std.proofs.lemmas.List.{get_or-replicate}
 use Rattle.fixed_syndrome.specs.Chunk.{filled_start, filled_again}
-use Rattle.fixed_syndrome.specs.Met.{VerdictIn, verdicts_in, met_end}
+use Rattle.fixed_syndrome.specs.Met.{VerdictIn, verdicts_in}
 use Rattle.fixed_syndrome.proofs.met.Goals as goal
 
 pub loop-j-init : goal.loop-j-init
