@@ -3,380 +3,235 @@
 // parity and of the encoded word, and the syndrome weights of the encoded word, of it with three bits flipped, and of random bytes.
 #![tactic(auto)]
 
+ghost use Rattle.std.specs.Prelude.{◌<◌, ◌≤◌, ◌^◌};
+
 use ldpc::Code;
 use refusal::Refusal;
+use std::alloc::{AllocError, Global};
+use std::io;
 
 // The generator, and a draw below m.
 fn next(x: u64) -> u64 {
     ((x % 2147483648) * 1103515245 + 12345) % 2147483648
 }
 
-fn draw(x: u64, m: u64) -> u64 {
+fn draw(x: u64, m: u64) -> u64
+    ensures { 0 < m → result < m }
+{
     if m == 0 {
         return 0;
     }
     x / 65536 % m
 }
 
-// The checksum with one number more.
+// The checksum with one number more, and with several.
 fn mix(h: u64, v: u32) -> u64 {
-    ((h % 4294967296) * 31 + (v as u64) + 1) % 4294967291
+    ((h % 4294967296) * 31 + u64::from(v) + 1) % 4294967291
 }
 
-fn mix_words(h: u64, s: &[u32]) -> u64 {
-    let mut r = h;
-    let mut i: usize = 0;
-    while i < s.len() {
-        r = mix(r, s[i]);
-        i += 1;
-    }
-    r
+fn mix_all<T: Copy + Into<u32>>(h: u64, s: &[T]) -> u64 {
+    s.iter().fold(h, |h, &v| mix(h, v.into()))
 }
 
-fn byte(x: u8) -> u32 {
-    x as u32
+// A code's table.
+#[derive(Drop)]
+struct Table {
+    n: u32,
+    lens: Vec<u32>,
+    addrs: Vec<u16>,
 }
 
-fn mix_bytes(h: u64, s: &[u8]) -> u64 {
-    let mut r = h;
-    let mut i: usize = 0;
-    while i < s.len() {
-        r = mix(r, byte(s[i]));
-        i += 1;
-    }
-    r
-}
-
-fn show(x: u64) {
-    io::print_decimal(1, x);
-    io::write_all(1, b" ");
-}
-
-// Row lengths below `most`.
-fn make_rows(lens: &mut [u32], seed: u64, most: u64) -> u64 {
+// The lengths of some rows, below `most`; and where the generator is then.
+fn make_rows(alloc: Global, rows: u64, most: u64, seed: u64) -> Result<(Vec<u32>, u64), AllocError>
+    requires { most ≤ 128 }
+{
     let mut x = seed;
-    let mut i: usize = 0;
-    while i < lens.len() {
+    let mut lens = Vec::new(alloc);
+    for _ in 0..rows {
         x = next(x);
-        lens[i] = (draw(x, most) % 128) as u32;
-        i += 1;
+        lens.push(if most == 0 { 0 } else { draw(x, most) as u32 })?;
     }
-    x
+    Ok((lens, x))
 }
 
-fn sum_rows(lens: &[u32]) -> usize {
-    let mut s: usize = 0;
-    let mut i: usize = 0;
-    while i < lens.len() {
-        s = (s + lens[i] as usize) % 65536;
-        i += 1;
-    }
-    s
+fn total(lens: &[u32]) -> usize {
+    lens.iter()
+        .fold(0, |sum, &l| sum.saturating_add(l as usize))
 }
 
 // One address in four repeats the one before, one is P further and one is q further.
-fn address(x: u64, before: u32, p: u32, q: u32) -> u32 {
-    let kind = draw(x, 4);
-    if kind == 1 {
-        return before % 65536;
+fn address(x: u64, before: u16, p: u16, q: u16) -> u16 {
+    match draw(x, 4) {
+        1 => before,
+        2 => before.wrapping_add(p),
+        3 => before.wrapping_add(q),
+        _ => {
+            let low = draw(next(x), 256);
+            let high = draw(next(next(x)), 256);
+            (high * 256 + low) as u16
+        }
     }
-    if kind == 2 {
-        return (before % 65536 + p % 65536) % 65536;
-    }
-    if kind == 3 {
-        return (before % 65536 + q % 65536) % 65536;
-    }
-    let low = draw(next(x), 256) % 256;
-    let high = draw(next(next(x)), 256) % 256;
-    (high * 256 + low) as u32
 }
 
-fn make_addresses(addrs: &mut [u16], seed: u64, p: u32, q: u32) -> u64 {
+fn make_addresses(
+    alloc: Global,
+    total: usize,
+    seed: u64,
+    p: u16,
+    q: u16,
+) -> Result<(Vec<u16>, u64), AllocError> {
     let mut x = seed;
-    let mut a: u32 = 0;
-    let mut i: usize = 0;
-    while i < addrs.len() {
+    let mut a = 0;
+    let mut addrs = Vec::new(alloc);
+    for _ in 0..total {
         x = next(next(next(x)));
         a = address(x, a, p, q);
-        addrs[i] = (a % 65536) as u16;
-        i += 1;
+        addrs.push(a)?;
     }
-    x
+    Ok((addrs, x))
 }
 
 // Bytes with high bits set.
 fn make_bytes(s: &mut [u8], seed: u64) -> u64 {
     let mut x = seed;
-    let mut i: usize = 0;
-    while i < s.len() {
+    for b in s.iter_mut() {
         x = next(x);
-        s[i] = (draw(x, 256) % 256) as u8;
-        i += 1;
+        *b = draw(x, 256) as u8;
     }
     x
 }
 
 fn flip(s: &mut [u8], x: u64) {
-    let at = draw(x, s.len() as u64) as usize;
-    if at < s.len() {
-        s[at] = s[at] ^ 1;
+    if let Some(b) = s.get_mut(draw(x, s.len() as u64) as usize) {
+        *b ^= 1;
     }
 }
 
-fn show_refusal(refusal: Refusal) {
-    io::write_all(1, b"refused ");
-    show(refusal.number() as u64);
-}
-
-fn show_count(a: Result<u32, Refusal>) {
+fn show_count(rt: &impl Print, a: Result<u32, Refusal>) -> io::Result<()> {
     match a {
-        Ok(m) => show(m as u64),
-        Err(refusal) => show_refusal(refusal),
+        Ok(m) => print!(rt; "{m} "),
+        Err(refusal) => print!(rt; "refused {} ", refusal.number()),
     }
 }
 
-fn show_done(a: Result<(), Refusal>) {
-    if let Err(refusal) = a {
-        show_refusal(refusal);
+fn show_done(rt: &impl Print, a: Result<(), Refusal>) -> io::Result<()> {
+    match a {
+        Ok(()) => Ok(()),
+        Err(refusal) => print!(rt; "refused {} ", refusal.number()),
     }
 }
 
 // The checksum with check c's list.
-fn one_check(h: u64, n: u32, lens: &[u32], addrs: &[u16], c: u32, out: &mut [u32]) -> u64 {
-    match ldpc::check(n, lens, addrs, c, out) {
-        Ok(m) => {
-            let d = m as usize;
-            if d <= out.len() {
-                return mix_words(mix(h, m), &out[..d]);
-            }
-            h
-        }
+fn one_check(h: u64, of: &Table, c: u32, out: &mut [u32]) -> u64 {
+    match ldpc::check(of.n, &of.lens, &of.addrs, c, out) {
+        Ok(m) => match out.get(..m as usize) {
+            Some(list) => mix_all(mix(h, m), list),
+            None => h,
+        },
         Err(refusal) => mix(h, refusal.number()),
     }
 }
 
-fn all_checks(n: u32, lens: &[u32], addrs: &[u16], p: u32, out: &mut [u32]) -> u64 {
-    let mut h: u64 = 0;
-    let mut c: u32 = 0;
-    while c < p {
-        h = one_check(h, n, lens, addrs, c, out);
-        c += 1;
+fn all_checks(of: &Table, p: u32, out: &mut [u32]) -> u64 {
+    let mut h = 0;
+    for c in 0..p {
+        h = one_check(h, of, c, out);
     }
     h
 }
 
-fn show_parity(n: u32, lens: &[u32], addrs: &[u16], info: &[u8], out: &mut [u8], checks: usize) {
-    show_done(ldpc::parity(n, lens, addrs, info, out));
-    if checks <= out.len() {
-        show(mix_bytes(0, &out[..checks]));
+// The code's numbers, lists and checks; P.
+fn show_code(rt: &impl Print, of: &Table, lists: &mut [u32]) -> io::Result<u32> {
+    match ldpc::new(of.n, &of.lens, &of.addrs, lists) {
+        Err(refusal) => {
+            print!(rt; "refused {} ", refusal.number())?;
+            Ok(0)
+        }
+        Ok(Code { k, p, q, e }) => {
+            let made = mix_all(0, lists);
+            let checks = all_checks(of, p, lists);
+            print!(rt; "{k} {p} {q} {e} {made} {checks} ")?;
+            Ok(p)
+        }
     }
 }
 
-fn show_encoded(n: u32, lens: &[u32], addrs: &[u16], info: &[u8], out: &mut [u8]) {
-    show_done(ldpc::encode(n, lens, addrs, info, out));
-    show(mix_bytes(0, out));
-    show_count(ldpc::syndrome_weight(n, lens, addrs, out));
-}
-
-fn show_flipped(n: u32, lens: &[u32], addrs: &[u16], out: &mut [u8], seed: u64) {
+// Parity, encoded word and weights: of the encoded word, of it with three bits flipped, and of random bytes.
+fn show_words(
+    rt: &impl Print,
+    of: &Table,
+    info: &[u8],
+    out: &mut [u8],
+    p: u32,
+    seed: u64,
+) -> io::Result<()> {
+    show_done(rt, ldpc::parity(of.n, &of.lens, &of.addrs, info, out))?;
+    if let Some(parity) = out.get(..p as usize) {
+        let parity = mix_all(0, parity);
+        print!(rt; "{parity} ")?;
+    }
+    show_done(rt, ldpc::encode(of.n, &of.lens, &of.addrs, info, out))?;
+    let encoded = mix_all(0, out);
+    print!(rt; "{encoded} ")?;
+    show_count(rt, ldpc::syndrome_weight(of.n, &of.lens, &of.addrs, out))?;
     flip(out, seed);
     flip(out, next(seed));
     flip(out, next(next(seed)));
-    show_count(ldpc::syndrome_weight(n, lens, addrs, out));
-}
-
-fn show_random(n: u32, lens: &[u32], addrs: &[u16], out: &mut [u8], seed: u64) {
+    show_count(rt, ldpc::syndrome_weight(of.n, &of.lens, &of.addrs, out))?;
     make_bytes(out, seed);
-    show_count(ldpc::syndrome_weight(n, lens, addrs, out));
-}
-
-// Parity, encoded word and weights.
-fn words(
-    n: u32,
-    lens: &[u32],
-    addrs: &[u16],
-    info: &mut [u8],
-    out: &mut [u8],
-    checks: usize,
-    seed: u64,
-) {
-    let x = make_bytes(info, seed);
-    show_parity(n, lens, addrs, info, out, checks);
-    show_encoded(n, lens, addrs, info, out);
-    show_flipped(n, lens, addrs, out, x);
-    show_random(n, lens, addrs, out, x);
-}
-
-fn show_numbers(k: u32, p: u32, q: u32, e: u32) {
-    show(k as u64);
-    show(p as u64);
-    show(q as u64);
-    show(e as u64);
-}
-
-// The code's numbers, lists and checks; P.
-fn show_code(n: u32, lens: &[u32], addrs: &[u16], lists: &mut [u32]) -> usize {
-    match ldpc::new(n, lens, addrs, lists) {
-        Err(refusal) => {
-            show_refusal(refusal);
-            0
-        }
-        Ok(Code { k, p, q, e }) => {
-            show_numbers(k, p, q, e);
-            show(mix_words(0, lists));
-            show(all_checks(n, lens, addrs, p, lists));
-            p as usize
-        }
-    }
-}
-
-// One code, with its information and slices.
-fn code(
-    n: u32,
-    lens: &[u32],
-    addrs: &[u16],
-    info: &mut [u8],
-    out: &mut [u8],
-    lists: &mut [u32],
-    seed: u64,
-) {
-    let checks = show_code(n, lens, addrs, lists);
-    words(n, lens, addrs, info, out, checks, seed);
-    io::write_all(1, b"\n");
-}
-
-fn show_sizes(n: u32, rows: usize, total: usize) {
-    show(n as u64);
-    show(rows as u64);
-    show(total as u64);
-}
-
-// The slices cut to what the code needs: k, n, and E + P + 1.
-fn sized(
-    n: u32,
-    lens: &[u32],
-    addrs: &[u16],
-    k: usize,
-    size: usize,
-    info: &mut [u8],
-    out: &mut [u8],
-    lists: &mut [u32],
-    seed: u64,
-) {
-    if info.len() < k {
-        return;
-    }
-    if out.len() < size {
-        return;
-    }
-    if size % 65536 < k % 65536 {
-        return;
-    }
-    let edges = addrs.len() % 65536 * 374 + (size % 65536 - k % 65536) * 3;
-    if lists.len() < edges {
-        return;
-    }
-    code(
-        n,
-        lens,
-        addrs,
-        &mut info[..k],
-        &mut out[..size],
-        &mut lists[..edges],
-        seed,
-    );
+    show_count(rt, ldpc::syndrome_weight(of.n, &of.lens, &of.addrs, out))
 }
 
 // The code of a seed: `units` times 374 bits, `rows` rows of fewer than `most` addresses.
 fn replay(
+    rt: &(impl Print + AllocGlobal),
     seed: u64,
     units: u32,
-    rows: usize,
+    rows: u32,
     most: u64,
-    lens: &mut [u32],
-    addrs: &mut [u16],
-    info: &mut [u8],
-    out: &mut [u8],
-    lists: &mut [u32],
-) {
-    let n = units % 121 * 374;
-    let k = rows % 121 * 374;
-    let size = n as usize;
-    if size <= k {
-        return;
-    }
-    let p = n - (k as u32);
-    if rows <= lens.len() {
-        let x = make_rows(&mut lens[..rows], seed, most);
-        let total = sum_rows(&lens[..rows]);
-        if total <= addrs.len() {
-            let y = make_addresses(&mut addrs[..total], x, p, p / 374);
-            show(seed);
-            show_sizes(n, rows, total);
-            sized(
-                n,
-                &lens[..rows],
-                &addrs[..total],
-                k,
-                size,
-                info,
-                out,
-                lists,
-                y,
-            );
-        }
-    }
+) -> io::Result<()>
+    requires { (rows < units) × (units ≤ 120) × (most ≤ 128) }
+{
+    let alloc = rt.alloc();
+    let n = units * 374;
+    let k = rows * 374;
+    let p = n - k;
+    let (lens, x) = make_rows(alloc, u64::from(rows), most, seed)?;
+    let total = total(&lens);
+    let (addrs, y) = make_addresses(alloc, total, x, p as u16, (p / 374) as u16)?;
+    print!(rt; "{seed} {n} {rows} {total} ")?;
+    let of = Table { n, lens, addrs };
+    let mut lists = vec![in alloc; 0; total.saturating_mul(374).saturating_add(3 * p as usize)]?;
+    let checks = show_code(rt, &of, &mut lists)?;
+    let mut info = vec![in alloc; 0; k as usize]?;
+    let mut out = vec![in alloc; 0; n as usize]?;
+    let z = make_bytes(&mut info, y);
+    show_words(rt, &of, &info, &mut out, checks, z)?;
+    println!(rt)
 }
 
 // The t-th code: the first six have no rows, the next 62 have some and n up to 2,244, the last two n 44,880.
-fn one(
-    t: u64,
-    lens: &mut [u32],
-    addrs: &mut [u16],
-    info: &mut [u8],
-    out: &mut [u8],
-    lists: &mut [u32],
-) {
-    let x = next(next(t % 100 * 7919 + 1));
+fn one(rt: &(impl Print + AllocGlobal), t: u32) -> io::Result<()>
+    requires { t < 70 }
+{
+    let seed = u64::from(t);
+    let x = next(next(seed * 7919 + 1));
     let y = next(x);
     if t < 6 {
-        replay(t, t as u32 + 1, 0, t, lens, addrs, info, out, lists);
-        return;
+        return replay(rt, seed, t + 1, 0, seed);
     }
     if t < 68 {
-        let units = 2 + draw(x, 5) % 5;
-        let rows = 1 + draw(y, units - 1) % 5;
-        let most = 2 + draw(next(y), 12) % 12;
-        replay(
-            t,
-            units as u32,
-            rows as usize,
-            most,
-            lens,
-            addrs,
-            info,
-            out,
-            lists,
-        );
-        return;
+        let units = 2 + draw(x, 5);
+        let rows = 1 + draw(y, units - 1);
+        let most = 2 + draw(next(y), 12);
+        return replay(rt, seed, units as u32, rows as u32, most);
     }
-    let rows = 41 + (t - 68) % 100 * 48;
-    replay(t, 120, rows as usize, 12, lens, addrs, info, out, lists);
+    replay(rt, seed, 120, 41 + (t - 68) * 48, 12)
 }
 
-fn all(lens: &mut [u32], addrs: &mut [u16], info: &mut [u8], out: &mut [u8], lists: &mut [u32]) {
-    let mut t: u64 = 0;
-    while t < 70 {
-        one(t, lens, addrs, info, out, lists);
-        t += 1;
+fn main(rt: HostRuntime) -> io::Result<()> {
+    for t in 0..70 {
+        one(&rt, t)?;
     }
-}
-
-fn main() {
-    let mut lens = [0u32; 120];
-    let mut addrs = [0u16; 2048];
-    let mut info = [0u8; 44880];
-    let mut out = [0u8; 44880];
-    let mut lists = [0u32; 600000];
-    all(&mut lens, &mut addrs, &mut info, &mut out, &mut lists);
+    Ok(())
 }
