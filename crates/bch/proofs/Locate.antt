@@ -40,24 +40,24 @@ module _ (w s c : List ℕ) (l : ℕ) (syn : (j : ℕ) → j < 24 → poly s j �
           let t = R.short c' l' (gen_ext R16 (syndrome w) (poly s) 24 c' l' (λ j h. sym (syn j h)) S.gen) in
           omega arith
 
-  module _ (fit : l ≤ 12) (at : List ℕ) (count : ℕ) (P : PlacesOf at count c l (length w)) where
+  module _ (fit : l ≤ 12) (at : List ℕ) (P : PlacesOf at c l (length w)) where
     -- the register that was found is a shortest one, and answers so
-    found : (r : Decoded) → r ≡ ite (ℕ_discrete (flips (poly c) l (length w)) l) (Corrected l) Uncorrectable → Located w (flip_all w (λ i. get_or at i 0) count) r
+    found : (r : Decoded) → r ≡ ite (ℕ_discrete (flips (poly c) l (length w)) l) (Corrected l) Uncorrectable → Located w (flip_all w (λ i. get_or at i 0) (length at)) r
     unfolding answer_by left_by
     found r e =
         located_by w _ r (poly c) l (shortest_ext R16 (poly s) (syndrome w) 24 (poly c) l syn (record { gen = R.gen fit; short = R.short }))
         (e ∙ sym (if_pos (dec_le l 12) fit (ite (ℕ_discrete (flips (poly c) l (length w)) l) (Corrected l) Uncorrectable) Uncorrectable))
-        (flip_all_flipped (poly c) l w (λ i. get_or at i 0) count P.inside (λ i j a b e. let t = P.in_order i j a b in omega arith) P.root P.all
+        (flip_all_flipped (poly c) l w (λ i. get_or at i 0) (length at) P.inside (λ i j a b e. let t = P.in_order i j a b in omega arith) P.root P.all
         ∙ sym (if_pos (dec_le l 12) fit (flipped (poly c) l w) w))
 
-    counted : flips (poly c) l (length w) ≡ count
+    counted : flips (poly c) l (length w) ≡ length at
     unfolding flips
     counted = sym P.many
 
     -- as many flips as the register is long: corrected
-    pub all_found : count ≡ l → Located w (flip_all w (λ i. get_or at i 0) count) (Corrected count)
-    all_found e = found _ (ap Corrected e ∙ sym (if_pos (ℕ_discrete (flips (poly c) l (length w)) l) (counted ∙ e) (Corrected l) Uncorrectable))
+    pub all_found : length at ≡ l → Located w (flip_all w (λ i. get_or at i 0) (length at)) (Corrected l)
+    all_found e = found _ (sym (if_pos (ℕ_discrete (flips (poly c) l (length w)) l) (counted ∙ e) (Corrected l) Uncorrectable))
 
     -- fewer: uncorrectable, flips left in place
-    pub some_missing : count ≢ l → Located w (flip_all w (λ i. get_or at i 0) count) Uncorrectable
+    pub some_missing : length at ≢ l → Located w (flip_all w (λ i. get_or at i 0) (length at)) Uncorrectable
     some_missing ne = found _ (sym (if_neg (ℕ_discrete (flips (poly c) l (length w)) l) (λ e. ne (sym counted ∙ e)) (Corrected l) Uncorrectable))

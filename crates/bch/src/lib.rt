@@ -82,15 +82,14 @@ fn correct(word: &mut [u8], r: Reg) -> Decoded
     requires { (193 ≤ length word.old) × (length word.old ≤ 65535) × (value_of r ≡ remainder_of word.old) }
     ensures { Located word.old word.new result }
 {
-    let register = bch_locator::shortest(bch_locator::syndromes(r));
-    let len = register.len;
-    if 12 < len {
+    let Some(register) = bch_locator::shortest(bch_locator::syndromes(r)) else {
         return Decoded::Uncorrectable;
-    }
+    };
+    let len = register.len;
     let found = bch_locator::chien(register, word.len());
-    flip(word, &found.at[..found.count]);
-    if found.count == len {
-        Decoded::Corrected(found.count as u32)
+    flip(word, found.as_slice());
+    if found.len() == len {
+        Decoded::Corrected(len as u32)
     } else {
         Decoded::Uncorrectable
     }

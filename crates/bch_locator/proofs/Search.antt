@@ -1,6 +1,6 @@
 -- The search: lane i holds c (l - 1 - i) α^(p (i + 1)), so that c l and the lanes' sum are α^(p l) times the register at α^-p. Assumes nothing.
-use Rattle.std.proofs.Common.{◌≡◌, refl, sym, ap, ap₂, ◌∙◌, subst, ◌≢◌, List, ℕ, zero, suc, ◌+◌, ◌-◌, ◌*◌, ◌≤◌, ◌<◌, zero-mul, mul-zero, not-suc-le-zero, add-one, arith, bit_xor, get_or, length, set, length-set, replicate, get_or-set_other}
-use mathlib.Core.Path.{transport}
+use Rattle.std.proofs.Common.{◌≡◌, refl, sym, ap, ap₂, ◌∙◌, subst, ◌≢◌, List, ℕ, zero, suc, ◌+◌, ◌-◌, ◌*◌, ◌≤◌, ◌<◌, zero-mul, mul-zero, not-suc-le-zero, add-one, arith, bit_xor, get_or, length, set, replicate, get_or-set_other, [], ◌∷◌, ◌++◌}
+use Rattle.std.proofs.lemmas.List.{get_or_push, get_or_append_left, length_push}
 use native.Mathlib.Nat.{suc-sub-suc, sub-zero}
 use native.Mathlib.Decide.{ℕ_discrete, dec_lt}
 use Rattle.laws.specs.Definitions.{◌⊕◌}
@@ -21,7 +21,7 @@ use Rattle.bch_locator.specs.Lanes.{Lanes, Products, PowersOf}
 use Rattle.bch_locator.specs.Places.{PlacesOf, Reversed}
 use Rattle.bch_locator.proofs.Raised.{raised, lanes_raised, lanes_past}
 use Rattle.laws.specs.Lists.{zeros_at}
-use Rattle.laws.specs.Stores.{set_at, grown}
+use Rattle.laws.specs.Stores.{grown}
 use Rattle.bch_locator.proofs.Filling.{zero_lanes, lanes_set}
 
 -- ---- the terms
@@ -157,111 +157,106 @@ power_again x r p h e f =
     f ∙ raised x 1 h (omega arith) ∙ ap (R16.◌⊠◌ (pow R16 α 1)) e ∙ sym (pow_add R16 α 1 p) ∙ ap (pow R16 α) k
 
 -- ---- the list of places
-pub places_start : (at c : List ℕ) (l : ℕ) → length at ≡ 12 → ((i : ℕ) → get_or at i 0 ≡ 0) → PlacesOf at 0 c l 0
-places_start at c l e z =
-    record {
-      size = e;
+pub places_start : (at c : List ℕ) (l : ℕ) → at ≡ [] → PlacesOf at c l 0
+places_start at c l e =
+    subst (λ (x : List ℕ). PlacesOf x c l 0) (sym e) (record {
       many = sym (zeros_none gf16 (value_at (poly c) l));
       most = omega arith;
       in_order = λ i j h k. absurd (not-suc-le-zero k);
       inside = λ i h. absurd (not-suc-le-zero h);
       root = λ i h. absurd (not-suc-le-zero h);
       all = λ p h. absurd (not-suc-le-zero h);
-      behind = λ i h. z i;
-    }
+    })
 
-pub places_miss : (at : List ℕ) (count : ℕ) (c : List ℕ) (l p : ℕ) → PlacesOf at count c l p → value_at (poly c) l p ≢ R16.𝟘 → PlacesOf at count c l (p + 1)
-places_miss at count c l p D ne =
+pub places_miss : (at c : List ℕ) (l p : ℕ) → PlacesOf at c l p → value_at (poly c) l p ≢ R16.𝟘 → PlacesOf at c l (p + 1)
+places_miss at c l p D ne =
     record {
-      size = D.size;
       many = D.many ∙ sym (zeros_same gf16 p (value_at (poly c) l) ne) ∙ ap (λ (k : ℕ). zeros gf16 k (value_at (poly c) l)) (sym (add-one p));
       most = D.most;
       in_order = D.in_order;
       inside = λ i h. let t = D.inside i h in omega arith;
       root = D.root;
       all = λ q h z. pick q h z (ℕ_discrete q p);
-      behind = D.behind;
     }
   where
-    pick : (q : ℕ) → q < p + 1 → value_at (poly c) l q ≡ R16.𝟘 → Dec (q ≡ p) → (i : ℕ) × (i < count) × (get_or at i 0 ≡ q)
+    pick : (q : ℕ) → q < p + 1 → value_at (poly c) l q ≡ R16.𝟘 → Dec (q ≡ p) → (i : ℕ) × (i < length at) × (get_or at i 0 ≡ q)
     pick q h z (yes e) = absurd (ne (ap (value_at (poly c) l) (sym e) ∙ z))
     pick q h z (no e) = D.all q (omega arith) z
 
 -- one root more still fits
-pub count_fits : (at : List ℕ) (count : ℕ) (c : List ℕ) (l p : ℕ) → p < 65535 → poly c 0 ≡ R16.𝟙 → PlacesOf at count c l p → value_at (poly c) l p ≡ R16.𝟘 → count < l
-count_fits at count c l p h head D z =
+pub count_fits : (at c : List ℕ) (l p : ℕ) → p < 65535 → poly c 0 ≡ R16.𝟙 → PlacesOf at c l p → value_at (poly c) l p ≡ R16.𝟘 → length at < l
+count_fits at c l p h head D z =
     let m = zeros_more gf16 p (value_at (poly c) l) z in
     let f = roots_fit gf16 (suc p) (pow R16 α) (λ q _. α_nz q) (α_apart (omega arith)) (poly c) l head in
     omega (arith, m, f, D.many)
 
-pub places_hit : (at : List ℕ) (count : ℕ) (c : List ℕ) (l p : ℕ) → l ≤ 12 → p < 65535 → poly c 0 ≡ R16.𝟙 → PlacesOf at count c l p
-    → value_at (poly c) l p ≡ R16.𝟘 → PlacesOf (set at count p) (count + 1) c l (p + 1)
-places_hit at count c l p hl h head D z =
-    record {
-      size = length-set at count p ∙ D.size;
-      many = ap (λ (k : ℕ). k + 1) D.many ∙ add-one _ ∙ sym (zeros_more gf16 p (value_at (poly c) l) z) ∙ ap (λ (k : ℕ). zeros gf16 k (value_at (poly c) l)) (sym (add-one p));
-      most = omega (arith, small);
-      in_order = λ i j a b. order i j a b (ℕ_discrete j count);
-      inside = λ i a. within i a (ℕ_discrete i count);
-      root = λ i a. vanish i a (ℕ_discrete i count);
-      all = λ q a w. found q a w (ℕ_discrete q p);
-      behind = λ i a. get_or-set_other at count i p 0 (λ e. omega arith) ∙ D.behind i (omega arith);
-    }
+pub places_hit : (at at' c : List ℕ) (l p : ℕ) → p < 65535 → poly c 0 ≡ R16.𝟙 → PlacesOf at c l p → value_at (poly c) l p ≡ R16.𝟘 → at' ≡ at ++ p ∷ [] → PlacesOf at' c l (p + 1)
+places_hit at at' c l p h head D z e = subst (λ (x : List ℕ). PlacesOf x c l (p + 1)) (sym e) (record {
+  many = one_more ∙ ap (λ (k : ℕ). k + 1) D.many ∙ add-one _ ∙ sym (zeros_more gf16 p (value_at (poly c) l) z) ∙ ap (λ (k : ℕ). zeros gf16 k (value_at (poly c) l)) (sym (add-one p));
+  most = omega (arith, one_more, small);
+  in_order = λ i j a b. order i j a (omega (arith, one_more)) (ℕ_discrete j (length at));
+  inside = λ i a. within i (omega (arith, one_more)) (ℕ_discrete i (length at));
+  root = λ i a. vanish i (omega (arith, one_more)) (ℕ_discrete i (length at));
+  all = λ q a w. found q a w (ℕ_discrete q p);
+})
   where
-    small : count < l
-    small = count_fits at count c l p h head D z
+    new : List ℕ
+    new = at ++ p ∷ []
 
-    old : (i : ℕ) → i < count → get_or (set at count p) i 0 ≡ get_or at i 0
-    old i a = get_or-set_other at count i p 0 (omega arith)
+    one_more : length new ≡ length at + 1
+    one_more = length_push at p
 
-    newest : (i : ℕ) → i ≡ count → get_or (set at count p) i 0 ≡ p
-    newest i e = set_at 0 at count p i (omega (arith, D.size, small)) e
+    small : length at < l
+    small = count_fits at c l p h head D z
 
-    new : get_or (set at count p) count 0 ≡ p
-    new = newest count refl
+    old : (i : ℕ) → i < length at → get_or new i 0 ≡ get_or at i 0
+    old i a = get_or_append_left at (p ∷ []) 0 i a
 
-    order : (i j : ℕ) → i < j → j < count + 1 → Dec (j ≡ count) → get_or (set at count p) i 0 < get_or (set at count p) j 0
+    newest : (i : ℕ) → i ≡ length at → get_or new i 0 ≡ p
+    newest i e = get_or_push at p 0 i (sym e)
+
+    order : (i j : ℕ) → i < j → j < length at + 1 → Dec (j ≡ length at) → get_or new i 0 < get_or new j 0
     order i j a b (yes e) = let u = old i (omega arith) in let w = newest j e in let t = D.inside i (omega arith) in omega arith
     order i j a b (no e) = let u = old i (omega arith) in let w = old j (omega arith) in let t = D.in_order i j a (omega arith) in omega arith
 
-    within : (i : ℕ) → i < count + 1 → Dec (i ≡ count) → get_or (set at count p) i 0 < p + 1
+    within : (i : ℕ) → i < length at + 1 → Dec (i ≡ length at) → get_or new i 0 < p + 1
     within i a (yes e) = let u = newest i e in omega arith
     within i a (no e) = let u = old i (omega arith) in let t = D.inside i (omega arith) in omega arith
 
-    vanish : (i : ℕ) → i < count + 1 → Dec (i ≡ count) → value_at (poly c) l (get_or (set at count p) i 0) ≡ R16.𝟘
+    vanish : (i : ℕ) → i < length at + 1 → Dec (i ≡ length at) → value_at (poly c) l (get_or new i 0) ≡ R16.𝟘
     vanish i a (yes e) = ap (value_at (poly c) l) (newest i e) ∙ z
     vanish i a (no e) = ap (value_at (poly c) l) (old i (omega arith)) ∙ D.root i (omega arith)
 
-    found : (q : ℕ) → q < p + 1 → value_at (poly c) l q ≡ R16.𝟘 → Dec (q ≡ p) → (i : ℕ) × (i < count + 1) × (get_or (set at count p) i 0 ≡ q)
-    found q a w (yes e) = (count, omega arith, new ∙ sym e)
+    found : (q : ℕ) → q < p + 1 → value_at (poly c) l q ≡ R16.𝟘 → Dec (q ≡ p) → (i : ℕ) × (i < length new) × (get_or new i 0 ≡ q)
+    found q a w (yes e) = (length at, omega (arith, one_more), newest (length at) refl ∙ sym e)
     found q a w (no e) =
         let r = D.all q (omega arith) w in
-        let b : r.0 < count = r.1 in
-        (r.0, omega arith, old r.0 b ∙ r.2)
+        let b : r.0 < length at = r.1 in
+        (r.0, omega (arith, one_more), old r.0 b ∙ r.2)
 
-pub places_end : (at : List ℕ) (count : ℕ) (c : List ℕ) (l p n : ℕ) → p ≡ n → PlacesOf at count c l p → PlacesOf at count c l n
-places_end at count c l p n e D = subst (PlacesOf at count c l) e D
+pub places_end : (at c : List ℕ) (l p n : ℕ) → p ≡ n → PlacesOf at c l p → PlacesOf at c l n
+places_end at c l p n e D = subst (PlacesOf at c l) e D
 
-pub places_length : (at : List ℕ) (count : ℕ) (c : List ℕ) (l l' n : ℕ) → l' ≡ l → PlacesOf at count c l n → PlacesOf at count c l' n
-places_length at count c l l' n e D = subst (λ (k : ℕ). PlacesOf at count c k n) (sym e) D
+pub places_length : (at c : List ℕ) (l l' n : ℕ) → l' ≡ l → PlacesOf at c l n → PlacesOf at c l' n
+places_length at c l l' n e D = subst (λ (k : ℕ). PlacesOf at c k n) (sym e) D
 
 -- as many roots as the length: there are no others
-full_more : (at : List ℕ) (count : ℕ) (c : List ℕ) (l p k : ℕ) → p + k ≤ 65535 → poly c 0 ≡ R16.𝟙 → count ≡ l → PlacesOf at count c l p → PlacesOf at count c l (p + k)
-full_more at count c l p zero h head e D = places_end at count c l p (p + 0) (omega arith) D
-full_more at count c l p (suc k) h head e D = more (full_more at count c l p k (omega arith) head e D)
+full_more : (at c : List ℕ) (l p k : ℕ) → p + k ≤ 65535 → poly c 0 ≡ R16.𝟙 → length at ≡ l → PlacesOf at c l p → PlacesOf at c l (p + k)
+full_more at c l p zero h head e D = places_end at c l p (p + 0) (omega arith) D
+full_more at c l p (suc k) h head e D = more (full_more at c l p k (omega arith) head e D)
   where
-    more : PlacesOf at count c l (p + k) → PlacesOf at count c l (p + suc k)
+    more : PlacesOf at c l (p + k) → PlacesOf at c l (p + suc k)
     more W =
-        places_end at count c l (p + k + 1) (p + suc k) (omega arith)
-        (places_miss at count c l (p + k) W (λ z. let f = count_fits at count c l (p + k) (omega arith) head W z in omega (arith, f)))
+        places_end at c l (p + k + 1) (p + suc k) (omega arith)
+        (places_miss at c l (p + k) W (λ z. let f = count_fits at c l (p + k) (omega arith) head W z in omega (arith, f)))
 
-pub places_full : (at : List ℕ) (count : ℕ) (c : List ℕ) (l p n : ℕ) → p ≤ n → n ≤ 65535 → poly c 0 ≡ R16.𝟙 → count ≡ l → PlacesOf at count c l p → PlacesOf at count c l n
-places_full at count c l p n h g head e D =
+pub places_full : (at c : List ℕ) (l p n : ℕ) → p ≤ n → n ≤ 65535 → poly c 0 ≡ R16.𝟙 → length at ≡ l → PlacesOf at c l p → PlacesOf at c l n
+places_full at c l p n h g head e D =
     let k : p + (n - p) ≡ n = omega arith in
-    places_end at count c l (p + (n - p)) n k (full_more at count c l p (n - p) (omega arith) head e D)
+    places_end at c l (p + (n - p)) n k (full_more at c l p (n - p) (omega arith) head e D)
 
-pub places_as : {at : List ℕ} {count : ℕ} {c : List ℕ} {l p : ℕ} (at' : List ℕ) (count' : ℕ) → PlacesOf at count c l p → at' ≡ at → count' ≡ count → PlacesOf at' count' c l p
-places_as {at} {count} {c} {l} {p} at' count' D e f = transport (λ i. PlacesOf (sym e i) (sym f i) c l p) D
+pub places_as : (at at' c : List ℕ) (l p : ℕ) → at' ≡ at → PlacesOf at c l p → PlacesOf at' c l p
+places_as at at' c l p e D = subst (λ (x : List ℕ). PlacesOf x c l p) (sym e) D
 
 -- ---- `lane_sum`
 pub lanes_none : (t : List ℕ) → to_el 0 ≡ sum R16 0 (poly t)

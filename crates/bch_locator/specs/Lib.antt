@@ -3,4 +3,5 @@ pub mod Element
 pub mod Lanes
 pub mod Syndromes
 pub mod Register
+pub mod Shortest
 pub mod Places

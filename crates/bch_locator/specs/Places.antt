@@ -5,16 +5,14 @@ use Rattle.gf16.specs.Field16.{gf16, value_at, R16}
 use Rattle.bch_locator.specs.Element.{poly}
 use Rattle.bch_locator.specs.Lanes.{Lanes}
 
--- the powers below n at which the register vanishes, ascending, each once: the first `count` of `at`; zeros behind them
-pub record PlacesOf (at : List ℕ) (count : ℕ) (c : List ℕ) (l n : ℕ) : Type 0 where
-  pub size : length at ≡ 12
-  pub many : count ≡ zeros gf16 n (value_at (poly c) l)
-  pub most : count ≤ l
-  pub in_order : (i j : ℕ) → i < j → j < count → get_or at i 0 < get_or at j 0
-  pub inside : (i : ℕ) → i < count → get_or at i 0 < n
-  pub root : (i : ℕ) → i < count → value_at (poly c) l (get_or at i 0) ≡ R16.𝟘
-  pub all : (p : ℕ) → p < n → value_at (poly c) l p ≡ R16.𝟘 → (i : ℕ) × (i < count) × (get_or at i 0 ≡ p)
-  pub behind : (i : ℕ) → count ≤ i → get_or at i 0 ≡ 0
+-- the powers below n at which the register vanishes, ascending, each once
+pub record PlacesOf (at c : List ℕ) (l n : ℕ) : Type 0 where
+  pub many : length at ≡ zeros gf16 n (value_at (poly c) l)
+  pub most : length at ≤ l
+  pub in_order : (i j : ℕ) → i < j → j < length at → get_or at i 0 < get_or at j 0
+  pub inside : (i : ℕ) → i < length at → get_or at i 0 < n
+  pub root : (i : ℕ) → i < length at → value_at (poly c) l (get_or at i 0) ≡ R16.𝟘
+  pub all : (p : ℕ) → p < n → value_at (poly c) l p ≡ R16.𝟘 → (i : ℕ) × (i < length at) × (get_or at i 0 ≡ p)
 
 -- c 0 to c l from the end, without c l, in lanes
 pub record Reversed (t c : List ℕ) (l : ℕ) : Type 0 where

@@ -10,8 +10,10 @@ ghost use Rattle.bch_locator.specs.Element.{to_el, poly};
 ghost use Rattle.bch_locator.specs.Lanes.{Lanes, Products, PowersOf};
 ghost use Rattle.bch_locator.specs.Syndromes.{Syndromes, first_part, second_part, Added, Horner, Squared};
 ghost use Rattle.bch_locator.specs.Places.{PlacesOf, Reversed};
-ghost use Rattle.bch_locator.specs.Register.{total, Mended, RegisterOf};
+ghost use Rattle.bch_locator.specs.Register.{total, Mended};
+ghost use Rattle.bch_locator.specs.Shortest.{ShortestOf};
 
+use arrayvec::ArrayVec;
 use bch_table::Reg;
 
 // The polynomial x at α: the digits from 16 up go in below.
@@ -140,7 +142,7 @@ fn mend(c: &mut [u16; 13], q: u16, m: usize, b: &[u16; 13])
     }
 }
 
-// The register 1 + c[1] x + .. + c[len] x^len; a length of 13, with zeros, stands for any over 12.
+// The register 1 + c[1] x + .. + c[len] x^len.
 #[derive(Drop)]
 pub struct Register {
     pub c: [u16; 13],
@@ -148,8 +150,8 @@ pub struct Register {
 }
 
 // Berlekamp-Massey over the 24 syndromes, as far as length 12.
-pub fn shortest(s: [u16; 24]) -> Register
-    ensures { RegisterOf s result.c result.len }
+pub fn shortest(s: [u16; 24]) -> Option<Register>
+    ensures { ShortestOf s result }
 {
     let mut c = [0; 13];
     c[0] = 1;
@@ -165,10 +167,7 @@ pub fn shortest(s: [u16; 24]) -> Register
             let q = mul(d, inverse(e));
             if l + l <= k {
                 if 12 < k + 1 - l {
-                    return Register {
-                        c: [0; 13],
-                        len: 13,
-                    };
+                    return None;
                 }
                 let t = c;
                 mend(&mut c, q, m, &b);
@@ -182,7 +181,7 @@ pub fn shortest(s: [u16; 24]) -> Register
             }
         }
     }
-    Register { c, len: l }
+    Some(Register { c, len: l })
 }
 
 // The sum of the lanes.
@@ -213,58 +212,49 @@ const PLACE_POWERS: [u16; 16] = [
     2, 4, 8, 16, 32, 64, 128, 256, 512, 1024, 2048, 4096, 0, 0, 0, 0,
 ];
 
-// The powers of the places, ascending, in the first `count` of `at`, and zeros behind them.
-#[derive(Drop)]
-pub struct Places {
-    pub at: [usize; 12],
-    pub count: usize,
-}
-
 // The search from power 0 up. Lane i has c[len - 1 - i], times α^(i + 1) for each power passed, so that c[len] and the lanes' sum are the
 // register at α^-p times a power of α. A register has no more roots than its length.
-fn roots(c: [u16; 13], len: usize, n: usize) -> Places
+fn roots(c: [u16; 13], len: usize, n: usize) -> ArrayVec<usize, 12>
     requires { (len ≤ 12) × (n ≤ 65535) × (poly c 0 ≡ R16.𝟙) }
-    ensures { PlacesOf result.at result.count c len n }
+    ensures { PlacesOf result.items c len n }
 {
     let last = c[len];
     let mut t = reversed(c, len);
-    let mut at = [0; 12];
-    let mut count = 0;
+    let mut found = ArrayVec::new();
     for p in 0..n {
         if lane_sum(t) == last {
-            at[count] = p;
-            count += 1;
-            if count == len {
-                return Places { at, count };
+            found.push(p);
+            if found.len() == len {
+                return found;
             }
         }
         let next = times(t, PLACE_POWERS);
         t = next;
     }
-    Places { at, count }
+    found
 }
 
 // The search for a register of length 1, 1 + c[1] x: its root is α^-p where c[1] is α^p.
-fn root(c: [u16; 13], n: usize) -> Places
+fn root(c: [u16; 13], n: usize) -> ArrayVec<usize, 12>
     requires { (n ≤ 65535) × (poly c 0 ≡ R16.𝟙) }
-    ensures { PlacesOf result.at result.count c 1 n }
+    ensures { PlacesOf result.items c 1 n }
 {
-    let mut at = [0; 12];
+    let mut found = ArrayVec::new();
     let mut x = 1;
     for p in 0..n {
         if x == c[1] {
-            at[0] = p;
-            return Places { at, count: 1 };
+            found.push(p);
+            return found;
         }
         x = fold(x as u32 * 2);
     }
-    Places { at, count: 0 }
+    found
 }
 
-// The Chien search: the powers below n, which are those present, at which the register vanishes.
-pub fn chien(register: Register, n: usize) -> Places
+// The Chien search: the powers below n, which are those present, at which the register vanishes, ascending.
+pub fn chien(register: Register, n: usize) -> ArrayVec<usize, 12>
     requires { (register.len ≤ 12) × (n ≤ 65535) × (poly register.c 0 ≡ R16.𝟙) }
-    ensures { PlacesOf result.at result.count register.c register.len n }
+    ensures { PlacesOf result.items register.c register.len n }
 {
     if register.len == 1 {
         return root(register.c, n);

@@ -1,23 +1,22 @@
-use Rattle.std.proofs.Common.{◌+◌, refl, arith}
-use Rattle.laws.specs.Lists.{zeros_at}
+use Rattle.std.proofs.Common.{◌+◌, ap, length, refl, arith}
 use Rattle.bch_locator.proofs.Search.{one_hit, one_miss, power_start, power_again, places_start, places_miss, places_hit, places_full, places_end}
 use Rattle.bch_locator.proofs.root.Goals as goal
 
 pub loop-p-init : goal.loop-p-init
-loop-p-init c = (power_start, places_start _ _ _ refl (zeros_at 12))
+loop-p-init c = (power_start, c.new-found.ensures, places_start _ _ _ c.new-found.ensures)
 
 pub returns-then-x-c : goal.returns-then-x-c
 returns-then-x-c c =
     let z = one_hit c.args.c c.loop-p.p _ _ c.requires.1 c.loop-p.invariant.0 refl c.if-x-c.true in
-    places_full _ _ c.args.c 1 (c.loop-p.p + 1) c.args.n (omega arith) c.requires.0 c.requires.1 refl
-    (places_hit c.loop-p.at 0 c.args.c 1 c.loop-p.p (omega arith) (omega arith) c.requires.1 c.loop-p.invariant.1 z)
+    places_full _ c.args.c 1 (c.loop-p.p + 1) c.args.n (omega arith) c.requires.0 c.requires.1 (omega (arith, c.push.ensures.len, ap length c.loop-p.invariant.1))
+    (places_hit _ _ c.args.c 1 c.loop-p.p (omega arith) c.requires.1 c.loop-p.invariant.2 z c.push.ensures.items)
 
 pub loop-p-preserved : goal.loop-p-preserved
 loop-p-preserved c = (
   power_again c.loop-p.x _ c.loop-p.p (omega arith) c.loop-p.invariant.0 c.fold-x.ensures,
-  places_miss c.loop-p.at 0 c.args.c 1 c.loop-p.p c.loop-p.invariant.1
-      (one_miss c.args.c c.loop-p.p _ _ c.requires.1 c.loop-p.invariant.0 refl (omega arith) (omega arith) c.if-x-c.false),
+  c.loop-p.invariant.1,
+  places_miss _ c.args.c 1 c.loop-p.p c.loop-p.invariant.2 (one_miss c.args.c c.loop-p.p _ _ c.requires.1 c.loop-p.invariant.0 refl (omega arith) (omega arith) c.if-x-c.false),
 )
 
 pub returns : goal.returns
-returns c = places_end _ _ _ _ c.loop-p.p _ (omega arith) c.loop-p.invariant.1
+returns c = places_end _ _ _ c.loop-p.p _ (omega arith) c.loop-p.invariant.2

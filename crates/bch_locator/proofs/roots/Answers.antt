@@ -1,42 +1,41 @@
-use Rattle.std.proofs.Common.{◌≡◌, ◌+◌, refl, arith}
-use Rattle.laws.specs.Lists.{zeros_at}
+use Rattle.std.proofs.Common.{◌≡◌, ◌+◌, ap, refl, arith}
 use Rattle.gf16.specs.Field16.{R16, value_at}
 use Rattle.bch_locator.specs.Element.{poly}
 use Rattle.bch_locator.proofs.Constants.{place_powers}
 use Rattle.bch_locator.proofs.Search.{terms_start, terms_again, sum_hit, sum_miss, count_fits, places_start, places_miss, places_hit, places_full, places_as, places_end}
 use Rattle.bch_locator.proofs.roots.Goals as goal
-use Rattle.bch_locator.proofs.roots.Goals.{then-lane_sum-last+else-count-len, else-lane_sum-last}
+use Rattle.bch_locator.proofs.roots.Goals.{then-lane_sum-last+else-len, else-lane_sum-last}
 
 pub loop-p-init : goal.loop-p-init
-loop-p-init c = (terms_start _ _ _ c.reversed-t.ensures, places_start _ _ _ refl (zeros_at 12))
+loop-p-init c = (terms_start _ _ _ c.reversed-t.ensures, places_start _ _ _ c.new-found.ensures)
 
-pub bounds-at-count : goal.bounds-at-count
-bounds-at-count c =
+pub push-requires : goal.push-requires
+push-requires c =
     let h : value_at (poly c.args.c) c.args.len c.loop-p.p ≡ R16.𝟘 =
     sum_hit c.loop-p.t c.args.c c.args.len c.loop-p.p _ _ c.requires.0 c.loop-p.invariant.0 c.lane_sum.ensures refl c.if-lane_sum-last.true in
-    let k = count_fits c.loop-p.at c.loop-p.count c.args.c c.args.len c.loop-p.p (omega arith) c.requires.2 c.loop-p.invariant.1 h in
+    let k = count_fits c.loop-p.found.items c.args.c c.args.len c.loop-p.p (omega arith) c.requires.2 c.loop-p.invariant.1 h in
     omega (arith, k, c.requires.0)
 
-pub returns-then-count-len : goal.returns-then-count-len
-returns-then-count-len c =
+pub returns-then-len : goal.returns-then-len
+returns-then-len c =
     let h : value_at (poly c.args.c) c.args.len c.loop-p.p ≡ R16.𝟘 =
     sum_hit c.loop-p.t c.args.c c.args.len c.loop-p.p _ _ c.requires.0 c.loop-p.invariant.0 c.lane_sum.ensures refl c.if-lane_sum-last.true in
-    places_full _ _ c.args.c c.args.len (c.loop-p.p + 1) c.args.n (omega arith) c.requires.1 c.requires.2 (omega arith)
-    (places_hit c.loop-p.at c.loop-p.count c.args.c c.args.len c.loop-p.p c.requires.0 (omega arith) c.requires.2 c.loop-p.invariant.1 h)
+    places_full _ c.args.c c.args.len (c.loop-p.p + 1) c.args.n (omega arith) c.requires.1 c.requires.2 (omega arith)
+    (places_hit _ _ c.args.c c.args.len c.loop-p.p (omega arith) c.requires.2 c.loop-p.invariant.1 h c.push.ensures.items)
 
 pub loop-p-preserved : goal.loop-p-preserved
 loop-p-preserved c = (
   terms_again _ c.loop-p.t _ _ _ c.loop-p.p c.requires.0 c.loop-p.invariant.0 place_powers c.times-next.ensures,
   elim c.if-lane_sum-last.branch [
-    | then-lane_sum-last+else-count-len w ↦
+    | then-lane_sum-last+else-len w ↦
         let h : value_at (poly c.args.c) c.args.len c.loop-p.p ≡ R16.𝟘 =
         sum_hit c.loop-p.t c.args.c c.args.len c.loop-p.p _ _ c.requires.0 c.loop-p.invariant.0 c.lane_sum.ensures refl w.if-lane_sum-last.true in
-        places_as _ _ (places_hit c.loop-p.at c.loop-p.count c.args.c c.args.len c.loop-p.p c.requires.0 (omega arith) c.requires.2 c.loop-p.invariant.1 h) w.at-is w.count-is
+        places_as _ _ _ _ _ (ap (λ v. v.items) w.found-is) (places_hit _ _ c.args.c c.args.len c.loop-p.p (omega arith) c.requires.2 c.loop-p.invariant.1 h w.push.ensures.items)
     | else-lane_sum-last w ↦
-        places_as _ _ (places_miss c.loop-p.at c.loop-p.count c.args.c c.args.len c.loop-p.p c.loop-p.invariant.1
-        (sum_miss c.loop-p.t c.args.c c.args.len c.loop-p.p _ _ c.requires.0 c.loop-p.invariant.0 c.lane_sum.ensures refl (omega arith) (omega arith) w.if-lane_sum-last.false)) w.at-is w.count-is
+        places_as _ _ _ _ _ (ap (λ v. v.items) w.found-is) (places_miss _ c.args.c c.args.len c.loop-p.p c.loop-p.invariant.1
+        (sum_miss c.loop-p.t c.args.c c.args.len c.loop-p.p _ _ c.requires.0 c.loop-p.invariant.0 c.lane_sum.ensures refl (omega arith) (omega arith) w.if-lane_sum-last.false))
   ],
 )
 
 pub returns : goal.returns
-returns c = places_end _ _ _ _ c.loop-p.p _ (omega arith) c.loop-p.invariant.1
+returns c = places_end _ _ _ c.loop-p.p _ (omega arith) c.loop-p.invariant.1

@@ -5,4 +5,4 @@ use Rattle.bch_locator.proofs.Search.{Terms}
 use Rattle.bch_locator.proofs.roots.Given as goal
 
 abbrev pub invariant-loop-p : goal.invariant-loop-p
-invariant-loop-p l = Terms l.t l.fn.c l.len l.p × PlacesOf l.at l.count l.fn.c l.len l.p
+invariant-loop-p l = Terms l.t l.fn.c l.len l.p × PlacesOf l.found.items l.fn.c l.len l.p

@@ -20,4 +20,4 @@ loop-k-preserved c = elim c.if-d-eq0.branch [
 ]
 
 pub returns : goal.returns
-returns c = state_end _ c.loop-k.c c.loop-k.b c.loop-k.l c.loop-k.m c.loop-k.e c.loop-k.k c.loop-k.invariant (search rules)
+returns c = (state_end _ c.loop-k.c c.loop-k.b c.loop-k.l c.loop-k.m c.loop-k.e c.loop-k.k c.loop-k.invariant (search rules), c.loop-k.invariant.l_le)
