@@ -4,7 +4,7 @@ use Rattle.laws.specs.Signed.{plain}
 use Rattle.laws.specs.Definitions.{negative}
 use Rattle.iteration.specs.Value.{reduced, signed}
 use Rattle.lane_math.specs.Laws.{reduced_small}
-use Rattle.lane16.specs.Lanes.{int_at, nat_at}
+use Rattle.lane16.specs.Lanes.{int_at, nat_at, Reduced, reduced_all_small}
 use Rattle.laws.specs.Stores.{grown}
 use Rattle.lane16.proofs.prepare.Goals as goal
 
@@ -34,3 +34,12 @@ loop-i-preserved c =
           (omega arith) c.loop-i.invariant.3
           (plain c.signed-in-loop-i.result (search rules) ∙ c.signed-in-loop-i.ensures ∙ (λ j. signed (negative (s_is j)) (r2 j))),
     )
+
+-- magnitudes less the offset are no -128
+pub invariant_of-result : goal.invariant_of-result
+invariant_of-result c =
+    let o = to_z w8 (of_z w8 c.args.offset) in
+    let st = c.args.st in
+    let r1 : Reduced o st.sign st.min1 c.loop-i.m1 = record { is = λ k q. c.loop-i.invariant.2 k (omega arith) } in
+    let r2 : Reduced o st.sign st.min2 c.loop-i.m2 = record { is = λ k q. c.loop-i.invariant.3 k (omega arith) } in
+    record { small = (reduced_all_small r1, reduced_all_small r2) }

@@ -3,4 +3,4 @@ use Rattle.simd.specs.WordsLaws.{sign_parities}
 use Rattle.simd.proofs.sign_parity.Goals as goal
 
 pub returns : goal.returns
-returns c = sign_parities c.signs-g.ensures c.bits.ensures
+returns c = sign_parities c.signs.ensures c.bits.ensures

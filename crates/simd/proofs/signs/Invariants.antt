@@ -1,11 +1,7 @@
 -- `simd::signs` meets its contract. Assumes nothing.
-use Prim.Native.Nat.{◌-◌, ◌≤◌}
 use Rattle.iteration.specs.Lists.{var}
 use Rattle.simd.specs.Pass.{Signs}
 use Rattle.simd.proofs.signs.Given as goal
 
 abbrev pub invariant-loop-k : goal.invariant-loop-k
-invariant-loop-k l = (l.k ≤ l.d) × Signs (var l.rows) l.s l.lanes l.at l.work l.k l.g
-
-abbrev pub decreases-loop-k : goal.decreases-loop-k
-decreases-loop-k l = l.d - l.k
+invariant-loop-k l = Signs (var l.rows) l.s l.lanes l.at l.work l.k l.g

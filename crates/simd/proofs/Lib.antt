@@ -1,0 +1,2 @@
+-- Where the first pass begins.
+pub mod Start
