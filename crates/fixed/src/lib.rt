@@ -28,13 +28,11 @@ pub fn checks(
     requires in_bounds { (2048 ≤ length t.old) × (2048 ≤ length u.old) }
     ensures { InTurn n p lanes offset lists.now first q work.old m work.new }
 {
-    let mut x: usize = 0;
-    while x < m {
+    for x in 0..m {
         let c = first + x * q;
         let s = fixed_code::start(lists, c);
         let d = fixed_code::degree(lists, n, p, c);
         simd::check_node(rows, s, d, work, t, u, n, lanes, offset);
-        x += 1;
     }
 }
 

@@ -1,12 +1,11 @@
 -- `fixed::checks` meets its contract. Assumes nothing.
-use mathlib.Core.Path.{◌≡◌}
-use Prim.Native.Nat.{◌-◌, ◌≤◌}
-use lib.ListN.{length}
+use Rattle.std.proofs.Common.{◌≡◌, length}
 use Rattle.fixed.specs.Sequential.{InTurn}
 use Rattle.fixed.proofs.checks.Given as goal
 
 abbrev pub invariant-loop-x : goal.invariant-loop-x
-invariant-loop-x l = (l.x ≤ l.m) × ((length l.work ≡ length l.initial.work) × (((length l.t ≡ length l.initial.t) × (length l.u ≡ length l.initial.u)) × InTurn l.n l.p l.lanes (l.offset) l.lists l.first l.q l.initial.work l.x l.work))
-
-abbrev pub decreases-loop-x : goal.decreases-loop-x
-decreases-loop-x l = l.m - l.x
+invariant-loop-x l =
+    (length l.work ≡ length l.initial.work)
+    × (length l.t ≡ length l.initial.t)
+    × (length l.u ≡ length l.initial.u)
+    × InTurn l.n l.p l.lanes l.offset l.lists l.first l.q l.initial.work l.x l.work

@@ -1,4 +1,5 @@
 use Rattle.std.proofs.Common.{rules, arith, length-set, ◌≡◌, ap, ◌∙◌, ℕ, min, max, ℤ, pos, nat_abs, ◌-ℤ◌, to_z, of_z}
+use Rattle.std.proofs.Math.Nat.{min_comm}
 use Rattle.std.specs.Int.{w8}
 use Rattle.laws.specs.Signed.{plain}
 use Rattle.laws.specs.Definitions.{negative, times}
@@ -19,7 +20,9 @@ loop-i-preserved c =
     ∙ (λ j. sat_z (plain (int_at c.args.lv i) (search rules) j -ℤ plain (int_at c.args.rv i) (search rules) j)) in
     let a_is : c.unsigned_abs-a.result ≡ nat_abs (t i) = c.unsigned_abs-a.ensures.value ∙ ap nat_abs x_is in
     let min1_step : c.min-in-loop-i.result ≡ min (nat_at old.min1 i) (nat_abs (t i)) =
-    c.min-in-loop-i.ensures ∙ (λ j. min (now.min1_kept i (omega arith) j) (a_is j)) in
+    c.min-in-loop-i.ensures
+    ∙ min_comm c.unsigned_abs-a.result _
+    ∙ (λ j. min (now.min1_kept i (omega arith) j) (a_is j)) in
     let min2_step : c.max.result ≡ max (nat_at old.min1 i) (min (nat_at old.min2 i) (nat_abs (t i))) =
     c.max.ensures
     ∙ (λ j. max (now.min1_kept i (omega arith) j) ((c.min.ensures ∙ (λ k. min (now.min2_kept i (omega arith) k) (a_is k))) j)) in

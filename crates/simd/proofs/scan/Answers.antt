@@ -1,5 +1,6 @@
-use Rattle.std.proofs.Common.{refl}
+use Rattle.std.proofs.Common.{arith, refl}
 use Rattle.iteration.specs.Lists.{var}
+use Rattle.simd.specs.Pass.{scan_again}
 use Rattle.simd.proofs.Start.{start}
 use Rattle.simd.proofs.scan.Goals as goal
 
@@ -9,3 +10,9 @@ loop-k-init c =
       refl,
       start (var c.args.rows.now) check.s check.n check.lanes c.args.at c.args.work.now c.args.t.now,
     )
+
+pub loop-k-preserved : goal.loop-k-preserved
+loop-k-preserved c = (
+  omega (arith, c.store.auto, c.loop-k.invariant.0),
+  scan_again c.loop-k.invariant.1 c.variable-v.ensures c.load-lv.ensures c.load-rv.ensures c.scan-st.ensures c.store.ensures,
+)

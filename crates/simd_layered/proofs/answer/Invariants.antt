@@ -1,14 +1,12 @@
 -- `simd_layered::answer` meets its contract. Assumes nothing.
-use mathlib.Core.Path.{◌≡◌}
-use Prim.Native.Nat.{◌-◌, ◌≤◌}
-use lib.ListN.{length}
+use Rattle.std.proofs.Common.{◌≡◌, length}
 use Rattle.iteration.specs.Once.{shared_in}
 use Rattle.iteration.specs.Lists.{var}
 use Rattle.simd_layered.specs.Checked.{Sent}
 use Rattle.simd_layered.proofs.answer.Given as goal
 
 abbrev pub invariant-loop-k : goal.invariant-loop-k
-invariant-loop-k l = (l.k ≤ l.d) × ((length l.work ≡ length l.initial.work) × Sent (shared_in l.flags) l.w (var l.rows) l.s l.n (length l.rows) l.place l.lanes l.at l.t l.ready.least l.ready.m1 l.ready.m2 l.initial.work l.k l.work)
-
-abbrev pub decreases-loop-k : goal.decreases-loop-k
-decreases-loop-k l = l.d - l.k
+invariant-loop-k l =
+    (length l.work ≡ length l.initial.work)
+    × Sent (shared_in l.flags) l.w (var l.rows) l.s l.n (length l.rows) l.place l.lanes l.at l.t l.ready.least l.ready.m1
+    l.ready.m2 l.initial.work l.k l.work

@@ -1,6 +1,4 @@
-use native.Mathlib.Omega.{arith}
-use mathlib.Core.Path.{subst}
-use lib.IntN.{ℤ}
+use Rattle.std.proofs.Common.{arith, subst, ℤ}
 use Rattle.laws.specs.Signed.{plain}
 use Rattle.lane16.specs.ColumnLaws.{upto_again, upto_end}
 use Rattle.iteration.specs.Once.{shared_in}
@@ -9,14 +7,10 @@ use Rattle.simd_layered.proofs.check_shared.Goals as goal
 
 pub loop-at-preserved : goal.loop-at-preserved
 loop-at-preserved c = (
-  omega (arith, c.chunk-w.ensures.0.1),
-  (
-    omega (arith, c.loop-at.invariant.1.0),
-    (
-      (omega (arith, c.loop-at.invariant.1.1.0.0), omega (arith, c.loop-at.invariant.1.1.0.1)),
-      upto_again c.loop-at.invariant.1.1.1 c.chunk-w.ensures.1,
-    ),
-  ),
+  omega (arith, c.chunk-at.ensures.0.1),
+  omega (arith, c.loop-at.invariant.1),
+  omega (arith, c.loop-at.invariant.2),
+  upto_again c.loop-at.invariant.3 c.chunk-at.ensures.1,
 )
 
 pub returns : goal.returns
@@ -25,4 +19,4 @@ returns c =
     (λ (o : ℤ). Checked (shared_in c.args.flags.now) c.args.rows.now c.args.s c.args.d c.args.n c.args.lanes c.args.place o
     c.args.work.now c.loop-at.work) (plain c.args.offset c.ranges.offset)
     (checked c.requires.check_memory.0 c.requires.in_bounds.1.1
-    (upto_end (omega (arith, c.loop-at-test.false)) c.loop-at.invariant.1.1.1))
+    (upto_end (omega (arith, c.loop-at-test.false)) c.loop-at.invariant.3))

@@ -1,7 +1,5 @@
 -- `simd_layered::check_shared` meets its contract. Assumes nothing.
-use mathlib.Core.Path.{◌≡◌}
-use Prim.Native.Nat.{◌-◌, ◌≤◌}
-use lib.ListN.{length}
+use Rattle.std.proofs.Common.{◌≡◌, ◌-◌, ◌≤◌, length}
 use Rattle.lane16.specs.ColumnLaws.{Upto}
 use Rattle.iteration.specs.Once.{shared_in}
 use Rattle.iteration.specs.Lists.{var}
@@ -9,7 +7,12 @@ use Rattle.simd_layered.specs.Checked.{run_column}
 use Rattle.simd_layered.proofs.check_shared.Given as goal
 
 abbrev pub invariant-loop-at : goal.invariant-loop-at
-invariant-loop-at l = (l.at ≤ l.lanes) × ((length l.work ≡ length l.initial.work) × (((length l.t ≡ length l.initial.t) × (length l.u ≡ length l.initial.u)) × Upto (run_column (shared_in l.flags) (l.offset) (var l.rows) l.s l.d l.n (length l.rows) l.place) l.lanes l.at l.initial.work l.work))
+invariant-loop-at l =
+    (l.at ≤ l.lanes)
+    × (length l.work ≡ length l.initial.work)
+    × (length l.t ≡ length l.initial.t)
+    × Upto (run_column (shared_in l.flags) l.offset (var l.rows) l.s l.d l.n (length l.rows) l.place) l.lanes l.at
+    l.initial.work l.work
 
 abbrev pub decreases-loop-at : goal.decreases-loop-at
 decreases-loop-at l = l.lanes - l.at
