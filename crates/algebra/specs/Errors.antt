@@ -2,9 +2,8 @@
 -- as many roots as there are errors, and exactly at the wrong places. Any error values, any first power of the syndromes.
 use Rattle.std.specs.Prelude.{◌≡◌, ◌≢◌}
 use Rattle.std.proofs.Math.Path.{refl, sym, ap, ap₂}
-use Rattle.std.proofs.Common.{◌∙◌, not-suc-le-zero, le_refl, arith}
+use Rattle.std.proofs.Common.{◌∙◌, not-suc-le-zero, le_refl, arith, ℕ, zero, suc, ◌+◌, ◌≤◌, ◌<◌}
 use Rattle.std.proofs.Math.Logic.{ite, if_pos, if_neg}
-use Prim.Native.Nat.{ℕ, zero, suc, ◌+◌, ◌≤◌, ◌<◌}
 use Rattle.std.proofs.Math.Decide.{ℕ_discrete, dec_le, dec_lt}
 use Rattle.algebra.specs.Ring.{Ring, Field}
 use Rattle.algebra.specs.RingLaws.{zero-⊠}

@@ -2,9 +2,8 @@
 -- (`idempotents`), and suc n squarings of α, which are then those of every element (`fix`).
 use Rattle.std.specs.Prelude.{◌≡◌, ◌⊎◌, Bool, List, [], ◌∷◌, T, eqb}
 use Rattle.std.proofs.Math.Path.{refl, sym, ap, ap₂, subst}
-use Rattle.std.proofs.Common.{◌∙◌, le_of_suc-le-suc, mod-lt, le_of_lt, arith}
+use Rattle.std.proofs.Common.{◌∙◌, le_of_suc-le-suc, mod-lt, le_of_lt, arith, ℕ, zero, suc, ◌*◌, ◌/◌, ◌%◌, ◌^◌, ◌<◌}
 use Rattle.std.proofs.Math.Logic.{inl, inr}
-use Prim.Native.Nat.{ℕ, zero, suc, ◌*◌, ◌/◌, ◌%◌, ◌^◌, ◌<◌}
 use Rattle.std.proofs.Math.Dec.{eqb→eq}
 use Rattle.std.proofs.Math.Pow.{pow-lt}
 use Rattle.laws.specs.Tests.{below, below_at}

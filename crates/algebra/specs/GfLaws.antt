@@ -1,9 +1,8 @@
 -- The product `mul` is that of a commutative ring of characteristic 2 with xor, on the numbers below 2 ^ suc n.
 use Rattle.std.specs.Prelude.{◌≡◌}
 use Rattle.std.proofs.Math.Path.{refl, sym, ap, ap₂}
-use Rattle.std.proofs.Common.{◌∙◌, not-suc-le-zero, le_of_suc-le-suc, mod-lt, one-mul, le_of_lt, arith}
+use Rattle.std.proofs.Common.{◌∙◌, not-suc-le-zero, le_of_suc-le-suc, mod-lt, one-mul, le_of_lt, arith, ℕ, zero, suc, ◌*◌, ◌/◌, ◌%◌, ◌^◌, ◌≤◌, ◌<◌}
 use mathlib.Core.HLevel.{Σ_prop_path}
-use Prim.Native.Nat.{ℕ, zero, suc, ◌*◌, ◌/◌, ◌%◌, ◌^◌, ◌≤◌, ◌<◌}
 use Rattle.std.proofs.Math.Nat.{pow-suc, zero-mul, mod-eq_of_lt, div-eq_of_lt, mul-div_cancel, mul-mod_left, suc-le-suc_iff}
 use Rattle.std.proofs.Math.Bridge.{le_prop}
 use Rattle.std.proofs.Math.Pow.{pow_pos, pow-lt}

@@ -1,9 +1,8 @@
 -- Counting the places where a value is zero, as a search does; and an error put together from values at listed places.
 use Rattle.std.specs.Prelude.{◌≡◌, ◌≢◌}
 use Rattle.std.proofs.Math.Path.{refl, ap}
-use Rattle.std.proofs.Common.{sym, ◌∙◌, not-suc-le-zero, le_refl, arith}
+use Rattle.std.proofs.Common.{sym, ◌∙◌, not-suc-le-zero, le_refl, arith, ℕ, zero, suc, ◌<◌}
 use Rattle.std.proofs.Math.Logic.{ite, if_pos, if_neg}
-use Prim.Native.Nat.{ℕ, zero, suc, ◌<◌}
 use Rattle.std.proofs.Math.Decide.{ℕ_discrete}
 use Rattle.algebra.specs.Ring.{Field}
 use Rattle.algebra.specs.Series.{zeros}

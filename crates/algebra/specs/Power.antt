@@ -1,10 +1,8 @@
 -- Powers of an element of a ring: by squaring, and what its order is a multiple of.
 use Rattle.std.specs.Prelude.{◌≡◌, ◌≢◌, Bool, true, not, ◌&&◌, T}
 use Rattle.std.proofs.Math.Path.{refl, sym, ap, ap₂}
-use Rattle.std.proofs.Common.{◌∙◌, subst, not-suc-le-zero, le_of_suc-le-suc, mul-suc, mul-zero, div-add-mod', mul_comm, mod-lt, zero-lt-suc}
-use Prim.Native.Nat.{ℕ, zero, suc, ◌+◌, ◌*◌, ◌/◌, ◌%◌, ◌^◌, ◌<◌}
+use Rattle.std.proofs.Common.{◌∙◌, subst, not-suc-le-zero, le_of_suc-le-suc, mul-suc, mul-zero, div-add-mod', mul_comm, mod-lt, zero-lt-suc, ℕ, zero, suc, ◌+◌, ◌*◌, ◌/◌, ◌%◌, ◌^◌, ◌<◌, arith}
 use Rattle.std.proofs.Math.Nat.{pow-suc}
-use native.Mathlib.Omega.{arith}
 use Rattle.std.proofs.Math.Arith.{lt-one}
 use Rattle.std.proofs.Math.Dec.{T_not}
 use Rattle.std.specs.Float.Ieee.Fits.{and_l, and_r}

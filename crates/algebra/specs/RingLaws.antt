@@ -1,8 +1,7 @@
 -- What holds in every ring of characteristic 2: exchanging terms, zero and one, squares; and inverses from Fermat's law.
 use Rattle.std.specs.Prelude.{◌≡◌, ◌≢◌, ◌⊎◌}
 use Rattle.std.proofs.Math.Path.{refl, sym, ap}
-use Rattle.std.proofs.Common.{ap₂, ◌∙◌, inl, inr}
-use Prim.Native.Nat.{ℕ, zero, suc}
+use Rattle.std.proofs.Common.{ap₂, ◌∙◌, inl, inr, ℕ, zero, suc}
 use Rattle.algebra.specs.Ring.{Ring}
 
 module _ {F : Type 0} (R : Ring F) where

@@ -1,8 +1,7 @@
 -- What holds of sequences over a ring: finite sums, powers, values, and the product of power series, `conv`, as a sum at the end.
 use Rattle.std.specs.Prelude.{◌≡◌}
 use Rattle.std.proofs.Math.Path.{refl, sym, ap, ap₂, fun_ext}
-use Rattle.std.proofs.Common.{◌∙◌, not-suc-le-zero, le_of_suc-le-suc, arith}
-use Prim.Native.Nat.{ℕ, zero, suc, ◌+◌, ◌-◌, ◌≤◌, ◌<◌}
+use Rattle.std.proofs.Common.{◌∙◌, not-suc-le-zero, le_of_suc-le-suc, arith, ℕ, zero, suc, ◌+◌, ◌-◌, ◌≤◌, ◌<◌}
 use Rattle.std.proofs.Math.Nat.{zero-add, suc-add, suc-sub-suc, sub-zero}
 use Rattle.std.proofs.Math.Decide.{le_ind}
 use Rattle.algebra.specs.Ring.{Ring}

@@ -1,9 +1,8 @@
 -- A register of length l with l different roots generates nothing but sums of l powers: sequences that are the syndromes of l errors.
 use Rattle.std.specs.Prelude.{◌≡◌, ◌≢◌}
 use Rattle.std.proofs.Math.Path.{sym, ap, ap₂}
-use Rattle.std.proofs.Common.{◌∙◌, not-suc-le-zero, le_refl, arith}
+use Rattle.std.proofs.Common.{◌∙◌, not-suc-le-zero, le_refl, arith, ℕ, zero, suc, ◌≤◌, ◌<◌}
 use Rattle.std.proofs.Math.Logic.{ite, if_pos, if_neg}
-use Prim.Native.Nat.{ℕ, zero, suc, ◌≤◌, ◌<◌}
 use Rattle.std.proofs.Math.Decide.{ℕ_discrete, dec_lt}
 use Rattle.algebra.specs.Ring.{Ring, Field}
 use Rattle.algebra.specs.RingLaws.{⊞-cancel, ⊞-swap, ⊞-self-l, ⊠-lc, ⊠-zero, one-⊠}

@@ -1,10 +1,8 @@
 -- The values of binary polynomials in a ring of characteristic 2; a polynomial that vanishes at all roots of a divisor is its multiple.
 use Rattle.std.specs.Prelude.{◌≡◌}
 use Rattle.std.proofs.Math.Path.{refl, sym, ap, ap₂}
-use Rattle.std.proofs.Common.{◌∙◌, not-suc-le-zero, le_of_suc-le-suc, mod-lt, zero-mul, one-mul, le_refl, mul-div_cancel, div-one}
-use Prim.Native.Nat.{ℕ, zero, suc, ◌+◌, ◌*◌, ◌/◌, ◌%◌, ◌^◌, ◌≤◌, ◌<◌}
+use Rattle.std.proofs.Common.{◌∙◌, not-suc-le-zero, le_of_suc-le-suc, mod-lt, zero-mul, one-mul, le_refl, mul-div_cancel, div-one, ℕ, zero, suc, ◌+◌, ◌*◌, ◌/◌, ◌%◌, ◌^◌, ◌≤◌, ◌<◌, arith}
 use Rattle.std.proofs.Math.Nat.{mul-mod_left}
-use native.Mathlib.Omega.{arith}
 use Rattle.std.proofs.Math.Arith.{lt-one}
 use Rattle.laws.specs.Xor.{⊕-half, ⊕-odd, two_cases, two_pos}
 use Rattle.laws.specs.Definitions.{◌⊕◌, clmul, rem}
