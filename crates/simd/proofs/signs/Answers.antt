@@ -6,7 +6,7 @@ use Rattle.simd.proofs.signs.Goals as goal
 
 pub loop-k-init : goal.loop-k-init
 loop-k-init c =
-    signs_start (var c.args.rows.now) c.args.s c.args.lanes c.args.at c.args.work.now _
+    signs_start (var c.args.rows.now) c.args.check.s c.args.check.lanes c.args.at c.args.work.now _
     (λ k q. get_or-replicate 16 k (pos 0) (pos 0) q)
 
 pub loop-k-preserved : goal.loop-k-preserved

@@ -4,4 +4,4 @@ use Rattle.simd.specs.Pass.{Signs}
 use Rattle.simd.proofs.signs.Given as goal
 
 abbrev pub invariant-loop-k : goal.invariant-loop-k
-invariant-loop-k l = Signs (var l.rows) l.s l.lanes l.at l.work l.k l.g
+invariant-loop-k l = Signs (var l.rows) l.check.s l.check.lanes l.at l.work l.k l.g
