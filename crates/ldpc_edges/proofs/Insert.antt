@@ -3,9 +3,7 @@
 -- In order: a bit put among ascending ones; ascending lists; a check's bits of a row ascend; one address more (`row_cons`).
 use Rattle.std.specs.Prelude.{◌≡◌, Bool, true, false, cond, eqb, ltb, length, get_or}
 use Rattle.std.proofs.Math.Path.{refl, sym, ap₂}
-use Rattle.std.proofs.Common.{ap, ◌∙◌, subst, arith, div-lt_iff_lt-mul, eqb-true, le-ltb, ltb-false}
-use mathlib.Core.List.{List, [], ◌∷◌, ◌++◌, append_assoc, append-nil}
-use Prim.Native.Nat.{ℕ, zero, suc, ◌+◌, ◌-◌, ◌*◌, ◌/◌, ◌%◌, ◌≤◌, ◌<◌}
+use Rattle.std.proofs.Common.{ap, ◌∙◌, subst, arith, div-lt_iff_lt-mul, eqb-true, le-ltb, ltb-false, List, [], ◌∷◌, ◌++◌, append_assoc, append-nil, ℕ, zero, suc, ◌+◌, ◌-◌, ◌*◌, ◌/◌, ◌%◌, ◌≤◌, ◌<◌}
 use Rattle.std.proofs.Math.Nat.{mod-lt, div-add-mod', add-mul-mod_self_right, add-mul-div_right}
 use Rattle.std.proofs.Math.Decide.{ℕ_discrete}
 use Rattle.std.proofs.lemmas.Bool.{eqb-false}

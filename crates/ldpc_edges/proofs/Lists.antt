@@ -2,10 +2,8 @@
 --
 -- In order: how long both parts are; where a check's list begins; the layout (`laid`).
 use Rattle.std.specs.Prelude.{◌≡◌, refl, ℕ, zero, suc, ◌+◌, ◌-◌, ◌≤◌, ◌<◌, drop}
-use Rattle.std.proofs.Common.{sym, ◌∙◌, add-one, drop_at}
+use Rattle.std.proofs.Common.{sym, ◌∙◌, add-one, drop_at, List, ◌++◌, append_assoc, arith}
 use Rattle.std.proofs.Math.Path.{ap, ap₂, subst}
-use mathlib.Core.List.{List, ◌++◌, append_assoc}
-use native.Mathlib.Omega.{arith}
 use Rattle.std.proofs.Math.ListN.{length, take, get_or, length-append, length-drop, get_or-append}
 use Rattle.std.proofs.Math.Seq.{drop-append-add, take-append_seam, take-append-le}
 use Rattle.std.proofs.lemmas.List.{drop-append-le}

@@ -1,10 +1,5 @@
 -- What each turn of the builder's loops does.
-use mathlib.Core.Path.{◌≡◌, refl, sym, ap, ap₂, ◌∙◌, subst}
-use mathlib.Core.List.{List, [], ◌∷◌, ◌++◌, append_assoc, append-nil}
-use Prim.Native.Nat.{ℕ, zero, suc, ◌+◌, ◌-◌, ◌*◌, ◌%◌, ◌≤◌, ◌<◌}
-use native.Mathlib.Omega.{arith}
-use native.Mathlib.Nat.{mod-lt, mul-le-mul}
-use lib.ListN.{length, length-take, length-drop}
+use Rattle.std.proofs.Common.{◌≡◌, refl, sym, ap, ap₂, ◌∙◌, subst, List, [], ◌∷◌, ◌++◌, append_assoc, append-nil, ℕ, zero, suc, ◌+◌, ◌-◌, ◌*◌, ◌%◌, ◌≤◌, ◌<◌, arith, mod-lt, mul-le-mul, length, length-take, length-drop}
 use Rattle.ldpc_edges.specs.Code.{Edge, edge, met, of_bits}
 use Rattle.ldpc_edges.specs.Inside.{Inside}
 use Rattle.ldpc_lists.specs.Build.{Lists, parts, Ready, put, put_all, put_all_append, put_bits_length, put_at_length, RoomForEdges, room_next, room_later, room_then}

@@ -1,8 +1,5 @@
 -- What each turn of the loop over the stairs does.
-use mathlib.Core.Path.{◌≡◌, refl, sym, ap, ap₂, ◌∙◌, subst}
-use mathlib.Core.List.{List, [], ◌∷◌, ◌++◌, append_assoc, append-nil}
-use Prim.Native.Nat.{ℕ, zero, suc, ◌+◌, ◌-◌, ◌≤◌, ◌<◌}
-use native.Mathlib.Omega.{arith}
+use Rattle.std.proofs.Common.{◌≡◌, refl, sym, ap, ap₂, ◌∙◌, subst, List, [], ◌∷◌, ◌++◌, append_assoc, append-nil, ℕ, zero, suc, ◌+◌, ◌-◌, ◌≤◌, ◌<◌, arith}
 use Rattle.ldpc_edges.specs.Code.{Edge, edge, stairs}
 use Rattle.ldpc_edges.specs.Count.{to_bits, to_stairs}
 use Rattle.ldpc_edges.specs.Inside.{Inside}

@@ -2,10 +2,7 @@
 use Rattle.ldpc_lists.proofs.Built.{bounds, lent, ends_ready, base_fits, stairs_ready, meets_ready, build_done}
 use Rattle.ldpc_shape.specs.Shape.{p_of, e_of}
 use Rattle.ldpc_shape.specs.declared.Sizes.{Sizes}
-use lib.ListN.{length}
-use Prim.Native.Nat.{suc, ◌+◌}
-use mathlib.Core.Path.{◌≡◌, ap}
-use native.Mathlib.Omega.{arith}
+use Rattle.std.proofs.Common.{length, suc, ◌+◌, ◌≡◌, ap, arith}
 use Rattle.ldpc_lists.proofs.build.Goals as goal
 
 pub overflow_cast-k : goal.overflow_cast-k

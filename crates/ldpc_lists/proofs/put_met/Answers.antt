@@ -1,16 +1,6 @@
-use Rattle.std.proofs.Common.{ap, ◌∙◌, arith}
-use Rattle.std.specs.Slice.Iter.{iter_rest}
-use Rattle.std.specs.Iterator.Adapters.{rev_source}
-use Rattle.ldpc_edges.specs.Code.{met}
-use Rattle.ldpc_lists.proofs.Loops.{fill_start, fill_end, met_ready, met_next, met_none}
+use Rattle.std.proofs.Common.{arith}
+use Rattle.ldpc_lists.proofs.Loops.{fill_end, met_ready, met_next, met_none}
 use Rattle.ldpc_lists.proofs.put_met.Goals as goal
-
-pub loop-a-init : goal.loop-a-init
-loop-a-init c =
-    fill_start c.args.checks c.args.base _ _ c.args.lists.now
-    (ap (λ z. met c.args.checks c.args.q c.args.m c.args.j (iter_rest (rev_source z))) c.into_iter-a-iterator.ensures.into_iter_gives
-    ∙ ap (λ z. met c.args.checks c.args.q c.args.m c.args.j (iter_rest z)) c.rev-a-items.ensures.source ∙ ap (met c.args.checks c.args.q c.args.m c.args.j) c.iter.ensures.rest)
-    c.requires.4
 
 pub put_one-requires : goal.put_one-requires
 put_one-requires c = (

@@ -1,10 +1,7 @@
-use Rattle.std.proofs.Common.{◌+◌, ◌-◌, refl, arith}
+use Rattle.std.proofs.Common.{◌+◌, ◌-◌, arith}
 use Rattle.ldpc_edges.proofs.Inside.{met_inside}
-use Rattle.ldpc_lists.proofs.Loops.{fill_start, fill_end, fill_room, fill_next, bits_step, bits_end}
+use Rattle.ldpc_lists.proofs.Loops.{fill_end, fill_room, fill_next, bits_step, bits_end}
 use Rattle.ldpc_lists.proofs.put_row.Goals as goal
-
-pub loop-j-init : goal.loop-j-init
-loop-j-init c = fill_start c.args.checks c.args.base _ _ c.args.lists.now refl c.requires.3
 
 pub put_met-requires : goal.put_met-requires
 put_met-requires c = (

@@ -1,10 +1,7 @@
-use Rattle.std.proofs.Common.{◌+◌, ◌-◌, refl, arith}
-use Rattle.ldpc_lists.proofs.Loops.{fill_start, fill_end, fill_room, fill_next}
+use Rattle.std.proofs.Common.{◌+◌, ◌-◌, arith}
+use Rattle.ldpc_lists.proofs.Loops.{fill_end, fill_room, fill_next}
 use Rattle.ldpc_lists.proofs.Stairs.{stairs_step, stairs_end, stair_inside, narrow}
 use Rattle.ldpc_lists.proofs.put_stairs.Goals as goal
-
-pub loop-c-init : goal.loop-c-init
-loop-c-init c = fill_start c.args.checks c.args.base _ _ c.args.lists.now refl c.requires.2
 
 pub put_stair-requires : goal.put_stair-requires
 put_stair-requires c = (
