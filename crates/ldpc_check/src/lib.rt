@@ -26,47 +26,54 @@ fn insert_bit(out: &mut [u32], n: usize, m: u32)
     out[n] = v;
 }
 
-// The bit of its row that an address joins to check c.
-fn bit_of(a: u16, q: u32, c: u32) -> u32
-    requires { (0 < q) × (c < 374 * q) × (q ≤ 120) }
-    ensures { (result ≡ place q c a) × (result < 374) }
-{
-    (c / q + GROUP_U32 - u32::from(a) / q % GROUP_U32) % GROUP_U32
+// Check c of a code whose P is 374 q.
+#[derive(Clone, Copy)]
+struct CheckAt {
+    q: u32,
+    c: u32,
+    ghost few: { q ≤ 120 },
+    ghost within: { c < 374 * q },
 }
 
-// The bits of a row at check c, ascending, in front; how many.
-fn check_row(out: &mut [u32], row: Row<'_>, q: u32, c: u32) -> usize
-    requires { (0 < q) × (c < 374 * q) × (q ≤ 120) × (length (found q c row.first row.addrs.now) ≤ length out.old) }
-    ensures { (result ≡ length (found q c row.entry.first row.entry.addrs.now))
-        × (out.new ≡ found q c row.entry.first row.entry.addrs.now ++ drop result out.old) }
-{
-    let l = (c % q) as usize;
-    let mut n = 0;
-    for &a in row.addrs.iter().rev() {
-        if ldpc_shape::residue(a, q) == l {
-            insert_bit(out, n, row.first + bit_of(a, q, c));
-            n += 1;
+impl CheckAt {
+    // The bit of its row that an address joins to the check.
+    fn bit_of(self, a: u16) -> u32
+        ensures { (result ≡ place self.q self.c a) × (result < 374) }
+    {
+        (self.c / self.q + GROUP_U32 - u32::from(a) / self.q % GROUP_U32) % GROUP_U32
+    }
+
+    // The check's bits of a row, ascending, in front; how many.
+    fn row(self, out: &mut [u32], row: Row<'_>) -> usize
+        requires { length (found self.q self.c row.first row.addrs.now) ≤ length out.old }
+        ensures { (result ≡ length (found self.q self.c row.entry.first row.entry.addrs.now))
+            × (out.new ≡ found self.q self.c row.entry.first row.entry.addrs.now ++ drop result out.old) }
+    {
+        let l = (self.c % self.q) as usize;
+        let mut n = 0;
+        for &a in row.addrs.iter().rev() {
+            if ldpc_shape::residue(a, self.q) == l {
+                insert_bit(out, n, row.first + self.bit_of(a));
+                n += 1;
+            }
         }
+        n
     }
-    n
-}
 
-// Those of all rows.
-fn check_rows(out: &mut [u32], lens: &[u32], addrs: &[u16], q: u32, c: u32) -> usize
-    requires { (c < 374 * q)
-        × (0 < q)
-        × (q ≤ 120)
-        × (length lens.now ≤ 119)
-        × (total lens.now ≡ length addrs.now)
-        × (length (all_of q c lens.now addrs.now) ≤ length out.old) }
-    ensures { (result ≡ length (all_of q c lens.now addrs.now))
-        × (out.new ≡ all_of q c lens.now addrs.now ++ drop result out.old) }
-{
-    let mut n = 0;
-    for row in Rows::new(lens, addrs) {
-        n += check_row(&mut out[n..], row, q, c);
+    // Those of all rows.
+    fn rows(self, out: &mut [u32], lens: &[u32], addrs: &[u16]) -> usize
+        requires { (length lens.now ≤ 119)
+            × (total lens.now ≡ length addrs.now)
+            × (length (all_of self.q self.c lens.now addrs.now) ≤ length out.old) }
+        ensures { (result ≡ length (all_of self.q self.c lens.now addrs.now))
+            × (out.new ≡ all_of self.q self.c lens.now addrs.now ++ drop result out.old) }
+    {
+        let mut n = 0;
+        for row in Rows::new(lens, addrs) {
+            n += self.row(&mut out[n..], row);
+        }
+        n
     }
-    n
 }
 
 // The parity bits of check c from place n on.
@@ -102,6 +109,7 @@ pub fn check_of(n: u32, lens: &[u32], addrs: &[u16], c: u32, out: &mut [u32]) ->
         × (out.new ≡ check n lens.now addrs.now c ++ drop result out.old) }
 {
     let Sizes { k, q, .. } = ldpc_shape::sizes_of(n, lens, addrs);
-    let d = check_rows(out, lens, addrs, q as u32, c);
+    let at = CheckAt { q: q as u32, c };
+    let d = at.rows(out, lens, addrs);
     put_stairs(out, d, k as u32, c)
 }
