@@ -2,7 +2,7 @@
 -- (must-fail/refused_run_clears_the_tally.edit).
 use Rattle.std.specs.Prelude.{Bool, List, ◌≡◌, ◌≢◌, refl, ℕ, ◌/◌, ℤ, length, Result, Ok, Err}
 use Rattle.std.proofs.Common.{sym, ◌∙◌, ap, subst, arith}
-use Rattle.refusal.specs.Number.{number_of, refusal_of}
+use Rattle.refusal.specs.Number.{number_of}
 use Rattle.refusal.specs.declared.Refusal.{Refusal}
 use Rattle.decoder_plan.specs.declared.Settings.{Settings}
 use Rattle.decoder_words.specs.Fields.{fields}

@@ -1,337 +1,207 @@
-// A case of vectors_run's input (compare/oracle/src/bin/run.rs): its numbers, the soft words that are made from its recipes, and what the lent slices
-// hold before a run and are asked for after it.
+// A case of vectors_run's input (compare/oracle/src/bin/run.rs): its numbers and its code, and the soft words that are made from its recipes.
 #![tactic(auto)]
 
-ghost use Rattle.std.specs.Prelude.{◌<◌, ◌≤◌};
+ghost use Rattle.std.specs.Prelude.{◌<◌, ◌≤◌, ◌*◌, IfSome, length};
 
-// How a soft word is made.
-#[derive(Clone, Copy)]
+use decoder_plan::{Limits, Part, Schedule, Settings};
+
+// A case. Numbers of several bytes stand lowest byte first.
+#[derive(Drop)]
+pub struct Case<'a> {
+    pub n: u32,
+    pub set: Settings,
+    // How many records there is room for, and how much is lent.
+    pub room: usize,
+    pub soft: usize,
+    pub out: usize,
+    pub work: usize,
+    pub lists: usize,
+    pub lens: &'a [[u8; 4]],
+    pub addrs: &'a [[u8; 2]],
+    // The words' bits before noise, and how each word is made of them.
+    pub bases: &'a [u8],
+    pub recipes: &'a [[u8; 12]],
+    // A bit for each of a word's `checks`, word for word: whether the word leaves it unsatisfied.
+    pub checks: usize,
+    pub maps: &'a [u8],
+}
+
+// So many parts of N bytes in front of the input, and what follows them.
+fn part<const N: usize>(input: &[u8], count: u32) -> Option<(&[[u8; N]], &[u8])>
+    requires { (0 < N) × (N ≤ 12) }
+    ensures { IfSome result (λ r. length r.1.now ≤ length input.now) }
+{
+    let size = (count as usize).checked_mul(N)?;
+    let (front, rest) = input.split_at_checked(size)?;
+    let (parts, _) = front.as_chunks();
+    Some((parts, rest))
+}
+
+impl<'a> Case<'a> {
+    // The case in front of the input, and the input behind it.
+    pub fn read(input: &'a [u8]) -> Option<(Case<'a>, &'a [u8])>
+        ensures { IfSome result (λ r. length r.1.now < length input.now) }
+    {
+        let (head, rest) = input.split_first_chunk::<80>()?;
+        let (numbers, _) = head.as_chunks();
+        let numbers = *numbers.first_chunk::<20>()?;
+        let [
+            n,
+            rows,
+            total,
+            soft,
+            lanes,
+            iterations,
+            layered,
+            step,
+            offset,
+            rounds,
+            first,
+            length,
+            out,
+            room,
+            work,
+            lists,
+            bases,
+            recipes,
+            maps,
+            checks,
+        ] = numbers.map(|b| u32::from_le_bytes(b));
+        let (lens, rest) = part(rest, rows)?;
+        let (addrs, rest) = part(rest, total)?;
+        let (bases, rest) = rest.split_at_checked(bases as usize)?;
+        let (recipes, rest) = part(rest, recipes)?;
+        let (maps, rest) = rest.split_at_checked(maps as usize)?;
+        let schedule = if layered == 1 {
+            Schedule::Layered(step)
+        } else {
+            Schedule::Sequential
+        };
+        let case = Case {
+            n,
+            set: Settings {
+                lanes,
+                limits: Limits { iterations, rounds },
+                schedule,
+                offset: below_zero((offset % 256) as u8),
+                part: Part { first, length },
+            },
+            room: room as usize,
+            soft: soft as usize,
+            out: out as usize,
+            work: work as usize,
+            lists: lists as usize,
+            lens,
+            addrs,
+            bases,
+            recipes,
+            checks: checks as usize,
+            maps,
+        };
+        Some((case, rest))
+    }
+}
+
+// 128 less.
+fn below_zero(x: u8) -> i8 {
+    (i16::from(x) - 128) as i8
+}
+
+// Bit i.
+pub fn bit(s: &[u8], i: usize) -> bool {
+    s.get(i / 8).is_some_and(|b| (*b >> (i % 8)) % 2 == 1)
+}
+
+// How a soft word is made: of the bits from `start` on, `a` from zero with noise up to `b`; of 256 values, chance turns `c` over, draws `d` afresh, and
+// makes `e` extreme.
+#[derive(Drop)]
 struct Recipe {
-    start: usize,
-    a: u64,
-    b: u64,
-    c: u64,
-    d: u64,
-    e: u64,
-    seed: u64,
+    start: u16,
+    a: u8,
+    b: u8,
+    c: u8,
+    d: u8,
+    e: u8,
+    seed: u32,
 }
 
-// Where the parts of a case start in the input, and the next case.
-#[derive(Clone, Copy)]
-pub struct Parts {
-    pub head: usize,
-    pub lens: usize,
-    pub addrs: usize,
-    pub bases: usize,
-    pub recipes: usize,
-    pub maps: usize,
-    pub end: usize,
-}
-
-fn wide(b: u8) -> u64
-    ensures { result < 256 }
-{
-    b as u64
-}
-
-// The byte at a place, 0 behind the end.
-fn byte(s: &[u8], at: usize) -> u64
-    ensures { result < 256 }
-{
-    if at < s.len() {
-        return wide(s[at]);
-    }
-    0
-}
-
-fn two(s: &[u8], at: usize) -> u64
-    ensures { result < 65536 }
-{
-    let i = at % 1000000;
-    byte(s, i) + 256 * byte(s, i + 1)
-}
-
-fn four(s: &[u8], at: usize) -> u64
-    ensures { result < 4294967296 }
-{
-    let i = at % 1000000;
-    two(s, i) + 65536 * two(s, i + 2)
-}
-
-// The i-th number of the case that starts at a place.
-pub fn number(input: &[u8], head: usize, i: usize) -> u32 {
-    four(input, head % 1000000 + i % 20 * 4) as u32
-}
-
-pub fn size(input: &[u8], head: usize, i: usize) -> usize
-    ensures { result < 4294967296 }
-{
-    four(input, head % 1000000 + i % 20 * 4) as usize
-}
-
-pub fn parts_at(input: &[u8], head: usize) -> Parts
-    requires { head < 1000000 }
-{
-    let lens = head + 80;
-    let addrs = lens + size(input, head, 1) * 4;
-    let bases = addrs + size(input, head, 2) * 2;
-    let recipes = bases + size(input, head, 16);
-    let maps = recipes + size(input, head, 17) * 12;
-    let end = maps + size(input, head, 18);
-    Parts {
-        head,
-        lens,
-        addrs,
-        bases,
-        recipes,
-        maps,
-        end,
+impl Recipe {
+    fn new(s: &[u8; 12]) -> Recipe {
+        let [start_low, start_high, a, b, c, d, e, _, s0, s1, s2, s3] = *s;
+        Recipe {
+            start: u16::from_le_bytes([start_low, start_high]),
+            a,
+            b,
+            c,
+            d,
+            e,
+            seed: u32::from_le_bytes([s0, s1, s2, s3]),
+        }
     }
 }
 
-// Bit i of those that start at a place.
-pub fn bit(s: &[u8], from: usize, i: usize) -> bool {
-    (byte(s, from % 1000000 + i / 8) >> (i % 8)) % 2 == 1
-}
-
-// v - 128, of a v below 256.
-pub fn signed(v: u64) -> i8 {
-    let x = v % 256;
-    if x < 128 {
-        return lane_math::sat_sub(lane_math::sat_sub(x as i8, 127), 1);
-    }
-    (x - 128) as i8
-}
-
+// The generator's next state.
 fn next(x: u64) -> u64
     ensures { result < 2147483648 }
 {
-    ((x % 2147483648) * 1103515245 + 12345) % 2147483648
+    (x % 2147483648 * 1103515245 + 12345) % 2147483648
 }
 
-fn draw(x: u64, m: u64) -> u64 {
-    if m == 0 {
-        return 0;
-    }
+// A draw below m from a state.
+fn draw(x: u64, m: u64) -> u64
+    requires { 0 < m }
+    ensures { result < m }
+{
     x / 65536 % m
 }
 
-// A value with its noise, 2048 more.
-fn noisy(bit: bool, r: Recipe, x: u64) -> u64
-    ensures { result < 4096 }
-{
-    let a = r.a % 256;
-    let b = r.b % 256;
-    let noise = draw(x, 2 * b + 1) % 512;
-    if bit {
-        return 2048 - a + noise - b;
-    }
-    2048 + a + noise - b
-}
+const EXTREME: [i8; 5] = [-128, -1, 0, 1, 127];
 
-// 128 more than the value that is 2048 less, clamped.
-fn clamp(v: u64) -> u64 {
-    if v < 1920 {
-        return 0;
-    }
-    if 2175 < v {
-        return 255;
-    }
-    v - 1920
-}
-
-// One of -128, -1, 0, 1, 127, 128 more.
-fn extreme(x: u64) -> u64 {
-    let which = draw(x, 5);
-    if which == 0 {
-        return 0;
-    }
-    if which == 4 {
-        return 255;
-    }
-    126 + which % 4
-}
-
-// The values that chance puts in the place of v, 128 more.
-fn replaced(v: u64, r: Recipe, x: u64) -> u64 {
-    let x4 = next(x);
-    let x5 = next(x4);
-    if draw(x5, 256) < r.e {
-        return extreme(next(x5));
-    }
-    if draw(x, 256) < r.d {
-        return draw(x4, 256);
-    }
-    clamp(v)
-}
-
-// A soft value from six states.
-fn value(bit: bool, r: Recipe, x: u64) -> i8 {
+// A soft value from six states, x the first.
+fn value(bit: bool, r: &Recipe, x: u64) -> i8 {
     let x1 = next(x);
     let x2 = next(x1);
-    let v = noisy(bit, r, x1);
-    if draw(x2, 256) < r.c {
-        return signed(replaced(4096 - v, r, next(x2)));
+    let x3 = next(x2);
+    let x4 = next(x3);
+    let x5 = next(x4);
+    if draw(x5, 256) < u64::from(r.e) {
+        return EXTREME[draw(next(x5), 5) as usize];
     }
-    signed(replaced(v, r, next(x2)))
+    if draw(x3, 256) < u64::from(r.d) {
+        let v = draw(x4, 256) as i16 - 128;
+        return v as i8;
+    }
+    let a = i16::from(r.a);
+    let noise = draw(x1, 2 * u64::from(r.b) + 1) as i16 - i16::from(r.b);
+    let v = if bit { noise - a } else { noise + a };
+    let v = if draw(x2, 256) < u64::from(r.c) {
+        -v
+    } else {
+        v
+    };
+    v.clamp(-128, 127) as i8
 }
 
-fn six(x: u64) -> u64
-    ensures { result < 2147483648 }
-{
-    next(next(next(next(next(next(x))))))
-}
-
-// The soft values of word w.
-fn make_word(word: &mut [i8], input: &[u8], bases: usize, r: Recipe, w: usize) {
-    let start = r.start % 65536;
-    let mut x = r.seed % 4294967296 + (w % 65536) as u64;
-    let mut i: usize = 0;
-    while i < word.len() {
-        word[i] = value(bit(input, bases, start + i % 65536), r, x);
-        x = six(x);
-        i += 1;
-    }
-}
-
-// The recipe at a place.
-fn recipe_at(s: &[u8], at: usize) -> Recipe {
-    let i = at % 1000000;
-    Recipe {
-        start: two(s, i) as usize,
-        a: byte(s, i + 2),
-        b: byte(s, i + 3),
-        c: byte(s, i + 4),
-        d: byte(s, i + 5),
-        e: byte(s, i + 6),
-        seed: four(s, i + 8),
-    }
-}
-
-// Every word of n values.
-pub fn make_words(
-    soft: &mut [i8],
-    n: usize,
-    input: &[u8],
-    bases: usize,
-    recipes: usize,
-    count: usize,
-) {
-    if count == 0 {
-        return;
-    }
-    if n == 0 {
-        return;
-    }
-    let mut at: usize = 0;
-    let mut w: usize = 0;
-    while n <= soft.len() - at {
-        let end = at + n;
-        let r = recipe_at(input, recipes % 1000000 + w % count % 1000 * 12);
-        make_word(&mut soft[at..end], input, bases, r, w);
-        at = end;
-        w += 1;
-    }
-}
-
-// What the slices hold before a run.
-pub fn fill_out(s: &mut [u8]) {
-    let mut i: usize = 0;
-    while i < s.len() {
-        s[i] = ((i % 251 * 7 + 13) % 251) as u8;
-        i += 1;
-    }
-}
-
-pub fn fill_work(s: &mut [i8]) {
-    let mut i: usize = 0;
-    while i < s.len() {
-        s[i] = 77;
-        i += 1;
-    }
-}
-
-pub fn fill_lists(s: &mut [u32]) {
-    let mut i: usize = 0;
-    while i < s.len() {
-        s[i] = 777777777;
-        i += 1;
-    }
-}
-
-// A sum over every byte and its place.
-pub fn sum(s: &[u8]) -> u64 {
-    let mut h: u64 = 0;
-    let mut i: usize = 0;
-    while i < s.len() {
-        h = (h * 16411 + wide(s[i]) + 1) % 281474976710597;
-        i += 1;
-    }
-    h
-}
-
-// How many zeros stand in front.
-pub fn zeros_work(s: &[i8]) -> usize {
-    let mut i: usize = 0;
-    while i < s.len() {
-        if s[i] != 0 {
-            break;
+// Word w.
+fn make_word(word: &mut [i8], bases: &[u8], r: &Recipe, w: usize) {
+    let mut x = u64::from(r.seed) + w as u64 % 65536;
+    for (i, v) in word.iter_mut().enumerate() {
+        *v = value(bit(bases, usize::from(r.start) + i), r, x);
+        for _ in 0..6 {
+            x = next(x);
         }
-        i += 1;
     }
-    i
 }
 
-pub fn zeros_lists(s: &[u32]) -> usize {
-    let mut i: usize = 0;
-    while i < s.len() {
-        if s[i] != 0 {
-            break;
+impl<'a> Case<'a> {
+    // Every word of n soft values; what is left over stays.
+    pub fn make_words(&self, soft: &mut [i8]) {
+        if self.n == 0 || self.recipes.is_empty() {
+            return;
         }
-        i += 1;
-    }
-    i
-}
-
-fn one_if(b: bool) -> u64
-    ensures { result ≤ 1 }
-{
-    if b { 1 } else { 0 }
-}
-
-// How many numbers from a place on are as they were.
-pub fn kept_work(s: &[i8], from: usize) -> u64 {
-    let mut kept: u64 = 0;
-    let mut i = from;
-    while i < s.len() {
-        kept += one_if(s[i] == 77);
-        i += 1;
-    }
-    kept
-}
-
-pub fn kept_lists(s: &[u32], from: usize) -> u64 {
-    let mut kept: u64 = 0;
-    let mut i = from;
-    while i < s.len() {
-        kept += one_if(s[i] == 777777777);
-        i += 1;
-    }
-    kept
-}
-
-pub fn unpack_lens(input: &[u8], from: usize, lens: &mut [u32]) {
-    let mut i: usize = 0;
-    while i < lens.len() {
-        lens[i] = four(input, from % 1000000 + i % 1000 * 4) as u32;
-        i += 1;
-    }
-}
-
-pub fn unpack_addrs(input: &[u8], from: usize, addrs: &mut [u16]) {
-    let mut i: usize = 0;
-    while i < addrs.len() {
-        addrs[i] = two(input, from % 1000000 + i % 1000 * 2) as u16;
-        i += 1;
+        for (w, word) in soft.chunks_exact_mut(self.n as usize).enumerate() {
+            let r = Recipe::new(&self.recipes[w % self.recipes.len()]);
+            make_word(word, self.bases, &r, w);
+        }
     }
 }
