@@ -1,8 +1,8 @@
 -- A polynomial of 31 digits at α, by xor and shifts: the sum of x and g, g α, g α^3, g α^12, where g is the quotient by α's polynomial.
 -- All of it is additive, so that its values at the powers of two, which are computed, decide. Assumes nothing.
 use Rattle.std.proofs.Common.{◌≡◌, refl, sym, ap, ap₂, ◌∙◌, ℕ, zero, suc, ◌*◌, ◌/◌, ◌%◌, ◌^◌, ◌<◌, not-suc-le-zero, le_of_suc-le-suc, le_of_lt, pow-suc, mod-eq_of_lt, arith, T, eqb, eqb→eq, ltb, ltb→lt, lit<, bit_and, bit_xor}
-use native.Mathlib.Nat.{div-eq_of_lt}
-use lib.Bits.{and_mask}
+use Rattle.std.proofs.Math.Nat.{div-eq_of_lt}
+use Rattle.std.proofs.lemmas.Nat.{and_mask}
 use Rattle.laws.specs.Xor.{⊕-zero, ⊕-div, ⊕-mod, ⊕-swap, span}
 use Rattle.laws.specs.Definitions.{◌⊕◌}
 use Rattle.laws.specs.Poly.{⊕-shift}

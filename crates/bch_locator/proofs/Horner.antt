@@ -1,6 +1,6 @@
 -- The remainder's value at the odd powers of α, from the top digit down in all lanes at once; the even powers by squares. Assumes nothing.
 use Rattle.std.proofs.Common.{◌≡◌, refl, sym, ap, ap₂, ◌∙◌, List, ℕ, zero, suc, ◌+◌, ◌-◌, ◌*◌, ◌/◌, ◌%◌, ◌^◌, ◌≤◌, ◌<◌, mod-lt, not-suc-le-zero, div-one, add-one, arith, bit_xor, bit_and, shr-shr, get_or, length, set, length-set, replicate, get_or-set_same, get_or-set_other}
-use native.Mathlib.Decide.{ℕ_discrete}
+use Rattle.std.proofs.Math.Decide.{ℕ_discrete}
 use Rattle.laws.specs.Xor.{⊕-lt, two_cases, two_pos}
 use Rattle.laws.specs.Definitions.{◌⊕◌}
 use Rattle.algebra.specs.RingLaws.{one-⊠, ⊠-zero, zero-⊞}

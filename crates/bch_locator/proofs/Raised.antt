@@ -1,8 +1,8 @@
 -- Lanes times powers of two are elements times powers of α. Assumes nothing.
 use Rattle.std.proofs.Common.{◌≡◌, sym, ap, ap₂, ◌∙◌, subst, List, ℕ, zero, suc, ◌+◌, ◌-◌, ◌*◌, ◌^◌, ◌≤◌, ◌<◌, pow-suc, mul_assoc, arith, T, eqb, eqb→eq, pow_mono, get_or, length}
-use native.Mathlib.Decide.{dec_lt}
-use lib.Bits.{xor_shifted}
-use lib.ListN.{get_or-eq_default}
+use Rattle.std.proofs.Math.Decide.{dec_lt}
+use Rattle.std.specs.Int.Bits.{xor_shifted}
+use Rattle.std.proofs.Math.ListN.{get_or-eq_default}
 use Rattle.laws.specs.Definitions.{◌⊕◌}
 use Rattle.laws.specs.Tests.{below, below_at}
 use Rattle.algebra.specs.Ring.{Ring}

@@ -1,8 +1,8 @@
 -- The search: lane i holds c (l - 1 - i) α^(p (i + 1)), so that c l and the lanes' sum are α^(p l) times the register at α^-p. Assumes nothing.
 use Rattle.std.proofs.Common.{◌≡◌, refl, sym, ap, ap₂, ◌∙◌, subst, ◌≢◌, List, ℕ, zero, suc, ◌+◌, ◌-◌, ◌*◌, ◌≤◌, ◌<◌, zero-mul, mul-zero, not-suc-le-zero, add-one, arith, bit_xor, get_or, length, set, replicate, get_or-set_other, [], ◌∷◌, ◌++◌}
 use Rattle.std.proofs.lemmas.List.{get_or_push, get_or_append_left, length_push}
-use native.Mathlib.Nat.{suc-sub-suc, sub-zero}
-use native.Mathlib.Decide.{ℕ_discrete, dec_lt}
+use Rattle.std.proofs.Math.Nat.{suc-sub-suc, sub-zero}
+use Rattle.std.proofs.Math.Decide.{ℕ_discrete, dec_lt}
 use Rattle.laws.specs.Definitions.{◌⊕◌}
 use Rattle.algebra.specs.Ring.{Ring}
 use Rattle.algebra.specs.RingLaws.{⊠-zero, ⊠-lc, ⊞-cancel, one-⊠}

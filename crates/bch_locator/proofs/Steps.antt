@@ -1,8 +1,8 @@
 -- The loops of `discrepancy` and `mend`, and what holds at the head of the loop of `shortest`, which each way through keeps. Assumes nothing.
 use Rattle.std.proofs.Common.{◌≡◌, refl, sym, ap, ap₂, ◌∙◌, subst, ◌≢◌, List, ℕ, zero, suc, ◌+◌, ◌-◌, ◌≤◌, ◌<◌, le_refl, add-one, arith, bit_xor, get_or, length, set, get_or-set_same, get_or-set_other}
-use mathlib.Core.Path.{fun_ext, transport}
-use native.Mathlib.Decide.{dec_lt, ℕ_discrete}
-use lib.ListN.{get_or-eq_default}
+use Rattle.std.proofs.Math.Path.{fun_ext, transport}
+use Rattle.std.proofs.Math.Decide.{dec_lt, ℕ_discrete}
+use Rattle.std.proofs.Math.ListN.{get_or-eq_default}
 use Rattle.laws.specs.Definitions.{◌⊕◌}
 use Rattle.algebra.specs.RingLaws.{⊠-zero}
 use Rattle.algebra.specs.Series.{conv}

@@ -3,11 +3,11 @@
 -- Laws on remainders turn what it shows into t(x) times x^e mod g, whatever e is.
 -- Assumes nothing.
 use Rattle.std.proofs.Common.{◌≡◌, refl, sym, ap, ap₂, ◌∙◌, subst, List, [], ◌∷◌, ◌++◌, map, ℕ, zero, suc, ◌+◌, ◌-◌, ◌*◌, ◌^◌, ◌≤◌, ◌<◌, not-suc-le-zero, le_of_suc-le-suc, le_of_lt, lt_of_lt_of_le, lt_of_not-le, le_refl, add_comm, zero-mul, one-mul, pow-suc, mul-div_cancel, add-zero, zero-add, add-suc, suc-add, arith, lit<, length, get_or, length-append, get_or-append-add, pow_mono, shl_lt}
-use native.Mathlib.Nat.{mul-mod_left, two-pow-succ}
-use native.Mathlib.Decide.{dec_le}
-use lib.Arith.{lt-one}
-use lib.ListN.{length-map, get_or-append}
-use lib.Pow.{pow-lt}
+use Rattle.std.proofs.Math.Nat.{mul-mod_left, two-pow-succ}
+use Rattle.std.proofs.Math.Decide.{dec_le}
+use Rattle.std.proofs.Math.Arith.{lt-one}
+use Rattle.std.proofs.Math.ListN.{length-map, get_or-append}
+use Rattle.std.proofs.Math.Pow.{pow-lt}
 use Rattle.laws.specs.Xor.{two_pos}
 use Rattle.laws.specs.Definitions.{◌⊕◌, rem, into, shifted}
 use Rattle.laws.specs.Poly.{rem_zero, rem_add, rem_digits, ⊕-join, ⊕-shift}

@@ -1,8 +1,8 @@
 -- Three words as one number: shifted by eight places, xored, and its top byte. `omega` takes no number of more than 38 digits, so 2 ^ 64 is a variable B in what it shows.
 -- Assumes nothing.
 use Rattle.std.proofs.Common.{◌≡◌, sym, ◌∙◌, ap, ap₂, subst, ℕ, ◌+◌, ◌*◌, ◌/◌, ◌%◌, ◌^◌, ◌<◌, mod-eq_of_lt, mod-lt, add_comm, lt_of_lt_of_le, arith, lit<, lit≤, bit_xor}
-use native.Mathlib.Nat.{mul-div-mul_right, mul-add-mod_self_right, div-div-eq-div-mul}
-use lib.Bits.{xor_shifted}
+use Rattle.std.proofs.Math.Nat.{mul-div-mul_right, mul-add-mod_self_right, div-div-eq-div-mul}
+use Rattle.std.specs.Int.Bits.{xor_shifted}
 use Rattle.bch_table.specs.Table.{word_of, times_power}
 use Rattle.laws.specs.Xor.{⊕-assoc, ⊕-comm, ⊕-split}
 use Rattle.laws.specs.Definitions.{◌⊕◌, rem}

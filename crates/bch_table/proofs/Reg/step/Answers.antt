@@ -1,7 +1,7 @@
 -- `bch_table::Reg::step` meets its contract: the three words, shifted and xored, are one number's.
 -- Assumes nothing.
 use Rattle.std.proofs.Common.{arith, ◌/◌, ◌^◌, bit_xor}
-use lib.Bits.{xor_lt}
+use Rattle.std.proofs.lemmas.Nat.{xor_lt}
 use Rattle.bch_table.proofs.Shift.{stepped, top_lt}
 use Rattle.bch_table.proofs.Registers.{register_at}
 use Rattle.bch_table.proofs.Reg.step.Goals as goal
