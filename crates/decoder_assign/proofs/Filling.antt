@@ -1,7 +1,5 @@
 -- Lane by lane, lowest first: no lane that has had its turn is empty while a word waits; up to what `Assigns` (specs/Assign.antt) says of it.
-use Rattle.std.specs.Prelude.{◌≡◌, ◌≢◌, Bool, true, false, List, ℕ, ◌+◌, ◌≤◌, ◌<◌, ℤ, length, get_or, set}
-use Rattle.std.proofs.Common.{sym, ◌∙◌, arith}
-use borrow.Author.Count.{below_more}
+use Rattle.std.proofs.Common.{◌≡◌, ◌≢◌, Bool, true, false, List, ℕ, ◌+◌, ◌≤◌, ◌<◌, ℤ, length, get_or, set, sym, ◌∙◌, arith, below_more}
 use Rattle.std.proofs.Math.Seq.{get_or-set_other}
 use Rattle.iteration.specs.Iteration.{Code}
 use Rattle.schedule.specs.Lanes.{any_held}

@@ -1,10 +1,8 @@
 -- The BCH part of a word: what its correction inside the word gives. Proofs, not specs, since a wrong `part_of` shall be refused for what it means
 -- (must-fail/bch_part_one_byte_on.edit) and not for these theorems.
-use Rattle.std.specs.Prelude.{◌≡◌, ◌≢◌, ◌↔◌, ◌⊎◌, ℕ, ◌+◌, ◌-◌, ◌≤◌, length, take, Result, Ok}
+use Rattle.std.proofs.Common.{◌≡◌, ◌≢◌, ◌↔◌, ◌⊎◌, ℕ, ◌+◌, ◌-◌, ◌≤◌, length, take, Result, Ok, ◌∙◌, arith, length-append, length-take, length-drop, drop-drop, drop_at, List, ◌++◌}
 use Rattle.std.proofs.Math.Path.{refl, sym, ap, subst}
-use Rattle.std.proofs.Common.{◌∙◌, arith, length-append, length-take, length-drop, drop-drop, drop_at}
 use Rattle.std.proofs.Math.Logic.{inl, inr}
-use mathlib.Core.List.{List, ◌++◌}
 use Rattle.std.proofs.Math.ListN.{drop}
 use Rattle.std.proofs.Math.Seq.{take_at}
 use Rattle.bch.specs.Distance.{distance}

@@ -1,9 +1,7 @@
 -- The bits that the LDPC step changed: from the bits that memory has (`changed_bits`), positions compared one after the other (`Comparing`), and what
 -- holds of their count.
-use Rattle.std.specs.Prelude.{◌≡◌, ℕ, suc, ◌+◌, ◌%◌, ◌≤◌, ◌<◌, length, get_or, drop}
+use Rattle.std.proofs.Common.{◌≡◌, ℕ, suc, ◌+◌, ◌%◌, ◌≤◌, ◌<◌, length, get_or, drop, List, [], ◌∷◌, arith, add-one, drop_of_length-le, drop-cons}
 use Rattle.std.proofs.Math.Path.{ap, ap₂}
-use mathlib.Core.List.{List, [], ◌∷◌}
-use Rattle.std.proofs.Common.{arith, add-one, drop_of_length-le, drop-cons}
 use Rattle.iteration.specs.Check.{Word}
 use Rattle.bch.specs.Distance.{distance}
 use Rattle.bch.specs.ExactLaws.{distance_self}

@@ -1,11 +1,7 @@
 -- The checks gone through one after the other: the verdict, the count and the named check.
-use Rattle.std.specs.Prelude.{◌≡◌, true, false, eqb}
+use Rattle.std.proofs.Common.{◌≡◌, true, false, eqb, sym, ◌∙◌, ℕ, zero, suc, ◌+◌, ◌-◌, ◌≤◌, ◌<◌, arith, eqb-true, eq-eqb, ne_eqb}
 use Rattle.std.proofs.Math.Path.{refl, ap}
-use Rattle.std.proofs.Common.{sym, ◌∙◌, subst}
-use Prim.Native.Nat.{ℕ, zero, suc, ◌+◌, ◌-◌, ◌≤◌, ◌<◌}
-use native.Mathlib.Omega.{arith}
-use Rattle.std.proofs.Math.Decide.{dec_lt}
-use borrow.Author.Tests.{eqb-true, eqb-false, eq-eqb, ne_eqb}
+use borrow.Author.Tests.{eqb-false}
 use Rattle.iteration.specs.Check.{Word}
 use Rattle.iteration.specs.Iteration.{Code, unsatisfied_count}
 use Rattle.iteration.specs.CountLaws.{unmet_le, unmet_step, unmet_few, counted_again, UnmetCounted}

@@ -1,10 +1,7 @@
 -- A run counts unsatisfied checks on values (iteration), `ldpc::syndrome_weight` on bytes (ldpc_edges). Both counts are the same: a word's unsatisfied
 -- checks are the syndrome weight of its hard decisions. So the run's checks are those that encoding meets.
-use Rattle.std.specs.Prelude.{◌≡◌, Bool, true, false, cond, List, [], ◌∷◌, ℤ, get_or, length, drop}
+use Rattle.std.proofs.Common.{◌≡◌, Bool, true, false, cond, List, [], ◌∷◌, ℤ, get_or, length, drop, sym, ap₂, ◌∙◌, append-nil, arith, add-one, get_or-take, get_or-drop, ℕ, zero, suc, ◌+◌, ◌-◌, ◌%◌, ◌≤◌, ◌<◌, eq-eqb}
 use Rattle.std.proofs.Math.Path.{refl, ap}
-use Rattle.std.proofs.Common.{sym, ap₂, ◌∙◌, append-nil, arith, add-one, get_or-take, get_or-drop}
-use Prim.Native.Nat.{ℕ, zero, suc, ◌+◌, ◌-◌, ◌%◌, ◌≤◌, ◌<◌}
-use borrow.Author.Tests.{eq-eqb}
 use Rattle.laws.specs.Definitions.{negative}
 use Rattle.iteration.specs.Check.{Word}
 use Rattle.iteration.specs.Iteration.{Code, hard, negatives, unsatisfied, unsatisfied_count}

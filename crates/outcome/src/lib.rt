@@ -15,7 +15,7 @@ use bch::Decoded;
 use decoder_plan::Part;
 use refusal::Refusal;
 
-// How many checks a word leaves unsatisfied, and one of them (0 if there is none).
+// How many checks a word leaves unsatisfied, and one of them: 0 if there is none, as the C interface has it in a record.
 #[derive(Drop)]
 pub struct Unmet {
     pub count: u32,
@@ -113,7 +113,7 @@ pub fn changed(soft: &[i8], bits: &[u8]) -> u32
     count
 }
 
-// The BCH result of a lost word.
+// The BCH result of a lost word: the C interface has one number in a record for count and loss.
 pub const LOST: u32 = 4294967295;
 
 // The number that stands for BCH's answer.
@@ -169,7 +169,7 @@ impl State {
     }
 }
 
-// Whether a state's number is a finished word's. (A record that a caller lends may hold any number.)
+// Whether a state is a finished word's: a number, since a record that a caller of the C interface lends may hold any.
 #[tactic(auto, unfolding(crate::specs::Outcome::is_finished))]
 pub fn is_finished(state: u32) -> bool
     ensures { result ≡ is_finished state }

@@ -2,11 +2,8 @@
 -- demand 3 speaks of memory. In order: finding a word among others; `Closing` from the first lane to the last; the run's own lanes and log.
 use Rattle.std.specs.Prelude.{◌≡◌, ◌≢◌, Bool, true, false, eqb, length, take, drop}
 use Rattle.std.proofs.Math.Path.{refl, ap}
-use Rattle.std.proofs.Common.{sym, ◌∙◌, add-one, eqb-true, eq-eqb, ne_eqb, length-append, length-drop, take-append-drop, take-suc, take_all}
+use Rattle.std.proofs.Common.{sym, ◌∙◌, add-one, eqb-true, eq-eqb, ne_eqb, length-append, length-drop, take-append-drop, take-suc, take_all, List, [], ◌∷◌, ◌++◌, append_assoc, ℕ, ◌+◌, ◌-◌, ◌≤◌, ◌<◌, arith}
 use Rattle.std.proofs.Math.Bool.{cond}
-use mathlib.Core.List.{List, [], ◌∷◌, ◌++◌, append_assoc}
-use Prim.Native.Nat.{ℕ, ◌+◌, ◌-◌, ◌≤◌, ◌<◌}
-use native.Mathlib.Omega.{arith}
 use Rattle.std.proofs.lemmas.Bool.{eqb-false}
 use Rattle.std.proofs.Math.ListN.{get_or}
 use Rattle.laws.specs.Choice.{by_bool, by_cond, same_self}

@@ -2,10 +2,8 @@
 -- a list of lanes; the same of arrays and memory, from a start (`Filling`) to an end (`Refilled`).
 use Rattle.std.specs.Prelude.{◌≡◌, ◌≢◌, Bool, true, false, length, get_or, drop}
 use Rattle.std.proofs.Math.Path.{refl, sym, ap, ap₂}
-use Rattle.std.proofs.Common.{◌∙◌, subst, add-one, arith, drop_of_length-le, drop-cons}
+use Rattle.std.proofs.Common.{◌∙◌, subst, add-one, arith, drop_of_length-le, drop-cons, List, [], ◌∷◌, ℕ, zero, suc, ◌+◌, ◌≤◌, ◌<◌}
 use Rattle.std.proofs.Math.Bool.{cond}
-use mathlib.Core.List.{List, [], ◌∷◌}
-use Prim.Native.Nat.{ℕ, zero, suc, ◌+◌, ◌≤◌, ◌<◌}
 use Rattle.std.proofs.Math.Decide.{dec_lt}
 use Rattle.std.proofs.Math.ListN.{set, length-set}
 use Rattle.laws.specs.Stores.{grown}

@@ -6,11 +6,8 @@
 -- and these are the rounds from the one before which a lane took it to the one in which it left (`held_between`).
 use Rattle.std.specs.Prelude.{◌≡◌, ◌↔◌, eqb}
 use Rattle.std.proofs.Math.Path.{refl, sym, ap}
-use Rattle.std.proofs.Common.{◌∙◌, subst, not-suc-le-zero}
-use mathlib.Core.List.{List, [], ◌∷◌, map}
-use Prim.Native.Nat.{ℕ, zero, suc, ◌+◌, ◌-◌, ◌*◌, ◌≤◌, ◌<◌}
+use Rattle.std.proofs.Common.{◌∙◌, subst, not-suc-le-zero, List, [], ◌∷◌, map, ℕ, zero, suc, ◌+◌, ◌-◌, ◌*◌, ◌≤◌, ◌<◌, arith}
 use Rattle.std.proofs.Math.Decide.{ℕ_discrete}
-use native.Mathlib.Omega.{arith}
 use Rattle.laws.specs.Choice.{same, by_cond}
 use Rattle.schedule.specs.Run.{Words, Lane, empty, holds, Left, Stock, State, Turn, Result, each, held, over, logged, load, fill, iterated, leave, refill, round, go, start, run}
 use Rattle.schedule.specs.Status.{Status, waiting, holding, done, spent, lane_words, log_words, all_words, status}

@@ -3,13 +3,10 @@
 -- that keeps the log (`Kept`); all of them together (`Stands`).
 use Rattle.std.specs.Prelude.{◌≡◌, ◌≢◌, Bool, cond, not, ◌||◌, length, get_or, set}
 use Rattle.std.proofs.Math.Path.{refl, ap, ap₂}
-use Rattle.std.proofs.Common.{sym, ◌∙◌, not-suc-le-zero, le_of_suc-le-suc, add-one, below_more, eqb-true, eq-eqb, ne_eqb, length-set, get_or-set_same, get_or-set_other, ext_get_or}
-use Rattle.std.proofs.Math.Bool.{true, false}
-use mathlib.Core.List.{List, [], ◌∷◌}
-use Prim.Native.Nat.{ℕ, zero, suc, ◌+◌, ◌-◌, ◌≤◌, ◌<◌}
+use Rattle.std.proofs.Common.{sym, ◌∙◌, not-suc-le-zero, le_of_suc-le-suc, add-one, below_more, eqb-true, ne_eqb, length-set, get_or-set_same, get_or-set_other, ext_get_or, List, [], ◌∷◌, ℕ, zero, suc, ◌+◌, ◌-◌, ◌≤◌, ◌<◌, arith}
+use Rattle.std.proofs.Math.Bool.{true, false, or-true, or-false}
 use Rattle.std.proofs.Math.Nat.{zero-add}
 use Rattle.std.proofs.Math.Decide.{ℕ_discrete}
-use native.Mathlib.Omega.{arith}
 use Rattle.std.proofs.lemmas.Bool.{eqb-false}
 use Rattle.std.proofs.Math.Dec.{eqb}
 use Rattle.std.proofs.lemmas.List.{set-get_or}
@@ -17,7 +14,7 @@ use Rattle.laws.specs.Choice.{or_left, or_right}
 use Rattle.laws.specs.Stores.{set_at}
 use Rattle.schedule.specs.Run.{Lane, empty, holds, Left, Stock, Turn, each, held, logged}
 use Rattle.schedule.specs.Status.{done, log_words, seek}
-use Rattle.schedule.specs.Lanes.{Setup, lane_of, table, row, rows, from, any_of, held_at, any_held, kept, Kept}
+use Rattle.schedule.specs.Lanes.{Setup, lane_of, table, row, rows, from, any_of, any_held, kept, Kept}
 
 module _ {X : Type 0} where
   pub length_table : (f : ℕ → Lane X) (a k : ℕ) → length (table f a k) ≡ k
@@ -143,20 +140,6 @@ any_not f zero k e q = absurd (omega (arith, q))
 any_not f (suc m) k e q =
     below_more (λ j. f j ≡ false) m (λ j r. any_not f m j (or_left (any_of f m) (f m) e) r) (or_right (any_of f m) (f m) e) k (omega (arith, q))
 
-or_true : (a : Bool) → true ≡ (a || true)
-or_true true = refl
-or_true false = refl
-
-or_false : (a : Bool) → a ≡ (a || false)
-or_false true = refl
-or_false false = refl
-
-pub any_some : (held : List ℕ) (l : ℕ) → get_or held l 0 ≢ 0 → true ≡ any_held held (l + 1)
-any_some held l n = any_again (held_at held) l (any_held held l) true true refl (sym (ap not (ne_eqb (get_or held l 0) 0 n))) (or_true (any_held held l))
-
-pub any_none : (held : List ℕ) (l : ℕ) (any : Bool) → get_or held l 0 ≡ 0 → any ≡ any_held held l → any ≡ any_held held (l + 1)
-any_none held l any z e = any_again (held_at held) l any false any e (sym (ap not (eq-eqb (get_or held l 0) 0 z))) (or_false any)
-
 pub any_is : {X : Type 0} (lanes : ℕ) (held' iters : List ℕ) (col : ℕ → X) → any_held held' lanes ≡ not (eqb (held (rows lanes held' iters col)) 0)
 unfolding any_of
 any_is zero held' iters col = unfold rows table held in refl
@@ -166,9 +149,9 @@ any_is (suc l) held' iters col = at (eqb (get_or held' l 0) 0) refl (any_is l he
         → (any_held held' l || not b) ≡ not (eqb (held (rows (suc l) held' iters col)) 0)
     at true e r =
         let same : held (rows l held' iters col) ≡ held (rows (suc l) held' iters col) = omega (arith, held_next held' iters col l, none_held (get_or held' l 0) (col l) (get_or iters l 0) (eqb-true _ 0 e)) in
-        sym (or_false (any_held held' l)) ∙ r ∙ ap (λ n. not (eqb n 0)) same
+        or-false (any_held held' l) ∙ r ∙ ap (λ n. not (eqb n 0)) same
     at false e r =
-        sym (or_true (any_held held' l))
+        or-true (any_held held' l)
         ∙ sym (ap not (ne_eqb (held (rows (suc l) held' iters col)) 0 (λ z. omega (arith, held_next held' iters col l, one_held (get_or held' l 0) (col l) (get_or iters l 0) (eqb-false _ 0 e)))))
 
 -- ---- memory that keeps the log

@@ -1,13 +1,10 @@
 -- The run as code does it: refill, test, a round, again. In order: what a round may rely on (`Safe`, `Ready`); what arrays and memory are at the
 -- end (`ResultStands`); before refilling (`Going`) and after it (`Pausing`), and the ways from one to the other and to the end.
 use Rattle.std.proofs.Math.Path.{◌≡◌, refl, sym, ap, ap₂, subst}
-use Rattle.std.proofs.Common.{◌∙◌, add-one}
+use Rattle.std.proofs.Common.{◌∙◌, add-one, List, [], ◌∷◌, map, ℕ, zero, suc, ◌+◌, ◌-◌, ◌≤◌, ◌<◌, arith, ltb-true, lt-ltb}
 use Rattle.std.specs.Prelude.{◌≢◌, Bool, true, not, ◌||◌, ltb, length, get_or, replicate}
 use Rattle.std.proofs.Math.Bool.{false, cond}
-use mathlib.Core.List.{List, [], ◌∷◌, map}
-use Prim.Native.Nat.{ℕ, zero, suc, ◌+◌, ◌-◌, ◌≤◌, ◌<◌}
-use native.Mathlib.Omega.{arith}
-use borrow.Author.Tests.{not-true, not-false, eqb-false, ltb-true, lt-ltb}
+use borrow.Author.Tests.{not-true, not-false, eqb-false}
 use Rattle.std.proofs.Math.Dec.{eqb}
 use Rattle.std.proofs.Math.ListN.{drop}
 use Rattle.std.proofs.lemmas.List.{length-replicate, get_or-replicate}

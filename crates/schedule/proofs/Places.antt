@@ -3,11 +3,8 @@
 -- word from facts of lanes and log (`by_status`); where a word is, by its status (`case_at`, `in_one_place`).
 use Rattle.std.specs.Prelude.{◌≡◌}
 use Rattle.std.proofs.Math.Path.{refl, sym, ap, ap₂, subst}
-use Rattle.std.proofs.Common.{◌∙◌, not-suc-le-zero, eqb-true}
+use Rattle.std.proofs.Common.{◌∙◌, not-suc-le-zero, eqb-true, List, [], ◌∷◌, ◌++◌, ℕ, ◌+◌, ◌*◌, ◌≤◌, max, arith}
 use Rattle.std.proofs.Math.Bool.{cond}
-use mathlib.Core.List.{List, [], ◌∷◌, ◌++◌}
-use Prim.Native.Nat.{ℕ, ◌+◌, ◌*◌, ◌≤◌, max}
-use native.Mathlib.Omega.{arith}
 use Rattle.std.proofs.Math.Dec.{eqb}
 use Rattle.laws.specs.Choice.{by_cond, by_bool, same_self, same_sym, same}
 use Rattle.schedule.specs.Run.{Lane, empty, holds, Left, State}

@@ -1,10 +1,8 @@
 -- Refilling with columns that are loaded later, in one pass (`Assigning`, `Assigned`).
 use Rattle.std.specs.Prelude.{◌≡◌, ◌≢◌, Bool, true, false, eqb, length, get_or}
 use Rattle.std.proofs.Math.Path.{refl, ap, ap₂}
-use Rattle.std.proofs.Common.{◌∙◌, subst, arith, eq-eqb, ne_eqb, get_or-set_same, get_or-set_other}
+use Rattle.std.proofs.Common.{◌∙◌, subst, arith, eq-eqb, ne_eqb, get_or-set_same, get_or-set_other, List, ℕ, zero, suc, ◌+◌, ◌-◌, ◌≤◌, ◌<◌}
 use Rattle.std.proofs.Math.Bool.{cond}
-use mathlib.Core.List.{List}
-use Prim.Native.Nat.{ℕ, zero, suc, ◌+◌, ◌-◌, ◌≤◌, ◌<◌}
 use Rattle.std.proofs.Math.ListN.{set, length-set}
 use Rattle.schedule.specs.Run.{Lane, holds, each, over, fill}
 use Rattle.schedule.specs.Lanes.{Setup, lane_of, rows, any_held, stock, Stands}

@@ -3,13 +3,10 @@
 -- (`Retired`); the second half lane by lane (`Leaving`): an empty lane, a word that stays, a word that leaves, the end.
 use Rattle.std.specs.Prelude.{◌≡◌, ◌≢◌, true, false, ltb, length, set}
 use Rattle.std.proofs.Math.Path.{refl, sym, ap, ap₂}
-use Rattle.std.proofs.Common.{◌∙◌, add-one, ltb-true, ltb-false, lt-ltb, le-ltb, get_or-set_same, get_or-set_other}
+use Rattle.std.proofs.Common.{◌∙◌, add-one, ltb-true, ltb-false, lt-ltb, le-ltb, get_or-set_same, get_or-set_other, List, ◌∷◌, map, ℕ, zero, suc, ◌+◌, ◌-◌, ◌≤◌, ◌<◌, arith}
 use Rattle.std.proofs.Math.Bool.{cond}
-use mathlib.Core.List.{List, ◌∷◌, map}
-use Prim.Native.Nat.{ℕ, zero, suc, ◌+◌, ◌-◌, ◌≤◌, ◌<◌}
 use Rattle.std.proofs.Math.Nat.{zero-add}
 use Rattle.std.proofs.Math.Decide.{ℕ_discrete}
-use native.Mathlib.Omega.{arith}
 use Rattle.std.proofs.Math.ListN.{get_or, length-set}
 use Rattle.laws.specs.Choice.{by_bool}
 use Rattle.schedule.specs.Run.{Words, Lane, empty, holds, Left, Stock, Turn, each, over, logged, iterated, leave}

@@ -2,13 +2,10 @@
 -- words of a state; a word in a lane is as alone (`Running`, `Testing`, `Ended`); sums through refilling and a round; the invariant `Inv`, through
 -- both; `Good`, what holds at the end (`run_good`). Not here: each word by itself (Places, Iterations).
 use Rattle.std.proofs.Math.Path.{◌≡◌, refl, sym, ap, subst}
-use Rattle.std.proofs.Common.{◌∙◌, not-suc-le-zero}
+use Rattle.std.proofs.Common.{◌∙◌, not-suc-le-zero, List, [], ◌∷◌, ◌++◌, map, append_assoc, ℕ, zero, suc, ◌+◌, ◌*◌, ◌≤◌, ◌<◌, arith, eqb-true, ltb-false}
 use Rattle.std.specs.Prelude.{true, false, eqb, ltb}
-use mathlib.Core.List.{List, [], ◌∷◌, ◌++◌, map, append_assoc}
-use Prim.Native.Nat.{ℕ, zero, suc, ◌+◌, ◌*◌, ◌≤◌, ◌<◌}
 use Rattle.std.proofs.Math.Nat.{mul-le-mul_left}
-use native.Mathlib.Omega.{arith}
-use borrow.Author.Tests.{eqb-true, eqb-false, ltb-false}
+use borrow.Author.Tests.{eqb-false}
 use Rattle.std.proofs.Math.ListN.{length-replicate, length-map}
 use Rattle.laws.specs.Choice.{by_cond}
 use Rattle.schedule.specs.Run.{Words, Lane, empty, holds, Stock, State, finished, each, held, over, fill, iterated, leave, refill, round, go, start, run}

@@ -3,10 +3,7 @@
 -- from its front, words just taken. Not here: from round to round (Rounds).
 use Rattle.std.specs.Prelude.{◌≡◌, true, false, length, replicate}
 use Rattle.std.proofs.Math.Path.{refl, sym, ap}
-use Rattle.std.proofs.Common.{◌∙◌}
-use mathlib.Core.List.{List, [], ◌∷◌, ◌++◌, map, append_assoc}
-use Prim.Native.Nat.{ℕ, zero, suc, ◌+◌}
-use native.Mathlib.Omega.{arith}
+use Rattle.std.proofs.Common.{◌∙◌, List, [], ◌∷◌, ◌++◌, map, append_assoc, ℕ, zero, suc, ◌+◌, arith}
 use Rattle.laws.specs.Choice.{by_cond}
 use Rattle.schedule.specs.Run.{Words, Lane, empty, holds, Left, Stock, Turn, each, held, over, logged, load, fill, iterated, leave}
 use Rattle.schedule.specs.Sums.{in_lane, in_lanes, in_log, in_queue, in_stock, one, Held, AllLanes, AllLog, Some}

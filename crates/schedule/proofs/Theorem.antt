@@ -4,11 +4,8 @@
 -- (Iterations).
 use Rattle.std.specs.Prelude.{◌≡◌, ◌↔◌, cond, ltb, get_or}
 use Rattle.std.proofs.Math.Path.{refl, sym, ap, subst}
-use Rattle.std.proofs.Common.{ap₂, ◌∙◌, not-suc-le-zero, zero-add, eq-eqb, ne_eqb, lt-ltb, le-ltb, ext_get_or}
-use mathlib.Core.List.{List, [], ◌∷◌, ◌++◌}
-use Prim.Native.Nat.{ℕ, zero, suc, ◌+◌, ◌-◌, ◌*◌, ◌≤◌, ◌<◌}
+use Rattle.std.proofs.Common.{ap₂, ◌∙◌, not-suc-le-zero, zero-add, eq-eqb, ne_eqb, lt-ltb, le-ltb, ext_get_or, List, [], ◌∷◌, ◌++◌, ℕ, zero, suc, ◌+◌, ◌-◌, ◌*◌, ◌≤◌, ◌<◌, arith}
 use Rattle.std.proofs.Math.Decide.{ℕ_discrete}
-use native.Mathlib.Omega.{arith}
 use Rattle.std.proofs.Math.ListN.{length, length-append}
 use Rattle.laws.specs.Choice.{by_cond, same_self, same}
 use Rattle.schedule.specs.Run.{counting, input_order}

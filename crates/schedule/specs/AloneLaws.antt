@@ -2,7 +2,7 @@
 -- is at it exactly if it is met or has had the limit (`end_test`), which is what a lane tests.
 use Rattle.std.specs.Prelude.{◌≡◌, ◌⊎◌, Bool}
 use Rattle.std.proofs.Math.Bool.{true, false}
-use Prim.Native.Nat.{ℕ, ◌≤◌, ◌<◌}
+use Rattle.std.proofs.Common.{ℕ, ◌≤◌, ◌<◌}
 use Rattle.schedule.specs.Alone.{after}
 
 module _ {X : Type 0} (begin : X) (iterate : X → X) (met : X → Bool) where

@@ -1,8 +1,7 @@
 -- After the last round: the words still held are written, lane by lane. Then memory says of each word what its status says (`memory_of`), and
 -- demand 3 speaks of memory. In order: finding a word among others; `Closing` from the first lane to the last; the run's own lanes and log.
 use Rattle.std.specs.Prelude.{◌≡◌, take}
-use mathlib.Core.List.{List, ◌++◌}
-use Prim.Native.Nat.{ℕ, ◌≤◌}
+use Rattle.std.proofs.Common.{List, ◌++◌, ℕ, ◌≤◌}
 use Rattle.schedule.specs.Run.{Lane, Left}
 use Rattle.schedule.specs.Status.{Status, waiting, holding, done, lane_words, log_words, seek}
 use Rattle.schedule.specs.WholeRun.{times}

@@ -5,8 +5,7 @@
 -- a finished one stays so (`waits_first`, `stays_finished`); its iterations are the rounds in which it is held (`iterations_are_rounds`),
 -- and these are the rounds from the one before which a lane took it to the one in which it left (`held_between`).
 use Rattle.std.specs.Prelude.{◌≡◌, ◌↔◌}
-use mathlib.Core.List.{List}
-use Prim.Native.Nat.{ℕ, zero, suc, ◌+◌, ◌≤◌, ◌<◌}
+use Rattle.std.proofs.Common.{List, ℕ, zero, suc, ◌+◌, ◌≤◌, ◌<◌}
 use Rattle.schedule.specs.Run.{Words, State, refill, round, start}
 use Rattle.schedule.specs.Status.{status}
 use Rattle.schedule.specs.WholeRun.{count, case}

@@ -3,8 +3,7 @@
 -- that keeps the log (`Kept`); all of them together (`Stands`).
 use Rattle.std.specs.Prelude.{◌≡◌, Bool, not, ◌||◌, length, get_or, take, drop}
 use Rattle.std.proofs.Math.Bool.{false}
-use mathlib.Core.List.{List, [], ◌∷◌, ◌++◌}
-use Prim.Native.Nat.{ℕ, zero, suc}
+use Rattle.std.proofs.Common.{List, [], ◌∷◌, ◌++◌, ℕ, zero, suc}
 use Rattle.std.proofs.Math.Dec.{eqb}
 use Rattle.schedule.specs.Run.{Words, Lane, empty, holds, Left, Stock, Turn, each, held}
 use Rattle.schedule.specs.Status.{Status, waiting, holding, done, log_words, seek}

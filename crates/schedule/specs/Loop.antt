@@ -3,8 +3,7 @@
 use Rattle.std.proofs.Math.Path.{◌≡◌}
 use Rattle.std.specs.Prelude.{◌≢◌, Bool, ltb, length, get_or}
 use Rattle.std.proofs.Math.Bool.{cond}
-use mathlib.Core.List.{List}
-use Prim.Native.Nat.{ℕ, zero, suc, ◌+◌, ◌-◌, ◌≤◌, ◌<◌}
+use Rattle.std.proofs.Common.{List, ℕ, zero, suc, ◌+◌, ◌-◌, ◌≤◌, ◌<◌}
 use Rattle.std.proofs.Math.Dec.{eqb}
 unfoldable pub use Rattle.schedule.specs.Run.{is_stopped}
 use Rattle.schedule.specs.Run.{Words, Lane, Left, Stock, State, finished, stopped, Result, held, round, go, run}

@@ -1,8 +1,7 @@
 -- Each word of a run is in one place. In order: sums and the largest over an order; sums over words with their status (`weigh`); in a list with the
 -- words of an order, each once, a word's status is what stands beside it (`only_found`, `sum_status`); the three parts of a state; facts of every
 -- word from facts of lanes and log (`by_status`); where a word is, by its status (`case_at`, `in_one_place`).
-use mathlib.Core.List.{List, [], ◌∷◌}
-use Prim.Native.Nat.{ℕ, ◌+◌}
+use Rattle.std.proofs.Common.{List, [], ◌∷◌, ℕ, ◌+◌}
 use Rattle.schedule.specs.Status.{Status, waiting, holding, done, spent}
 
 module _ {X : Type 0} where

@@ -3,8 +3,7 @@
 -- later, in one pass (`Assigning`, `Assigned`).
 use Rattle.std.specs.Prelude.{◌≡◌, Bool, eqb, length, get_or}
 use Rattle.std.proofs.Math.Bool.{cond}
-use mathlib.Core.List.{List}
-use Prim.Native.Nat.{ℕ, ◌-◌, ◌≤◌}
+use Rattle.std.proofs.Common.{List, ℕ, ◌-◌, ◌≤◌}
 use Rattle.schedule.specs.Run.{Lane, Left, Stock, Turn, each, fill}
 use Rattle.schedule.specs.Lanes.{Setup, rows, any_held, Kept, stock, Stands, Sized}
 

@@ -3,8 +3,7 @@
 -- (`Retired`); the second half lane by lane (`Leaving`): an empty lane, a word that stays, a word that leaves, the end.
 use Rattle.std.specs.Prelude.{◌≡◌, ltb}
 use Rattle.std.proofs.Math.Bool.{cond}
-use mathlib.Core.List.{List, map}
-use Prim.Native.Nat.{ℕ, suc, ◌≤◌}
+use Rattle.std.proofs.Common.{List, map, ℕ, suc, ◌≤◌}
 use Rattle.std.proofs.Math.ListN.{get_or}
 use Rattle.schedule.specs.Run.{Lane, Left, Stock, Turn, each, iterated, leave}
 use Rattle.schedule.specs.Lanes.{Setup, lane_of, table, row, rows, from, Kept, Sized}

@@ -3,8 +3,7 @@
 -- both; `Good`, what holds at the end (`run_good`). Not here: each word by itself (Places, Iterations).
 use Rattle.std.proofs.Math.Path.{◌≡◌}
 use Rattle.std.specs.Prelude.{cond, ltb, length}
-use mathlib.Core.List.{List, ◌++◌}
-use Prim.Native.Nat.{ℕ, suc, ◌+◌, ◌*◌, ◌≤◌, ◌<◌}
+use Rattle.std.proofs.Common.{List, ◌++◌, ℕ, suc, ◌+◌, ◌*◌, ◌≤◌, ◌<◌}
 use Rattle.schedule.specs.Run.{Words, Lane, State, finished, stopped, Result, held}
 use Rattle.schedule.specs.WholeRun.{after_alone, ends_alone}
 use Rattle.schedule.specs.Sums.{in_lanes, in_queue, in_log, in_stock, iterations_of, Held, AllLanes, AllLog, Some}

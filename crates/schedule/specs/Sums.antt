@@ -1,8 +1,7 @@
 -- What a turn for each lane keeps. In order: sums over the words in lanes, queue and log; facts of every lane and of the log; any turn (`each-..`);
 -- then of loading, of an iteration and of leaving: sums, facts that the test `over` decides, lanes full while a word waits, the queue handed out
 -- from its front, words just taken. Not here: from round to round (Rounds).
-use mathlib.Core.List.{List, [], ◌∷◌}
-use Prim.Native.Nat.{ℕ, ◌+◌}
+use Rattle.std.proofs.Common.{List, [], ◌∷◌, ℕ, ◌+◌}
 use Rattle.schedule.specs.Run.{Lane, empty, holds, Left, Stock}
 
 -- ---- sums over words: f w i for a word w that has had i iterations

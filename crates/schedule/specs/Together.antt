@@ -5,8 +5,7 @@
 -- which lane a word sits in (`Alike`); `same_run`; `same_status`.
 use Rattle.std.specs.Prelude.{◌≡◌, eqb}
 use Rattle.std.proofs.Math.Bool.{cond}
-use mathlib.Core.List.{List, [], ◌∷◌}
-use Prim.Native.Nat.{ℕ, zero, suc}
+use Rattle.std.proofs.Common.{List, [], ◌∷◌, ℕ, zero, suc}
 use Rattle.std.proofs.Math.ListN.{length}
 use Rattle.schedule.specs.Run.{Words, Lane, empty, holds, Left, Stock, State, Turn, finished, stopped, Result, each, held, leave, round, start}
 use Rattle.schedule.specs.Status.{Status, lane_words, log_words}

@@ -1,5 +1,5 @@
 -- `outcome::correct` meets its contract. Assumes nothing.
-use mathlib.Core.Path.{◌∙◌}
+use Rattle.std.proofs.Common.{◌∙◌}
 use Rattle.outcome.proofs.Corrected.{result_whole, corrected_whole}
 use Rattle.outcome.proofs.correct.Goals as goal
 
