@@ -22,14 +22,23 @@ fn put_one(lists: &mut [u32], base: usize, p: usize, m: u32)
     lists[base + s as usize] = m;
 }
 
+// How many checks a code has, and its q.
+#[derive(Clone, Copy)]
+struct Checks {
+    count: u32,
+    q: u32,
+    ghost some: { 0 < count },
+    ghost few: { q ≤ 120 },
+}
+
 // The edges of bit m, the j-th of its row.
-fn put_met(lists: &mut [u32], base: usize, row: &[u16], checks: u32, q: u32, m: u32, j: u32)
-    requires { (base ≤ length lists.old) × (0 < checks) × (j < 374) × (q ≤ 120) × RoomForEdges checks (met checks q m j row.now) (parts base lists.old) }
-    ensures { parts base lists.new ≡ put_all (met checks q m j row.now) (parts base lists.old) }
+fn put_met(lists: &mut [u32], base: usize, row: &[u16], of: Checks, m: u32, j: u32)
+    requires { (base ≤ length lists.old) × (j < 374) × RoomForEdges of.count (met of.count of.q m j row.now) (parts base lists.old) }
+    ensures { parts base lists.new ≡ put_all (met of.count of.q m j row.now) (parts base lists.old) }
 {
-    let s = j * q;
+    let s = j * of.q;
     for &a in row.iter().rev() {
-        put_one(lists, base, meets(a, s, checks), m);
+        put_one(lists, base, meets(a, s, of.count), m);
     }
 }
 
@@ -42,30 +51,26 @@ fn meets(a: u16, s: u32, checks: u32) -> usize
 }
 
 // The edges of a row.
-fn put_row(lists: &mut [u32], base: usize, row: Row<'_>, checks: u32, q: u32)
+fn put_row(lists: &mut [u32], base: usize, row: Row<'_>, of: Checks)
     requires { (base ≤ length lists.old)
-        × (0 < checks)
-        × (q ≤ 120)
-        × RoomForEdges checks (of_bits checks q 374 row.first 0 row.addrs.now) (parts base lists.old) }
-    ensures { parts base lists.new ≡ put_all (of_bits checks q 374 row.entry.first 0 row.entry.addrs.now) (parts base lists.old) }
+        × RoomForEdges of.count (of_bits of.count of.q 374 row.first 0 row.addrs.now) (parts base lists.old) }
+    ensures { parts base lists.new ≡ put_all (of_bits of.count of.q 374 row.entry.first 0 row.entry.addrs.now) (parts base lists.old) }
 {
     for j in (0..GROUP_U32).rev() {
-        put_met(lists, base, row.addrs, checks, q, row.first + j, j);
+        put_met(lists, base, row.addrs, of, row.first + j, j);
     }
 }
 
 // The edges of all rows.
-fn put_rows(lists: &mut [u32], base: usize, lens: &[u32], addrs: &[u16], checks: u32, q: u32)
+fn put_rows(lists: &mut [u32], base: usize, lens: &[u32], addrs: &[u16], of: Checks)
     requires { (base ≤ length lists.old)
-        × (0 < checks)
-        × (q ≤ 120)
         × (length lens.now ≤ 120)
         × (total lens.now ≡ length addrs.now)
-        × RoomForEdges checks (of_rows checks q 0 (rows_of lens.now addrs.now)) (parts base lists.old) }
-    ensures { parts base lists.new ≡ put_all (of_rows checks q 0 (rows_of lens.now addrs.now)) (parts base lists.old) }
+        × RoomForEdges of.count (of_rows of.count of.q 0 (rows_of lens.now addrs.now)) (parts base lists.old) }
+    ensures { parts base lists.new ≡ put_all (of_rows of.count of.q 0 (rows_of lens.now addrs.now)) (parts base lists.old) }
 {
     for row in Rows::new(lens, addrs).rev() {
-        put_row(lists, base, row, checks, q);
+        put_row(lists, base, row, of);
     }
 }
 
@@ -123,5 +128,9 @@ pub fn build(of: Sizes, lens: &[u32], addrs: &[u16], lists: &mut [u32])
     let counts = ldpc_shape::counts(addrs, q as u32);
     ends(lists, &counts, q, p);
     put_stairs(lists, base, k as u32, p);
-    put_rows(lists, base, lens, addrs, p as u32, q as u32);
+    let checks = Checks {
+        count: p as u32,
+        q: q as u32,
+    };
+    put_rows(lists, base, lens, addrs, checks);
 }

@@ -8,14 +8,14 @@ use Rattle.ldpc_lists.proofs.build.Goals as goal
 pub overflow_cast-k : goal.overflow_cast-k
 overflow_cast-k c = omega (arith, bounds _ _ _ c.requires.accepted.0 _ c.requires.accepted.1)
 
-pub overflow_cast-p : goal.overflow_cast-p
-overflow_cast-p c = omega (arith, bounds _ _ _ c.requires.accepted.0 _ c.requires.accepted.1)
+pub overflow_cast-checks : goal.overflow_cast-checks
+overflow_cast-checks c = omega (arith, bounds _ _ _ c.requires.accepted.0 _ c.requires.accepted.1)
 
 pub overflow_cast-q : goal.overflow_cast-q
 overflow_cast-q c = omega (arith, bounds _ _ _ c.requires.accepted.0 _ c.requires.accepted.1)
 
-pub overflow_cast-q-2 : goal.overflow_cast-q-2
-overflow_cast-q-2 c = omega (arith, bounds _ _ _ c.requires.accepted.0 _ c.requires.accepted.1)
+pub overflow_cast-checks-2 : goal.overflow_cast-checks-2
+overflow_cast-checks-2 c = omega (arith, bounds _ _ _ c.requires.accepted.0 _ c.requires.accepted.1)
 
 pub counts-counts-requires : goal.counts-counts-requires
 counts-counts-requires c =
@@ -39,16 +39,18 @@ put_stairs-requires c =
       stairs_ready _ _ _ c.requires.accepted.0 _ c.requires.accepted.1 c.counts-counts.result c.ends.new.lists c.counts-counts.ensures.below long c.ends.ensures.0 c.ends.ensures.1,
     )
 
+pub invariant_of-checks : goal.invariant_of-checks
+invariant_of-checks c =
+    let b = bounds _ _ _ c.requires.accepted.0 _ c.requires.accepted.1 in
+    record { some = b.p_pos; few = b.q_le }
+
 pub put_rows-requires : goal.put_rows-requires
 put_rows-requires c =
-    let b = bounds _ _ _ c.requires.accepted.0 _ c.requires.accepted.1 in
     let rows = lent _ _ _ c.requires.accepted.0 _ c.requires.accepted.1 in
     let p = ap (λ (z : Sizes). z.p) c.requires.accepted.1 in
     let e = ap (λ (z : Sizes). z.e) c.requires.accepted.1 in
     let long : length c.ends.new.lists ≡ suc (p_of c.args.of.n c.args.lens.now) + e_of c.args.of.n c.args.lens.now c.args.addrs.now = omega (arith, c.requires.size) in (
       omega (arith, base_fits _ _ _ c.requires.accepted.0 _ c.requires.accepted.1 c.counts-counts.result c.ends.new.lists c.counts-counts.ensures.below long c.ends.ensures.0 c.ends.ensures.1),
-      b.p_pos,
-      b.q_le,
       rows.2,
       rows.1,
       meets_ready _ _ _ c.requires.accepted.0 _ c.requires.accepted.1 c.counts-counts.result c.ends.new.lists c.counts-counts.ensures.below long c.ends.ensures.0 c.ends.ensures.1

@@ -5,4 +5,4 @@ use Rattle.ldpc_lists.proofs.put_row.Given as goal
 
 abbrev pub invariant-loop-j : goal.invariant-loop-j
 invariant-loop-j l =
-    Filling l.checks l.base (of_bits l.checks l.q l.j l.row.first 0 l.row.addrs.now) (of_bits l.checks l.q 374 l.row.first 0 l.row.addrs.now) l.initial.lists l.lists
+    Filling l.of.count l.base (of_bits l.of.count l.of.q l.j l.row.first 0 l.row.addrs.now) (of_bits l.of.count l.of.q 374 l.row.first 0 l.row.addrs.now) l.initial.lists l.lists

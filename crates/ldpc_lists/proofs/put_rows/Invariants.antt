@@ -8,4 +8,4 @@ use Rattle.ldpc_lists.proofs.put_rows.Given as goal
 
 abbrev pub invariant-loop-row : goal.invariant-loop-row
 invariant-loop-row l =
-    Filling l.checks l.base (left_edges l.checks l.q (rev_source l.row-iterator)) (of_rows l.checks l.q 0 (rows_of l.lens l.addrs)) l.initial.lists l.lists
+    Filling l.of.count l.base (left_edges l.of.count l.of.q (rev_source l.row-iterator)) (of_rows l.of.count l.of.q 0 (rows_of l.lens l.addrs)) l.initial.lists l.lists
