@@ -1,16 +1,7 @@
 -- Sums modulo 2: a row turned, the addresses of a row, all rows; the bits of the checks of one residue.
-use mathlib.Core.Path.{◌≡◌, refl, sym, ap, ap₂, ◌∙◌, subst}
-use mathlib.Core.Bool.{cond}
-use mathlib.Core.List.{List, ◌++◌}
-use Prim.Native.Nat.{ℕ, zero, suc, ◌+◌, ◌-◌, ◌/◌, ◌%◌, ◌≤◌, ◌<◌}
-use native.Mathlib.Omega.{arith}
-use native.Mathlib.Numerals.{add-one}
+use Rattle.std.proofs.Common.{◌≡◌, refl, sym, ap, ap₂, ◌∙◌, subst, cond, List, ◌++◌, ℕ, zero, suc, ◌+◌, ◌-◌, ◌/◌, ◌%◌, ◌≤◌, ◌<◌, arith, add-one, eq-eqb, ne_eqb, bit_xor, eqb, length, take, drop, get_or, length-take, length-drop, length-append, drop_of_length-le, drop-cons, get_or-take, get_or-drop, get_or-append-add, length-take-le}
 use native.Mathlib.Decide.{dec_lt}
-use borrow.Author.Tests.{eq-eqb, ne_eqb}
-use lib.Bits.{bit_xor}
-use lib.Dec.{eqb}
-use lib.ListN.{length, take, drop, get_or, length-take, length-drop, length-append, get_or-append, drop_of_length-le}
-use lib.Seq.{drop-cons, get_or-take, get_or-drop, get_or-append-add, length-take-le}
+use lib.ListN.{get_or-append}
 use Rattle.laws.specs.Modulo.{xor_parity}
 use Rattle.laws.specs.Lists.{lent_from, back_from}
 use Rattle.ldpc_encode.specs.Sums.{xors, turned_bit, row_bit, AddedToSums, stair_bit}

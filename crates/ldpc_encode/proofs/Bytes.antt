@@ -1,12 +1,6 @@
 -- The byte loops: xor in place, the running sum, the copy.
-use mathlib.Core.Path.{◌≡◌, refl, sym, ap, ap₂, ◌∙◌}
-use mathlib.Core.List.{List, [], ◌∷◌, ◌++◌, append_assoc, append-nil}
-use Prim.Native.Nat.{ℕ, zero, suc, ◌+◌, ◌-◌, ◌≤◌, ◌<◌}
-use native.Mathlib.Omega.{arith}
-use native.Mathlib.Numerals.{add-one}
-use lib.Bits.{bit_xor}
-use lib.ListN.{length, take, drop, get_or, set, length-take, length-drop, length-append, take-append-drop}
-use lib.Seq.{take-suc, take-suc-set, take-length, take_all, take_at, drop-cons, drop-drop, drop-length, drop-set-lt}
+use Rattle.std.proofs.Common.{◌≡◌, refl, sym, ap, ap₂, ◌∙◌, List, [], ◌∷◌, ◌++◌, append_assoc, append-nil, ℕ, zero, suc, ◌+◌, ◌-◌, ◌≤◌, ◌<◌, arith, add-one, bit_xor, length, take, drop, get_or, set, length-take, length-drop, length-append, take-append-drop, take-suc, take-suc-set, take_all, take_at, drop-cons, drop-drop, drop-set-lt}
+use lib.Seq.{take-length, drop-length}
 use Rattle.laws.specs.Lists.{back_from}
 use Rattle.ldpc_edges.specs.Code.{sums}
 use Rattle.ldpc_encode.specs.Sums.{xors}

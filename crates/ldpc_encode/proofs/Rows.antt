@@ -1,14 +1,7 @@
 -- The rows' information bits at the checks l + jq.
-use mathlib.Core.Path.{◌≡◌, sym, ap, ap₂, ◌∙◌, subst}
-use mathlib.Core.Bool.{Bool, true, false, cond}
-use mathlib.Core.List.{List, [], ◌∷◌, ◌++◌}
-use Prim.Native.Nat.{ℕ, ◌+◌, ◌-◌, ◌*◌, ◌/◌, ◌%◌, ◌<◌}
-use native.Mathlib.Omega.{arith}
-use native.Mathlib.Nat.{mod-lt, mod-eq_of_lt, add-mul-div_right, add-mul-mod_self_right, div-eq_of_lt}
+use Rattle.std.proofs.Common.{◌≡◌, sym, ap, ap₂, ◌∙◌, subst, Bool, true, false, cond, List, [], ◌∷◌, ◌++◌, ℕ, ◌+◌, ◌-◌, ◌*◌, ◌/◌, ◌%◌, ◌<◌, arith, mod-lt, mod-eq_of_lt, eqb, length, take, drop, get_or, get_or-take, get_or-drop}
+use native.Mathlib.Nat.{add-mul-div_right, add-mul-mod_self_right, div-eq_of_lt}
 use lib.Arith.{digits_lt}
-use lib.Dec.{eqb}
-use lib.ListN.{length, take, drop, get_or}
-use lib.Seq.{get_or-take, get_or-drop}
 use Rattle.ldpc_edges.specs.Code.{Edge, of_bits, only, ones}
 use Rattle.ldpc_edges.proofs.Inside.{only_append}
 use Rattle.ldpc_edges.specs.Insert.{insert, place}

@@ -2,11 +2,7 @@
 use Rattle.ldpc_encode.proofs.Residue.{n_parts}
 use Rattle.ldpc_encode.proofs.Bytes.{rest_length, put_behind}
 use Rattle.ldpc_edges.specs.Code.{encode}
-use lib.ListN.{length}
-use Prim.Native.Nat.{◌≤◌}
-use mathlib.Core.List.{◌++◌}
-use mathlib.Core.Path.{ap, ◌∙◌}
-use native.Mathlib.Omega.{arith}
+use Rattle.std.proofs.Common.{length, ◌≤◌, ◌++◌, ap, ◌∙◌, arith}
 use Rattle.ldpc_encode.proofs.encode_of.Goals as goal
 
 pub copy-requires : goal.copy-requires

@@ -16,9 +16,6 @@ loop-row-init c =
       sums = info_start c.args.q c.args.l c.args.w.now it.result n.result c.args.lens.now c.args.addrs.now (replicate 374 0) it.ensures.into_iter_gives e.first e.lens e.addrs;
     }
 
-pub slice_bounds-add_row-end : goal.slice_bounds-add_row-end
-slice_bounds-add_row-end c = omega (arith, (below_first _ c.loop-row.row-iterator c.next.new.self c.in-Some.row c.in-Some.ensures.steps c.loop-row.invariant.within).0)
-
 pub loop-row-preserved : goal.loop-row-preserved
 loop-row-preserved c = record {
   long = c.add_row.ensures.long;

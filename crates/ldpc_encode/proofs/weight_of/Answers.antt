@@ -1,9 +1,6 @@
 use Rattle.ldpc_shape.specs.declared.Sizes.{Sizes}
 use Rattle.ldpc_encode.proofs.Residue.{adds, few, n_fits, s_fits, info_is, below_start, below_next, below_end, parity_part, parity_size}
-use Prim.Native.Nat.{ℕ, ◌%◌}
-use mathlib.Core.Path.{ap, ◌∙◌}
-use borrow.Author.Rules.{rules}
-use native.Mathlib.Omega.{arith}
+use Rattle.std.proofs.Common.{ℕ, ◌%◌, ap, ◌∙◌, rules, arith}
 use Rattle.ldpc_encode.proofs.weight_of.Goals as goal
 
 pub slice_bounds-p-start : goal.slice_bounds-p-start
