@@ -1,10 +1,9 @@
-mod Bytes
 mod Spell
-mod Smalls
-mod Orders
 mod Lists
+mod Smalls
+mod Schedules
+mod Lines
+mod RowLists
 mod Pairs
 mod Words
-mod RowLists
-mod Fill
 mod Whole

@@ -1,15 +1,7 @@
--- A word's pairs, read one by one.
-use mathlib.Core.Path.{◌≡◌, refl, sym, ap, ◌∙◌}
-use mathlib.Core.Bool.{Bool, false}
-use mathlib.Core.Logic.{◌⊎◌, inl, inr}
-use mathlib.Core.List.{List, [], ◌∷◌, ◌++◌}
-use Prim.Native.Nat.{ℕ, suc, ◌+◌, ◌≤◌, ◌<◌}
-use native.Mathlib.Numerals.{add-one}
-use native.Mathlib.Omega.{arith}
-use lib.IntN.{ℤ}
-use lib.ListN.{length, get_or}
-use Rattle.report_form.specs.Description.{Pair, Small, Ascending}
-use Rattle.report_form.specs.Form.{Found, Missing, Reads, reads_any, byte, Ongoing, Hopeless, going_start, going_more, going_missing, going_wrong, chain_reads, chain_missing}
+-- A word's pairs, read one by one and stored in the word.
+use Rattle.std.proofs.Common.{◌≡◌, refl, sym, ap, ap₂, ◌∙◌, ◌⊎◌, inl, inr, List, [], ◌∷◌, ◌++◌, ℕ, suc, ◌+◌, ◌≤◌, ◌<◌, ℤ, length, get_or, set, zero-add, add-one, arith}
+use Rattle.report_form.specs.Description.{Pair, Small, Ascending, stored}
+use Rattle.report_form.specs.Form.{Found, Missing, byte, found_as, Ongoing, Hopeless, going_start, going_more, going_missing, going_wrong, chain_found, chain_none, chain_ends}
 use Rattle.report_form.specs.Forms.{pair_form, pair_from, pairs, PairsWithin, pairs_within, pairs_apart, pair_chain}
 use Rattle.report_form.proofs.Lists.{list_ends, length_snoc}
 
@@ -30,27 +22,34 @@ rising_at : (n least : ℕ) (ps : List Pair) (p : Pair) (more : List Pair) → A
 rising_at n least [] p more r = (r.0, r.1)
 rising_at n least (q ∷ ps) p more r = rising_at n (suc q.position) ps p more r.3
 
+stored_snoc : (ps : List Pair) (p : Pair) (l : List ℤ) → stored 0 (ps ++ p ∷ []) l ≡ set (stored 0 ps l) p.position p.value
+stored_snoc [] p l = ap (λ (k : ℕ). set l k p.value) (zero-add p.position)
+stored_snoc (q ∷ ps) p l = stored_snoc ps p (set l (0 + q.position) q.value)
+
 -- what the loop knows of the pairs read so far
-pub record PairsSo (least count : ℕ) (ps : List Pair) : Type 0 where
+pub record PairsSo (word : List ℤ) (least count : ℕ) (word' : List ℤ) (ps : List Pair) : Type 0 where
   pub least_is : least_of 0 ps ≡ least
   pub count_is : length ps ≡ count
+  pub stores : word' ≡ stored 0 ps word
 
 module _ (n : ℕ) where
-  abbrev pub PairsSoFar : ℕ → ℕ → List ℕ → List ℕ → Type 0
-  PairsSoFar least count t now = Ongoing pairs (PairsWithin n) (pairs_within n) (PairsSo least count) t now
+  abbrev pub PairsSoFar : List ℤ → ℕ → ℕ → List ℤ → List ℕ → List ℕ → Type 0
+  PairsSoFar word least count word' t now = Ongoing pairs (PairsWithin n) (pairs_within n) (PairsSo word least count word') t now
 
   abbrev pub NoPairs : List ℕ → Type 0
   NoPairs t = Hopeless pairs (PairsWithin n) (pairs_within n) t
 
-  pub pairs_start : (t : List ℕ) → n ≤ 1122 → PairsSoFar 0 0 t t
-  pairs_start t h =
-      going_start pairs (PairsWithin n) (pairs_within n) (PairsSo 0 0) t (record { rising = tt; few = omega arith; short = h }) (record { least_is = refl; count_is = refl })
+  pub pairs_start : (word : List ℤ) (t : List ℕ) → n ≤ 1122 → PairsSoFar word 0 0 word t t
+  pairs_start word t h =
+      going_start pairs (PairsWithin n) (pairs_within n) (PairsSo word 0 0 word) t (record { rising = tt; few = omega arith; short = h })
+      (record { least_is = refl; count_is = refl; stores = refl })
 
-  pub pairs_again : (least count position : ℕ) (value : ℤ) (t now next : List ℕ) → PairsSoFar least count t now → Found pair_form (λ p. p ≡ pair_from position value) now next
-      → count < 64 → least ≤ position → position < n → PairsSoFar (position + 1) (count + 1) t next
-  pairs_again least count position value t now next o f c l h =
+  pub pairs_again : {word word' : List ℤ} {least count position : ℕ} {value z : ℤ} {t now next : List ℕ} → PairsSoFar word least count word' t now
+      → Found pair_form (λ p. p ≡ pair_from position value) now next → z ≡ value → count < 64 → least ≤ position → position < n
+      → PairsSoFar word (position + 1) (count + 1) (set word' position z) t next
+  pairs_again {word} {word'} {least} {count} {position} {value} {z} {t} {now} {next} o f e c l h =
       let at : f.it.position ≡ position = ap (λ (p : Pair). p.position) f.says in
-      going_more pairs (PairsWithin n) (pairs_within n) (PairsSo least count) (PairsSo (position + 1) (count + 1)) (λ p. p ≡ pair_from position value) t now next o f
+      going_more pairs (PairsWithin n) (pairs_within n) (PairsSo word least count word') (PairsSo word (position + 1) (count + 1) (set word' position z)) (λ p. p ≡ pair_from position value) t now next o f
       (record {
         rising = rising_snoc n 0 o.done f.it o.ok.rising (omega (arith, o.says.least_is, at)) (omega (arith, at)) f.within.value;
         few = omega (arith, length_snoc o.done f.it, o.says.count_is);
@@ -59,25 +58,30 @@ module _ (n : ℕ) where
       (record {
         least_is = least_snoc 0 o.done f.it ∙ ap suc at ∙ sym (add-one position);
         count_is = length_snoc o.done f.it ∙ ap suc o.says.count_is ∙ sym (add-one count);
+        stores = ap (set word' position) e
+            ∙ ap₂ (λ (l : List ℤ) (p : Pair). set l p.position p.value) o.says.stores (sym f.says)
+            ∙ sym (stored_snoc o.done f.it word);
       })
 
-  pub pairs_none : (least count : ℕ) (t now : List ℕ) → PairsSoFar least count t now → get_or now 0 0 ≡ 9 → Missing pair_form now → NoPairs t
-  pairs_none least count t now o h m = going_missing pairs (PairsWithin n) (pairs_within n) (PairsSo least count) t now o h m
+  pub pairs_none : {word word' : List ℤ} {least count : ℕ} {t now : List ℕ} → PairsSoFar word least count word' t now → get_or now 0 0 ≡ 9 → Missing pair_form now → Missing (pair_chain n) t
+  pairs_none {word} {word'} {least} {count} {t} {now} o h m =
+      chain_none pairs (PairsWithin n) (pairs_within n) (byte 10) (λ b r _ _. pairs_apart n r) (going_missing pairs (PairsWithin n) (pairs_within n) (PairsSo word least count word') t now o h m)
 
   -- a position that is not above the one before, or not below n
-  pub pairs_wrong : (least count position : ℕ) (value : ℤ) (t now next : List ℕ) → PairsSoFar least count t now → get_or now 0 0 ≡ 9
-      → Found pair_form (λ p. p ≡ pair_from position value) now next → (position < least) ⊎ (n ≤ position) → NoPairs t
-  pairs_wrong least count position value t now next o h f bad =
-      going_wrong pairs (PairsWithin n) (pairs_within n) (PairsSo least count) (λ p. p ≡ pair_from position value) t now next o h f (λ more w. go more (rising_at n 0 o.done f.it more w.rising) bad)
+  pub pairs_wrong : {word word' : List ℤ} {least count position : ℕ} {value : ℤ} {t now next : List ℕ} → PairsSoFar word least count word' t now → get_or now 0 0 ≡ 9
+      → Found pair_form (λ p. p ≡ pair_from position value) now next → (position < least) ⊎ (n ≤ position) → Missing (pair_chain n) t
+  pairs_wrong {word} {word'} {least} {count} {position} {value} {t} {now} {next} o h f bad =
+      chain_none pairs (PairsWithin n) (pairs_within n) (byte 10) (λ b r _ _. pairs_apart n r)
+      (going_wrong pairs (PairsWithin n) (pairs_within n) (PairsSo word least count word') (λ p. p ≡ pair_from position value) t now next o h f (λ more w. go more (rising_at n 0 o.done f.it more w.rising) bad))
     where
       go : (more : List Pair) → (least_of 0 o.done ≤ f.it.position) × (f.it.position < n) → (position < least) ⊎ (n ≤ position) → ⊥
       go more r (inl l) = omega (arith, r.0, o.says.least_is, ap (λ (p : Pair). p.position) f.says)
       go more r (inr l) = omega (arith, r.1, ap (λ (p : Pair). p.position) f.says)
 
-  pub pairs_hopeless : {l : Bool} {t u : List ℕ} → NoPairs t → Reads (pair_chain n) (λ _. Unit) l false t u
-  pairs_hopeless h = chain_missing pairs (PairsWithin n) (pairs_within n) (byte 10) (λ b r _ _. pairs_apart n r) h
+  pub pairs_unended : {word word' : List ℤ} {least count : ℕ} {t now : List ℕ} → PairsSoFar word least count word' t now → (64 ≤ count) ⊎ (get_or now 0 0 ≡ 9 → ⊥) → Missing (byte 10) now → Missing (pair_chain n) t
+  pairs_unended {word} {word'} {least} {count} {now = now} o e m =
+      chain_ends pairs (PairsWithin n) (pairs_within n) (byte 10) (λ b r _ _. pairs_apart n r) o (list_ends pairs (PairsWithin n) (pairs_within n) (PairsSo word least count word') 64 count (λ _ w. w.few) (λ _ s. s.count_is) now e) m
 
-  pub pairs_read : (least count : ℕ) {l l' : Bool} {t now next : List ℕ} → PairsSoFar least count t now → (64 ≤ count) ⊎ (get_or now 0 0 ≡ 9 → ⊥)
-      → Reads (byte 10) (λ _. Unit) l l' now next → Reads (pair_chain n) (λ _. Unit) l l' t next
-  pairs_read least count {now = now} o e h =
-      reads_any (chain_reads pairs (PairsWithin n) (pairs_within n) (byte 10) (λ b r _ _. pairs_apart n r) o (list_ends pairs (PairsWithin n) (pairs_within n) (PairsSo least count) 64 count (λ _ w. w.few) (λ _ s. s.count_is) now e) h)
+  pub pairs_found : {word word' : List ℤ} {least count : ℕ} {t now next : List ℕ} → PairsSoFar word least count word' t now → Found (byte 10) (λ _. Unit) now next
+      → Found (pair_chain n) (λ x. word' ≡ stored 0 x.0 word) t next
+  pairs_found o g = found_as (chain_found pairs (PairsWithin n) (pairs_within n) (byte 10) (λ b r _ _. pairs_apart n r) o g) (λ x s. s.0.stores)

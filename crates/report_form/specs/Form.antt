@@ -1,11 +1,12 @@
 -- A form: how values are written, which of them are within the limits, what may follow, and that a text begins with at most one of them.
 -- Reading one at a place of a text, several one after another, and a list of them.
 --
--- In order: a form, and what reading it answers (`Found`, `Missing`, `Reads`); one byte, and the end; a form behind another (`seq`); a form's values in
+-- In order: a form, and what reading it answers (`Found`, `Missing`, `Reads`, `Passes`); one byte, and the end; a form behind another (`seq`); a form's values in
 -- place of others (`via`); a text in front (`lead`); lists of a form's values (`Items`, `Listed`).
 --
 -- Not here: the report's own forms (Forms).
-use Rattle.std.specs.Prelude.{◌≡◌, refl, Bool, true, false, ◌⊎◌, List, [], ◌∷◌, ◌++◌, ℕ, T, get_or}
+use Rattle.std.specs.Prelude.{◌≡◌, refl, ◌⊎◌, List, [], ◌∷◌, ◌++◌, ℕ, Option, Some, None, MatchOption, get_or}
+use Rattle.std.specs.Borrow.{Bor}
 use Rattle.std.proofs.Common.{sym, ap, ap₂, ◌∙◌, subst, inl, inr, append_assoc, append-nil}
 use Rattle.report_form.specs.Description.{All, each}
 
@@ -27,72 +28,23 @@ pub record Found {A : Type 0} (F : Form A) (Says : A → Type 0) (t rest : List 
 pub record Missing {A : Type 0} (F : Form A) (t : List ℕ) : Type 0 where
   pub none : (a : A) (rest : List ℕ) → F.Within a → F.Follow rest → t ≡ F.write a ++ rest → ⊥
 
--- what a reader answers at t, l whether the text was right before it and l' whether it is behind it: where the text was wrong before, it stays
--- wrong; otherwise it is right exactly if t begins with one of the form
-pub record Reads {A : Type 0} (F : Form A) (Says : A → Type 0) (l l' : Bool) (t rest : List ℕ) : Type 0 where
-  pub right : l' ≡ true → l ≡ true
-  pub found : l' ≡ true → Found F Says t rest
-  pub missing : l ≡ true → l' ≡ false → Missing F t
+-- what a reader answers at t: nothing, and t begins with none of the form; or a value and the text behind it, and t begins with one of which Says
+-- tells
+abbrev pub Reads : {A V : Type 0} → Form A → (V → A → Type 0) → List ℕ → Option (V × Bor (List ℕ)) → Type 0
+Reads F Says t result = MatchOption result (Missing F t) (λ r. Found F (Says r.0) t r.1.now)
 
-pub right_wrong : true ≡ false → ⊥
-right_wrong e = subst T e tt
-
-not-both {ℓ} : {P : Type ℓ} {b : Bool} → b ≡ true → b ≡ false → P
-not-both r w = absurd (right_wrong (sym r ∙ w))
-
-module _ {A : Type 0} {F : Form A} {S : A → Type 0} where
-  pub reads_right : {l : Bool} {t u : List ℕ} → l ≡ true → Found F S t u → Reads F S l true t u
-  reads_right e f = record { right = λ _. e; found = λ _. f; missing = λ _ w. not-both refl w }
-
-  pub reads_wrong : {l : Bool} {t u : List ℕ} → l ≡ false → Reads F S l false t u
-  reads_wrong e = record { right = λ r. not-both r refl; found = λ r. not-both r refl; missing = λ r _. not-both r e }
-
-  pub reads_none : {l : Bool} {t u : List ℕ} → Missing F t → Reads F S l false t u
-  reads_none m = record { right = λ r. not-both r refl; found = λ r. not-both r refl; missing = λ _ _. m }
-
-  pub reads_one : {l : Bool} {t u : List ℕ} → Found F S t u → Reads F S l l t u
-  reads_one f = record { right = λ r. r; found = λ _. f; missing = λ r w. not-both r w }
-
-  -- a reader that is asked only where the text is right
-  pub reads_there : {l l' : Bool} {t u : List ℕ} → l ≡ true → Reads F S true l' t u → Reads F S l l' t u
-  reads_there e h = record { right = λ _. e; found = h.found; missing = λ _ w. h.missing refl w }
+-- the same of one that answers the text behind it alone
+abbrev pub Passes : {A : Type 0} → Form A → (A → Type 0) → List ℕ → Option (Bor (List ℕ)) → Type 0
+Passes F Says t result = MatchOption result (Missing F t) (λ rest. Found F Says t rest.now)
 
 -- what one reader found, or did not find, says what another does
-module _ {A B : Type 0} {F : Form A} {S : A → Type 0} {G : Form B} {S' : B → Type 0} {l l' : Bool} {t u v w : List ℕ} (h : Reads F S l l' t u) where
-  pub reads_found : l' ≡ true → (Found F S t u → Found G S' v w) → Reads G S' l true v w
-  reads_found e f = reads_right (h.right e) (f (h.found e))
+pub match_both : {R P P' : Type 0} {Q Q' : R → Type 0} (o : Option R) → MatchOption o P Q → (P → P') → ((r : R) → Q r → Q' r) → MatchOption o P' Q'
+match_both None h f g = f h
+match_both (Some r) h f g = g r h
 
-  pub reads_missing : l' ≡ false → (Missing F t → Missing G v) → Reads G S' l false v w
-  reads_missing e m = record { right = λ r. not-both r refl; found = λ r. not-both r refl; missing = λ r _. m (h.missing r e) }
-
-  -- what was found, where another form has none
-  pub reads_spoiled : l' ≡ true → (Found F S t u → Missing G v) → Reads G S' l false v w
-  reads_spoiled e f = reads_none (f (h.found e))
-
-  pub reads_both : (Found F S t u → Found G S' v w) → (Missing F t → Missing G v) → Reads G S' l l' v w
-  reads_both f m = record { right = h.right; found = λ r. f (h.found r); missing = λ r w. m (h.missing r w) }
-
-pub reads_as : {A : Type 0} {F : Form A} {a b : A} {l l' : Bool} {t u : List ℕ} → Reads F (λ x. x ≡ a) l l' t u → a ≡ b → Reads F (λ x. x ≡ b) l l' t u
-reads_as h e = reads_both h (λ f. record { it = f.it; says = f.says ∙ e; within = f.within; here = f.here; after = f.after }) (λ m. m)
-
--- where none was found, nothing is said
-pub reads_off : {A : Type 0} {F : Form A} {S S' : A → Type 0} {l : Bool} {t u v : List ℕ} → Reads F S l false t u → Reads F S' l false t v
-reads_off h = reads_missing h refl (λ m. m)
-
--- what was found, with nothing said of it
-pub reads_any : {A : Type 0} {F : Form A} {S : A → Type 0} {l l' : Bool} {t u : List ℕ} → Reads F S l l' t u → Reads F (λ _. Unit) l l' t u
-reads_any h = reads_both h (λ f. record { it = f.it; says = tt; within = f.within; here = f.here; after = f.after }) (λ m. m)
-
--- where a text begins with one, a reader finds that one
-pub must_find : {A : Type 0} {F : Form A} {S : A → Type 0} {l : Bool} {t u : List ℕ} → Reads F S true l t u → (a : A) (r : List ℕ) → F.Within a → F.Follow r → t ≡ F.write a ++ r → S a × (u ≡ r)
-must_find {F = F} {S} {l} {t} {u} h a r w f e = go l refl
-  where
-    go : (b : Bool) → l ≡ b → S a × (u ≡ r)
-    go true p =
-        let x = h.found p in
-        let (y, q) = F.unique x.it a u r x.within w x.after f (sym x.here ∙ e) in
-        (subst S y x.says, q)
-    go false p = absurd ((h.missing refl p).none a r w f e)
+-- what is found, with something else said of it
+pub found_as : {A : Type 0} {F : Form A} {S S' : A → Type 0} {t u : List ℕ} → Found F S t u → ((a : A) → S a → S' a) → Found F S' t u
+found_as f g = record { it = f.it; says = g f.it f.says; within = f.within; here = f.here; after = f.after }
 
 -- one byte
 pub one_byte : (b : ℕ) (r s : List ℕ) → b ∷ r ≡ b ∷ s → r ≡ s
@@ -137,33 +89,31 @@ module _ {A B : Type 0} (F : Form A) (G : Form B) (joins : (b : B) (r : List ℕ
         unique = seq_unique;
       }
 
-  pub seq_reads : {S : A → Type 0} {S' : B → Type 0} {l l' l'' : Bool} {t u v : List ℕ} → Reads F S l l' t u → Reads G S' l' l'' u v → Reads seq (λ x. S x.0 × S' x.1) l l'' t v
-  seq_reads {S} {S'} {l} {l'} {l''} {t} {u} {v} h g =
-      record { right = λ z. h.right (g.right z); found = λ z. both (h.found (g.right z)) (g.found z); missing = λ r z. go l' refl r z }
-    where
-      both : Found F S t u → Found G S' u v → Found seq (λ x. S x.0 × S' x.1) t v
-      both a b =
-          record {
-            it = (a.it, b.it);
-            says = (a.says, b.says);
-            within = (a.within, b.within);
-            here = a.here ∙ ap (λ (x : List ℕ). F.write a.it ++ x) b.here ∙ sym (append_assoc (F.write a.it) (G.write b.it) v);
-            after = b.after;
-          }
+  pub seq_found : {S : A → Type 0} {S' : B → Type 0} {t u v : List ℕ} → Found F S t u → Found G S' u v → Found seq (λ x. S x.0 × S' x.1) t v
+  seq_found {v = v} a b =
+      record {
+        it = (a.it, b.it);
+        says = (a.says, b.says);
+        within = (a.within, b.within);
+        here = a.here ∙ ap (λ (x : List ℕ). F.write a.it ++ x) b.here ∙ sym (append_assoc (F.write a.it) (G.write b.it) v);
+        after = b.after;
+      }
 
-      go : (b : Bool) → l' ≡ b → l ≡ true → l'' ≡ false → Missing seq t
-      go true p r z =
-          let a = h.found p in
-          record {
-            none = λ x r w f e.
-                let e' : F.write a.it ++ u ≡ F.write x.0 ++ (G.write x.1 ++ r) = sym a.here ∙ e ∙ append_assoc (F.write x.0) (G.write x.1) r in
-                let q = F.unique a.it x.0 u _ a.within w.0 a.after (joins x.1 r w.1 f) e' in
-                (g.missing p z).none x.1 r w.1 f q.1;
-          }
-      go false p r z =
-          record {
-            none = λ x r' w f e. (h.missing r p).none x.0 (G.write x.1 ++ r') w.0 (joins x.1 r' w.1 f) (e ∙ append_assoc (F.write x.0) (G.write x.1) r');
-          }
+  -- none of the first, or none of the second behind it
+  pub seq_none : {t : List ℕ} → Missing F t → Missing seq t
+  seq_none m =
+      record {
+        none = λ x r w f e. m.none x.0 (G.write x.1 ++ r) w.0 (joins x.1 r w.1 f) (e ∙ append_assoc (F.write x.0) (G.write x.1) r);
+      }
+
+  pub seq_missing : {S : A → Type 0} {t u : List ℕ} → Found F S t u → Missing G u → Missing seq t
+  seq_missing {u = u} a m =
+      record {
+        none = λ x r w f e.
+            let e' : F.write a.it ++ u ≡ F.write x.0 ++ (G.write x.1 ++ r) = sym a.here ∙ e ∙ append_assoc (F.write x.0) (G.write x.1) r in
+            let q = F.unique a.it x.0 u _ a.within w.0 a.after (joins x.1 r w.1 f) e' in
+            m.none x.1 r w.1 f q.1;
+      }
 
 -- values of another type that stand for the form's own, with the limits said otherwise
 pub record StandFor {A : Type 0} (F : Form A) (B : Type 0) : Type 1 where
@@ -185,17 +135,18 @@ module _ {A B : Type 0} (F : Form A) (m : StandFor F B) where
   abbrev pub via : Form B
   via = record { write = λ b. F.write (m.to b); Within = m.Within; Follow = F.Follow; unique = via_unique }
 
-  pub via_reads : {S : A → Type 0} {S' : B → Type 0} {l l' : Bool} {t u : List ℕ} → ((a : A) → S a → S' (m.from a)) → Reads F S l l' t u → Reads via S' l l' t u
-  via_reads {S} {S'} {l} {l'} {t} {u} s h =
-      reads_both h
-      (λ f. record {
+  pub via_found : {S : A → Type 0} {S' : B → Type 0} {t u : List ℕ} → ((a : A) → S a → S' (m.from a)) → Found F S t u → Found via S' t u
+  via_found {u = u} s f =
+      record {
         it = m.from f.it;
         says = s f.it f.says;
         within = m.from_within f.it f.within;
         here = f.here ∙ ap (λ (x : A). F.write x ++ u) (sym (m.to_from f.it));
         after = f.after;
-      })
-      (λ n. record { none = λ b r w f e. n.none (m.to b) r (m.to_within b w) f e })
+      }
+
+  pub via_missing : {t : List ℕ} → Missing F t → Missing via t
+  via_missing n = record { none = λ b r w f e. n.none (m.to b) r (m.to_within b w) f e }
 
 -- a byte before one
 module _ {A : Type 0} (b : ℕ) (F : Form A) where
@@ -205,11 +156,15 @@ module _ {A : Type 0} (b : ℕ) (F : Form A) where
   abbrev pub lead : Form A
   lead = record { write = λ a. b ∷ F.write a; Within = F.Within; Follow = F.Follow; unique = lead_unique }
 
-  pub lead_reads : {S : A → Type 0} {l l' l'' : Bool} {t u v : List ℕ} → Reads (byte b) (λ _. Unit) l l' t u → Reads F S l' l'' u v → Reads lead S l l'' t v
-  lead_reads h g =
-      reads_both (seq_reads (byte b) F (λ _ _ _ _. tt) h g)
-      (λ f. record { it = f.it.1; says = f.says.1; within = f.within.1; here = f.here; after = f.after })
-      (λ m. record { none = λ a r w f e. m.none (tt, a) r (tt, w) f e })
+  pub lead_found : {S : A → Type 0} {t u v : List ℕ} → Found (byte b) (λ _. Unit) t u → Found F S u v → Found lead S t v
+  lead_found {v = v} h f =
+      record { it = f.it; says = f.says; within = f.within; here = h.here ∙ ap (λ (x : List ℕ). b ∷ x) f.here; after = f.after }
+
+  pub lead_none : {t : List ℕ} → Missing (byte b) t → Missing lead t
+  lead_none m = record { none = λ a r w f e. m.none tt (F.write a ++ r) tt tt e }
+
+  pub lead_missing : {t u : List ℕ} → Found (byte b) (λ _. Unit) t u → Missing F u → Missing lead t
+  lead_missing {u = u} h m = record { none = λ a r w f e. m.none a r w f (one_byte b u (F.write a ++ r) (sym h.here ∙ e)) }
 
 -- items that begin with a byte of their own, and may follow one another
 pub record Items (A : Type 0) : Type 1 where
@@ -345,17 +300,9 @@ module _ {A : Type 0} (I : Items A) (Fine : List A → Type 0) (fine : (xs : Lis
   abbrev pub ListEnds : (List A → Type 0) → List ℕ → Type 0
   ListEnds Says now = (xs : List A) → Says xs → (get_or now 0 0 ≡ I.mark → ⊥) ⊎ ((x : A) (more : List A) → Fine (xs ++ x ∷ more) → ⊥)
 
-  -- what a reader of a list answers at t: the list ends at now, or there is none
-  pub record Listed (Says : List A → Type 0) (l l' : Bool) (t now : List ℕ) : Type 0 where
-    pub right : l' ≡ true → l ≡ true
-    pub found : l' ≡ true → Ongoing Says t now × ListEnds Says now
-    pub missing : l ≡ true → l' ≡ false → Hopeless t
-
-  pub listed : {Says : List A → Type 0} {l : Bool} {t now : List ℕ} → Ongoing Says t now → ListEnds Says now → Listed Says l l t now
-  listed o e = record { right = λ r. r; found = λ _. (o, e); missing = λ r w. not-both r w }
-
-  pub not_listed : {Says : List A → Type 0} {l : Bool} {t now : List ℕ} → Hopeless t → Listed Says l false t now
-  not_listed h = record { right = λ r. not-both r refl; found = λ r. not-both r refl; missing = λ _ _. h }
+  -- what a reader of a list answers at t: no list; or what it says of the items, and the list ends where the text behind begins
+  abbrev pub Listed : {V : Type 0} → (V → List A → Type 0) → List ℕ → Option (V × Bor (List ℕ)) → Type 0
+  Listed Says t result = MatchOption result (Hopeless t) (λ r. Ongoing (Says r.0) t r.1.now × ListEnds (Says r.0) r.1.now)
 
   -- a list, and then another form
   module _ {B : Type 0} (G : Form B) (apart : (b : B) (r : List ℕ) → G.Within b → G.Follow r → Apart (G.write b ++ r)) where
@@ -391,7 +338,7 @@ module _ {A : Type 0} (I : Items A) (Fine : List A → Type 0) (fine : (xs : Lis
           unique = chain_unique;
         }
 
-    chain_found : {Says : List A → Type 0} {S : B → Type 0} {t now next : List ℕ} → Ongoing Says t now → Found G S now next → Found chain (λ x. Says x.0 × S x.1) t next
+    pub chain_found : {Says : List A → Type 0} {S : B → Type 0} {t now next : List ℕ} → Ongoing Says t now → Found G S now next → Found chain (λ x. Says x.0 × S x.1) t next
     chain_found {next = next} o f =
         record {
           it = (o.done, f.it);
@@ -401,14 +348,14 @@ module _ {A : Type 0} (I : Items A) (Fine : List A → Type 0) (fine : (xs : Lis
           after = f.after;
         }
 
-    chain_none : {t : List ℕ} → Hopeless t → Missing chain t
+    pub chain_none : {t : List ℕ} → Hopeless t → Missing chain t
     chain_none h =
         record {
           none = λ x r w f e. h.none x.0 (G.write x.1 ++ r) w.0 (apart x.1 r w.1 f) (e ∙ append_assoc (each I.form.write x.0) (G.write x.1) r);
         }
 
     -- the list ends, and nothing of the other form is there
-    chain_ends : {Says : List A → Type 0} {t now : List ℕ} → Ongoing Says t now → ListEnds Says now → Missing G now → Missing chain t
+    pub chain_ends : {Says : List A → Type 0} {t now : List ℕ} → Ongoing Says t now → ListEnds Says now → Missing G now → Missing chain t
     chain_ends {now = now} o ends m =
         record {
           none = λ x r w f e.
@@ -422,20 +369,3 @@ module _ {A : Type 0} (I : Items A) (Fine : List A → Type 0) (fine : (xs : Lis
         go b r w f [] ok y z = m.none b r w f y
         go b r w f (a ∷ more) ok y (inl z) = z (ap (λ (l : List ℕ). get_or l 0 0) y ∙ item_here a more (G.write b ++ r))
         go b r w f (a ∷ more) ok y (inr z) = z a more ok
-
-    -- after the items read so far, the list ends
-    pub chain_reads : {Says : List A → Type 0} {S : B → Type 0} {l l' : Bool} {t now next : List ℕ} → Ongoing Says t now → ListEnds Says now → Reads G S l l' now next
-        → Reads chain (λ x. Says x.0 × S x.1) l l' t next
-    chain_reads o e h = record { right = h.right; found = λ r. chain_found o (h.found r); missing = λ r w. chain_ends o e (h.missing r w) }
-
-    pub chain_missing : {S : List A × B → Type 0} {l : Bool} {t u : List ℕ} → Hopeless t → Reads chain S l false t u
-    chain_missing h = reads_none (chain_none h)
-
-    pub listed_reads : {Says : List A → Type 0} {S : B → Type 0} {l l' l'' : Bool} {t now next : List ℕ} → Listed Says l l' t now → Reads G S l' l'' now next
-        → Reads chain (λ x. Says x.0 × S x.1) l l'' t next
-    listed_reads {l = l} {l'} {l''} {t} h g =
-        record { right = λ z. h.right (g.right z); found = λ z. chain_found (h.found (g.right z)).0 (g.found z); missing = λ r z. go l' refl r z }
-      where
-        go : (b : Bool) → l' ≡ b → l ≡ true → l'' ≡ false → Missing chain t
-        go true p r z = chain_ends (h.found p).0 (h.found p).1 (g.missing p z)
-        go false p r z = chain_none (h.missing r p)

@@ -1,14 +1,12 @@
 -- The forms of the report's text: numbers, the fields of a line, the lines.
 --
 -- In order: numbers; the schedule; a row; the settings; pairs, and a word; all rows, all words, what follows the first line, and the first line.
-use Rattle.std.specs.Prelude.{◌≡◌, refl, Bool, ◌&&◌, List, [], ◌∷◌, ◌++◌, map, ℕ, suc, ◌≤◌, ℤ, T, length, get_or, replicate}
+use Rattle.std.specs.Prelude.{◌≡◌, refl, ◌&&◌, List, [], ◌∷◌, ◌++◌, map, ℕ, suc, ◌≤◌, ℤ, T, length, get_or}
 use Rattle.std.proofs.Common.{sym, ap, ap₂, ◌∙◌, subst, arith, le-leb}
-use Rattle.std.proofs.lemmas.List.Edits.{sets}
 use Rattle.laws.specs.Decimal.{digit, Stops, decimal_unique, signed_unique, decimal_leads}
 use Rattle.laws.specs.Definitions.{decimal, signed}
 use Rattle.report_form.specs.Description.{flat, Schedule, sequential, layered, Settings, Pair, Word, All, Wide, Small, Ascending, RowWithin, ScheduleWithin, SettingsWithin, WordWithin, each, schedule_text}
-use Rattle.report_form.specs.Reading.{is_layered, step_of}
-use Rattle.report_form.specs.Form.{Form, Reads, byte, end, seq, seq_reads, StandFor, via, via_reads, lead, lead_reads, Items, Apart, chain}
+use Rattle.report_form.specs.Form.{Form, byte, end, seq, StandFor, via, lead, Items, Apart, chain}
 
 -- a number of at most `most`
 abbrev pub numbers : ℕ → Form ℕ
@@ -51,19 +49,6 @@ schedules =
       Follow = Stops;
       unique = λ a b r s _ _ p q e. schedule_unique a b r s p q e;
     }
-
-pub record OrderSo (steps : Bool) (step : ℕ) (s : Schedule) : Type 0 where
-  pub layered_is : is_layered s ≡ steps
-  pub step_is : step_of s ≡ step
-
-pub record SettingsSo (lanes iteration_limit : ℕ) (offset : ℤ) (steps : Bool) (step round_limit part_first part_length : ℕ) (s : Settings) : Type 0 where
-  pub lanes_is : s.lanes ≡ lanes
-  pub iteration_limit_is : s.iteration_limit ≡ iteration_limit
-  pub offset_is : s.offset ≡ offset
-  pub order_is : OrderSo steps step s.schedule
-  pub round_limit_is : s.round_limit ≡ round_limit
-  pub part_first_is : s.part_first ≡ part_first
-  pub part_length_is : s.part_length ≡ part_length
 
 abbrev pub address : ℕ → List ℕ
 address a = 9 ∷ decimal a
@@ -128,21 +113,6 @@ settings_fields =
 abbrev pub settings_form : Form Settings
 settings_form = via (lead 80 seven_fields) settings_fields
 
-pub settings_reads : {lanes iteration_limit step round_limit part_first part_length : ℕ} {offset : ℤ} {steps : Bool} {l₀ l₁ l₂ l₃ l₄ l₅ l₆ l₇ l₈ l₉ : Bool} {t₀ t₁ t₂ t₃ t₄ t₅ t₆ t₇ t₈ t₉ : List ℕ}
-    → Reads (byte 80) (λ _. Unit) l₀ l₁ t₀ t₁ → Reads (lead 9 (numbers 4)) (λ v. v ≡ lanes) l₁ l₂ t₁ t₂ → Reads wides (λ v. v ≡ iteration_limit) l₂ l₃ t₂ t₃
-    → Reads (lead 9 smalls) (λ v. v ≡ offset) l₃ l₄ t₃ t₄ → Reads (lead 9 schedules) (OrderSo steps step) l₄ l₅ t₄ t₅ → Reads wides (λ v. v ≡ round_limit) l₅ l₆ t₅ t₆
-    → Reads wides (λ v. v ≡ part_first) l₆ l₇ t₆ t₇ → Reads wides (λ v. v ≡ part_length) l₇ l₈ t₇ t₈ → Reads (byte 10) (λ _. Unit) l₈ l₉ t₈ t₉
-    → Reads settings_form (SettingsSo lanes iteration_limit offset steps step round_limit part_first part_length) l₀ l₉ t₀ t₉
-settings_reads p a b o s r f c e =
-    via_reads (lead 80 seven_fields) settings_fields
-    (λ x h. record { lanes_is = h.0; iteration_limit_is = h.1.0; offset_is = h.1.1.0; order_is = h.1.1.1.0; round_limit_is = h.1.1.1.1.0; part_first_is = h.1.1.1.1.1.0; part_length_is = h.1.1.1.1.1.1.0 })
-    (lead_reads 80 seven_fields p
-    (seq_reads (lead 9 (numbers 4)) six_fields (λ _ _ _ _. refl) a
-    (seq_reads wides five_fields (λ _ _ _ _. refl) b
-    (seq_reads (lead 9 smalls) four_fields (λ _ _ _ _. refl) o
-    (seq_reads (lead 9 schedules) three_fields (λ _ _ _ _. refl) s
-    (seq_reads wides two_fields (λ _ _ _ _. refl) r (seq_reads wides last_field (λ _ _ _ _. refl) f (seq_reads wides (byte 10) (λ _ _ _ _. refl) c e))))))))
-
 -- a pair, of a position of any size: which positions are right is said of a word's list of pairs
 pub record PairWithin (p : Pair) : Type 0 where
   pub position : Wide p.position
@@ -165,16 +135,6 @@ pair_form = via (seq wides (lead 9 smalls) (λ _ _ _ _. refl)) pair_fields
 
 abbrev pub pair_from : ℕ → ℤ → Pair
 pair_from position value = record { position = position; value = value }
-
-pub pair_reads : {position : ℕ} {value : ℤ} {l l' l'' : Bool} {t u v : List ℕ} → Reads wides (λ p. p ≡ position) l l' t u → Reads (lead 9 smalls) (λ z. z ≡ value) l' l'' u v
-    → Reads pair_form (λ p. p ≡ pair_from position value) l l'' t v
-pair_reads {position} {value} p z =
-    via_reads (seq wides (lead 9 smalls) (λ _ _ _ _. refl)) pair_fields
-    (λ x h. said x h.0 h.1)
-    (seq_reads wides (lead 9 smalls) (λ _ _ _ _. refl) p z)
-  where
-    said : (x : ℕ × ℤ) → x.0 ≡ position → x.1 ≡ value → pair_from x.0 x.1 ≡ pair_from position value
-    said x a b = λ i. pair_from (a i) (b i)
 
 abbrev pub pair_text : Pair → List ℕ
 pair_text p = 9 ∷ (decimal p.position ++ (9 ∷ signed p.value))
@@ -228,13 +188,6 @@ word_fields_stand n =
 abbrev pub word_form : ℕ → Form Word
 word_form n = via (lead 87 (word_fields n)) (word_fields_stand n)
 
-pub word_reads : {S : ℤ → Type 0} {S' : List Pair × Unit → Type 0} (n : ℕ) {l₀ l₁ l₂ l₃ : Bool} {t₀ t₁ t₂ t₃ : List ℕ} → Reads (byte 87) (λ _. Unit) l₀ l₁ t₀ t₁
-    → Reads (lead 9 smalls) S l₁ l₂ t₁ t₂ → Reads (pair_chain n) S' l₂ l₃ t₂ t₃ → Reads (word_form n) (λ _. Unit) l₀ l₃ t₀ t₃
-word_reads n w d p =
-    via_reads (lead 87 (word_fields n)) (word_fields_stand n)
-    (λ x h. tt)
-    (lead_reads 87 (word_fields n) w (seq_reads (lead 9 smalls) (pair_chain n) (λ b r _ _. pairs_stop b.0 r) d p))
-
 abbrev pub rows : Items (List ℕ)
 rows = record { form = row_form; mark = 82; body = λ row. each address row ++ 10 ∷ []; begins = λ a. refl; goes = λ u. tt }
 
@@ -245,12 +198,10 @@ pub record RowsWithin (rs : List (List ℕ)) : Type 0 where
 abbrev pub rows_within : (rs : List (List ℕ)) → RowsWithin rs → All RowWithin rs
 rows_within rs w = w.all
 
--- rows in arrays: their number and lengths, the number of their addresses and the addresses
-pub record RowsSo (count : ℕ) (lengths : List ℕ) (total : ℕ) (places : List ℕ) (rs : List (List ℕ)) : Type 0 where
-  pub count_is : length rs ≡ count
-  pub lengths_are : lengths ≡ sets (replicate 3 0) 0 (map length rs)
-  pub total_is : length (flat rs) ≡ total
-  pub places_are : places ≡ sets (replicate 12 0) 0 (flat rs)
+-- the rows' lengths, and their addresses one after another
+pub record RowsSo (lengths places : List ℕ) (rs : List (List ℕ)) : Type 0 where
+  pub lengths_are : lengths ≡ map length rs
+  pub places_are : places ≡ flat rs
 
 abbrev pub words : ℕ → Items Word
 words n =

@@ -1,211 +1,96 @@
-// Reads the report's text: a description within the limits, or refusal 1.
+// Reads the report's text: a description within the limits, or refusal 1. A reader is lent a text, and answers what the text begins with and
+// the text behind it, or nothing.
 #![tactic(auto)]
 
-ghost use Rattle.std.specs.Prelude.{◌≡◌, true, ◌&&◌, ℕ, ◌+◌, ◌-◌, ◌≤◌, ◌<◌, negsuc, ltb, eqb, List, length, drop, get_or, replicate};
+ghost use Rattle.std.specs.Prelude.{◌≡◌, [], ◌&&◌, ◌++◌, ◌∷◌, ◌+◌, ◌-◌, ◌≤◌, ◌<◌, negsuc, ltb, eqb, length, get_or, map, IfSome, IfNone, MatchOption};
 ghost use Rattle.std.proofs.lemmas.List.Edits.{sets};
-ghost use Rattle.laws.specs.Decimal.{digit};
-ghost use Rattle.report_form.specs.Description.{Pair, Word, stored, soft_word, soft_words};
-ghost use Rattle.report_form.specs.Reading.{refused_reading, RightReading};
-ghost use Rattle.report_form.specs.Places.{PairsAt, PairsHere, WordAt, WordHere, WordsAt, WordsHere, ReadAndStored};
-ghost use Rattle.report_form.specs.Form.{Reads, Listed, byte, lead};
-ghost use Rattle.report_form.specs.Forms.{numbers, smalls, row_form, rows, RowsWithin, rows_within, RowsSo, pair_chain, word_form, words_form, schedules, OrderSo, settings_form, SettingsSo, pair_form, pair_from};
+ghost use Rattle.arrayvec.specs.ArrayVec.{array_vec_len};
+ghost use Rattle.laws.specs.Decimal.{Stops};
+ghost use Rattle.laws.specs.Definitions.{decimal};
+ghost use Rattle.report_form.specs.Description.{flat, stored, soft_word, soft_words};
+ghost use Rattle.report_form.specs.Reading.{schedule_of, settings_of, NoText, OneDescription, RightReading};
+ghost use Rattle.report_form.specs.Form.{Missing, Found, Reads, Passes, Hopeless, Listed, byte, lead};
+ghost use Rattle.report_form.specs.Forms.{numbers, smalls, row_form, rows, RowsWithin, rows_within, RowsSo, pair_chain, word_form, words_form, schedules, settings_form, pair_form, pair_from, head_form};
 
-// What a text says: refusal 1 and zeros, or refusal 0 and a description's numbers: the code's n, the number of rows, their lengths and
-// their addresses one after another, the settings, and the number of words.
-#[derive(Clone, Copy)]
+use arrayvec::ArrayVec;
+use decoder_plan::{Limits, Part, Schedule, Settings};
+use refusal::Refusal;
+
+// A code's rows: their lengths, and their addresses one after another.
+#[derive(Drop)]
+pub struct Rows {
+    pub lengths: ArrayVec<u32, 3>,
+    pub addresses: ArrayVec<u16, 12>,
+}
+
+// What a text asks for: the code's n and its rows, the settings, and the number of words.
+#[derive(Drop)]
 pub struct Reading {
-    pub refusal: u32,
     pub n: u32,
-    pub rows: u32,
-    pub lengths: [u32; 3],
-    pub total: u32,
-    pub addresses: [u16; 12],
-    pub lanes: u32,
-    pub iteration_limit: u32,
-    pub offset: i8,
-    pub layered: bool,
-    pub step: u32,
-    pub round_limit: u32,
-    pub part_first: u32,
-    pub part_length: u32,
+    pub rows: Rows,
+    pub settings: Settings,
     pub words: u32,
 }
 
-// Whether the text is right so far, and the place behind what was read. A reader is told whether the text was right before it: once wrong,
-// it stays wrong, and the readers need no tests between them.
-#[derive(Drop)]
-pub struct Place {
-    pub right: bool,
-    pub next: usize,
-}
-
-// A number that was read: whether the text is right so far, the number and the place behind it.
-#[derive(Drop)]
-pub struct Number {
-    pub right: bool,
-    pub value: u32,
-    pub next: usize,
-}
-
-// A number of 8 bits with its sign that was read.
-#[derive(Drop)]
-struct Small {
-    right: bool,
-    value: i8,
-    next: usize,
-}
-
-// A schedule that was read: layered with a step, or sequential.
-#[derive(Drop)]
-struct Order {
-    right: bool,
-    layered: bool,
-    step: u32,
-    next: usize,
-}
-
-// A pair that was read.
-#[derive(Drop)]
-struct Entry {
-    right: bool,
-    position: u32,
-    value: i8,
-    next: usize,
-}
-
-// The settings that were read.
-#[derive(Drop)]
-struct Line {
-    right: bool,
-    lanes: u32,
-    iteration_limit: u32,
-    offset: i8,
-    layered: bool,
-    step: u32,
-    round_limit: u32,
-    part_first: u32,
-    part_length: u32,
-    next: usize,
-}
-
-// A row that was read, laid into the addresses of all rows.
-#[derive(Drop)]
-struct Row {
-    right: bool,
-    addresses: [u16; 12],
-    count: u32,
-    next: usize,
-}
-
-// The rows that were read: their number, their lengths and their addresses.
-#[derive(Drop)]
-struct Rows {
-    right: bool,
-    count: u32,
-    lengths: [u32; 3],
-    total: u32,
-    addresses: [u16; 12],
-    next: usize,
-}
-
-// The byte at a place, 0 behind the end.
-pub fn byte_at(text: &[u8], at: usize) -> u8
-    ensures { result ≡ get_or text.now at 0 }
+// One byte that has to stand at the front.
+pub fn expect(text: &[u8], b: u8) -> Option<&[u8]>
+    ensures { Passes (byte b) (λ _. Unit) text.now result }
 {
-    if at < text.len() { text[at] } else { 0 }
-}
-
-// Whether a digit stands at a place.
-fn digit_at(text: &[u8], at: usize) -> bool
-    ensures { result ≡ digit (get_or text.now at 0) }
-{
-    let b = byte_at(text, at);
-    if b < b'0' { false } else { b <= b'9' }
-}
-
-// One byte that has to stand at a place; 0, which `byte_at` gives behind the end, never does.
-pub fn expect(text: &[u8], right: bool, at: usize, b: u8) -> Place
-    requires { 0 < b }
-    ensures { Reads (byte b) (λ _. Unit) right result.right (drop at text.now) (drop result.next text.now) }
-{
-    if right {
-        if byte_at(text, at) == b {
-            return Place {
-                right: true,
-                next: at + 1,
-            };
-        }
-    }
-    Place {
-        right: false,
-        next: 0,
+    match text {
+        [first, rest @ ..] if *first == b => Some(rest),
+        _ => None,
     }
 }
 
-// The digits behind a first one that is not 0.
-fn read_digits(text: &[u8], at: usize, most: u32) -> Number
-    requires { (48 < get_or text.now at 0) × (get_or text.now at 0 ≤ 57) }
-    ensures { Reads (numbers most) (λ v. v ≡ result.value) true result.right (drop at text.now) (drop result.next text.now) }
+// The value of a digit at the front.
+fn read_digit(text: &[u8]) -> Option<(u32, &[u8])>
+    ensures none { IfNone result (Stops text.now) }
+    ensures some { IfSome result (λ r. (r.0 < 10) × (text.now ≡ (48 + r.0) ∷ r.1.now)) }
 {
-    let mut value: u64 = (byte_at(text, at) - b'0') as u64;
-    let mut i = at + 1;
-    while digit_at(text, i) {
-        if (most as u64) < value {
-            return Number {
-                right: false,
-                value: 0,
-                next: 0,
-            };
-        }
-        value = value * 10 + (byte_at(text, i) - b'0') as u64;
-        i += 1;
+    match text {
+        [first, rest @ ..] if first.is_ascii_digit() => Some((u32::from(*first - b'0'), rest)),
+        _ => None,
     }
-    if (most as u64) < value {
-        return Number {
-            right: false,
-            value: 0,
-            next: 0,
-        };
+}
+
+// The digits that go on from those of a number that is not 0.
+fn read_digits(first: u32, text: &[u8], most: u32) -> Option<(u32, &[u8])>
+    requires { 0 < first }
+    ensures { Reads (numbers most) (λ v x. x ≡ v) (decimal first ++ text.now) result }
+{
+    let mut value = first;
+    let mut rest = text;
+    while let Some((digit, after)) = read_digit(rest) {
+        value = value.checked_mul(10)?.checked_add(digit)?;
+        rest = after;
     }
-    Number {
-        right: true,
-        value: value as u32,
-        next: i,
+    if value <= most {
+        Some((value, rest))
+    } else {
+        None
     }
 }
 
 // A number of at most `most`, in decimal without a leading zero; no digit follows.
-pub fn read_number(text: &[u8], right: bool, at: usize, most: u32) -> Number
-    ensures { Reads (numbers most) (λ v. v ≡ result.value) right result.right (drop at text.now) (drop result.next text.now) }
+pub fn read_number(text: &[u8], most: u32) -> Option<(u32, &[u8])>
+    ensures { Reads (numbers most) (λ v x. x ≡ v) text.now result }
 {
-    if right {
-        if digit_at(text, at) {
-            if byte_at(text, at) != b'0' {
-                return read_digits(text, at, most);
-            }
-            let next = at + 1;
-            if !digit_at(text, next) {
-                return Number {
-                    right: true,
-                    value: 0,
-                    next,
-                };
-            }
-        }
+    let (first, rest) = read_digit(text)?;
+    if first != 0 {
+        return read_digits(first, rest, most);
     }
-    Number {
-        right: false,
-        value: 0,
-        next: 0,
+    match read_digit(rest) {
+        Some(_) => None,
+        None => Some((0, rest)),
     }
 }
 
 // A tab and a number of at most `most`.
-fn read_field(text: &[u8], right: bool, at: usize, most: u32) -> Number
-    ensures { Reads (lead 9 (numbers most)) (λ v. v ≡ result.value) right result.right (drop at text.now) (drop result.next text.now) }
+fn read_field(text: &[u8], most: u32) -> Option<(u32, &[u8])>
+    ensures { Reads (lead 9 (numbers most)) (λ v x. x ≡ v) text.now result }
 {
-    let tab = expect(text, right, at, b'\t');
-    read_number(text, tab.right, tab.next, most)
+    let text = expect(text, b'\t')?;
+    read_number(text, most)
 }
 
 // The number below 0 that many.
@@ -217,412 +102,221 @@ fn minus(value: u32) -> i8
 }
 
 // A number of 8 bits with its sign.
-fn read_small(text: &[u8], right: bool, at: usize) -> Small
-    ensures { Reads smalls (λ v. v ≡ result.value) right result.right (drop at text.now) (drop result.next text.now) }
+fn read_small(text: &[u8]) -> Option<(i8, &[u8])>
+    ensures { Reads smalls (λ v x. x ≡ v) text.now result }
 {
-    if byte_at(text, at) != b'-' {
-        let v = read_number(text, right, at, 127);
-        let value = v.value;
-        if v.right {
-            return Small {
-                right: true,
-                value: value as i8,
-                next: v.next,
-            };
+    match expect(text, b'-') {
+        None => {
+            let (value, rest) = read_number(text, 127)?;
+            Some((value as i8, rest))
         }
-    } else {
-        let m = read_number(text, right, at + 1, 128);
-        let value = m.value;
-        if m.right {
-            if value != 0 {
-                return Small {
-                    right: true,
-                    value: minus(value),
-                    next: m.next,
-                };
+        Some(rest) => {
+            let (value, rest) = read_number(rest, 128)?;
+            if value == 0 {
+                return None;
             }
+            Some((minus(value), rest))
         }
-    }
-    Small {
-        right: false,
-        value: 0,
-        next: 0,
     }
 }
 
 // A tab and a number of 8 bits with its sign.
-fn read_small_field(text: &[u8], right: bool, at: usize) -> Small
-    ensures { Reads (lead 9 smalls) (λ v. v ≡ result.value) right result.right (drop at text.now) (drop result.next text.now) }
+fn read_small_field(text: &[u8]) -> Option<(i8, &[u8])>
+    ensures { Reads (lead 9 smalls) (λ v x. x ≡ v) text.now result }
 {
-    let tab = expect(text, right, at, b'\t');
-    read_small(text, tab.right, tab.next)
+    let text = expect(text, b'\t')?;
+    read_small(text)
 }
 
 // `S` or a step.
-fn read_order(text: &[u8], right: bool, at: usize) -> Order
-    ensures { Reads schedules (OrderSo result.layered result.step) right result.right (drop at text.now) (drop result.next text.now) }
+fn read_schedule(text: &[u8]) -> Option<(Schedule, &[u8])>
+    ensures { Reads schedules (λ v x. x ≡ schedule_of v) text.now result }
 {
-    if byte_at(text, at) == b'S' {
-        let next = at + 1;
-        if digit_at(text, next) {
-            return Order {
-                right: false,
-                layered: false,
-                step: 0,
-                next: 0,
-            };
+    match expect(text, b'S') {
+        None => {
+            let (step, rest) = read_number(text, u32::MAX)?;
+            Some((Schedule::Layered(step), rest))
         }
-        return Order {
-            right,
-            layered: false,
-            step: 0,
-            next,
-        };
-    }
-    let step = read_number(text, right, at, 4294967295);
-    Order {
-        right: step.right,
-        layered: true,
-        step: step.value,
-        next: step.next,
+        Some(rest) => match read_digit(rest) {
+            Some(_) => None,
+            None => Some((Schedule::Sequential, rest)),
+        },
     }
 }
 
 // A tab and `S` or a step.
-fn read_order_field(text: &[u8], right: bool, at: usize) -> Order
-    ensures { Reads (lead 9 schedules) (OrderSo result.layered result.step) right result.right (drop at text.now) (drop result.next text.now) }
+fn read_schedule_field(text: &[u8]) -> Option<(Schedule, &[u8])>
+    ensures { Reads (lead 9 schedules) (λ v x. x ≡ schedule_of v) text.now result }
 {
-    let tab = expect(text, right, at, b'\t');
-    read_order(text, tab.right, tab.next)
+    let text = expect(text, b'\t')?;
+    read_schedule(text)
 }
 
 // The settings' line.
-fn read_settings(text: &[u8], right: bool, at: usize) -> Line
-    ensures { Reads settings_form (SettingsSo result.lanes result.iteration_limit result.offset result.layered result.step result.round_limit result.part_first result.part_length) right result.right
-        (drop at text.now) (drop result.next text.now) }
+fn read_settings(text: &[u8]) -> Option<(Settings, &[u8])>
+    ensures { Reads settings_form (λ v x. x ≡ settings_of v) text.now result }
 {
-    let letter = expect(text, right, at, b'P');
-    let lanes = read_field(text, letter.right, letter.next, 4);
-    let iteration_limit = read_field(text, lanes.right, lanes.next, 4294967295);
-    let offset = read_small_field(text, iteration_limit.right, iteration_limit.next);
-    let order = read_order_field(text, offset.right, offset.next);
-    let round_limit = read_field(text, order.right, order.next, 4294967295);
-    let part_first = read_field(text, round_limit.right, round_limit.next, 4294967295);
-    let part_length = read_field(text, part_first.right, part_first.next, 4294967295);
-    let end = expect(text, part_length.right, part_length.next, b'\n');
-    Line {
-        right: end.right,
-        lanes: lanes.value,
-        iteration_limit: iteration_limit.value,
-        offset: offset.value,
-        layered: order.layered,
-        step: order.step,
-        round_limit: round_limit.value,
-        part_first: part_first.value,
-        part_length: part_length.value,
-        next: end.next,
-    }
+    let rest = expect(text, b'P')?;
+    let (lanes, rest) = read_field(rest, 4)?;
+    let (iterations, rest) = read_field(rest, u32::MAX)?;
+    let (offset, rest) = read_small_field(rest)?;
+    let (schedule, rest) = read_schedule_field(rest)?;
+    let (rounds, rest) = read_field(rest, u32::MAX)?;
+    let (first, rest) = read_field(rest, u32::MAX)?;
+    let (length, rest) = read_field(rest, u32::MAX)?;
+    let rest = expect(rest, b'\n')?;
+    let settings = Settings {
+        lanes,
+        limits: Limits { iterations, rounds },
+        schedule,
+        offset,
+        part: Part { first, length },
+    };
+    Some((settings, rest))
 }
 
 // A pair of position and value, each behind a tab.
-fn read_pair(text: &[u8], at: usize) -> Entry
-    ensures { Reads pair_form (λ p. p ≡ pair_from result.position result.value) true result.right (drop at text.now) (drop result.next text.now) }
+fn read_pair(text: &[u8]) -> Option<((u32, i8), &[u8])>
+    ensures { Reads pair_form (λ v x. x ≡ pair_from v.0 v.1) text.now result }
 {
-    let position = read_field(text, true, at, 4294967295);
-    let value = read_small_field(text, position.right, position.next);
-    Entry {
-        right: value.right,
-        position: position.value,
-        value: value.value,
-        next: value.next,
-    }
+    let (position, rest) = read_field(text, u32::MAX)?;
+    let (value, rest) = read_small_field(rest)?;
+    Some(((position, value), rest))
 }
 
 // Whether a list of at most `most` items goes on: there is room, and the next item's mark.
-fn goes_on(text: &[u8], at: usize, mark: u8, count: u32, most: u32) -> bool
-    ensures { result ≡ (ltb count most && eqb (get_or text.now at 0) mark) }
+fn goes_on(text: &[u8], mark: u8, count: u32, most: u32) -> bool
+    requires { 0 < mark }
+    ensures { result ≡ (ltb count most && eqb (get_or text.now 0 0) mark) }
 {
-    if count < most {
-        byte_at(text, at) == mark
-    } else {
-        false
+    match text {
+        [first, ..] => count < most && *first == mark,
+        [] => false,
     }
 }
 
-// A word's pairs and its newline, in a word of n soft values.
-fn read_pairs(text: &[u8], right: bool, at: usize, n: u32) -> Place
-    requires { n ≤ 1122 }
-    ensures { Reads (pair_chain n) (λ _. Unit) right result.right (drop at text.now) (drop result.next text.now) }
+// A word's pairs and its newline: the values go to their positions in the word.
+fn read_pairs<'a>(text: &'a [u8], word: &mut [i8]) -> Option<&'a [u8]>
+    requires { length word.old ≤ 1122 }
+    ensures { Passes (pair_chain (length word.old)) (λ x. word.new ≡ stored 0 x.0 word.old) text.now result }
 {
-    let mut i = at;
+    let mut rest = text;
     let mut least: u32 = 0;
     let mut count: u32 = 0;
-    while goes_on(text, i, b'\t', count, 64) {
-        let p = read_pair(text, i);
-        let position = p.position;
-        if !p.right {
-            return Place {
-                right: false,
-                next: 0,
-            };
-        }
+    while goes_on(rest, b'\t', count, 64) {
+        let ((position, value), after) = read_pair(rest)?;
         if position < least {
-            return Place {
-                right: false,
-                next: 0,
-            };
+            return None;
         }
-        if n <= position {
-            return Place {
-                right: false,
-                next: 0,
-            };
+        let place = position as usize;
+        if word.len() <= place {
+            return None;
         }
+        word[place] = value;
         least = position + 1;
-        i = p.next;
         count += 1;
+        rest = after;
     }
-    expect(text, right, i, b'\n')
+    expect(rest, b'\n')
 }
 
-// A word's line, of n soft values.
-fn read_word(text: &[u8], at: usize, n: u32) -> Place
-    requires { n ≤ 1122 }
-    ensures { Reads (word_form n) (λ _. Unit) true result.right (drop at text.now) (drop result.next text.now) }
+// A word's line: its soft values.
+fn read_word<'a>(text: &'a [u8], word: &mut [i8]) -> Option<&'a [u8]>
+    requires { length word.old ≤ 1122 }
+    ensures { Passes (word_form (length word.old)) (λ w. word.new ≡ soft_word (length word.old) w) text.now result }
 {
-    let letter = expect(text, true, at, b'W');
-    let value = read_small_field(text, letter.right, letter.next);
-    read_pairs(text, value.right, value.next, n)
+    let rest = expect(text, b'W')?;
+    let (value, rest) = read_small_field(rest)?;
+    word.fill(value);
+    read_pairs(rest, word)
 }
 
-// The words' lines, up to the text's end.
-fn read_words(text: &[u8], right: bool, at: usize, n: u32) -> Number
-    requires { n ≤ 1122 }
-    ensures { Reads (words_form n) (λ w. length w.0 ≡ result.value) right result.right (drop at text.now) (drop result.next text.now) }
+// The words' lines, up to the text's end: the soft values of all words, one after another, and the number of words.
+fn read_words(text: &[u8], n: usize, soft: &mut [i8]) -> Option<u32>
+    requires { (n ≤ 1122) × (17952 ≤ length soft.old) }
+    ensures { MatchOption result (Missing (words_form n) text.now)
+        (λ count. Found (words_form n) (λ w. (length w.0 ≡ count) × (soft.new ≡ sets soft.old 0 (soft_words n w.0))) text.now []) }
 {
-    let mut i = at;
+    let mut rest = text;
+    let mut start: usize = 0;
     let mut count: u32 = 0;
-    while goes_on(text, i, b'W', count, 16) {
-        let w = read_word(text, i, n);
-        if !w.right {
-            return Number {
-                right: false,
-                value: 0,
-                next: 0,
-            };
-        }
-        i = w.next;
+    while goes_on(rest, b'W', count, 16) {
+        rest = read_word(rest, &mut soft[start..start + n])?;
+        start += n;
         count += 1;
     }
-    if i < text.len() {
-        return Number {
-            right: false,
-            value: 0,
-            next: 0,
-        };
-    }
-    Number {
-        right,
-        value: count,
-        next: i,
-    }
+    if rest.is_empty() { Some(count) } else { None }
 }
 
-// A row's line, its addresses laid into those of all rows behind the first `from`.
-fn read_row(text: &[u8], at: usize, into: [u16; 12], from: u32) -> Row
-    requires { from ≤ 8 }
-    ensures { Reads row_form (λ row. (length row ≡ result.count) × (result.addresses ≡ sets into from row)) true result.right (drop at text.now)
-        (drop result.next text.now) }
+// A row's line: its addresses go behind those of the rows before, and their number is answered.
+fn read_row<'a>(text: &'a [u8], addresses: &mut ArrayVec<u16, 12>) -> Option<(u32, &'a [u8])>
+    requires { array_vec_len addresses.old ≤ 8 }
+    ensures { Reads row_form (λ count row. (length row ≡ count) × (addresses.new.items ≡ addresses.old.items ++ row)) text.now result }
 {
-    let letter = expect(text, true, at, b'R');
-    let mut addresses = into;
-    let mut i = letter.next;
+    let mut rest = expect(text, b'R')?;
     let mut count: u32 = 0;
-    while goes_on(text, i, b'\t', count, 4) {
-        let a = read_field(text, true, i, 65535);
-        let value = a.value;
-        if !a.right {
-            return Row {
-                right: false,
-                addresses,
-                count: 0,
-                next: 0,
-            };
-        }
-        let place = (from + count) as usize;
-        addresses[place] = value as u16;
+    while goes_on(rest, b'\t', count, 4) {
+        let (address, after) = read_field(rest, 65535)?;
+        addresses.push(address as u16);
         count += 1;
-        i = a.next;
+        rest = after;
     }
-    let end = expect(text, letter.right, i, b'\n');
-    Row {
-        right: end.right,
-        addresses,
-        count,
-        next: end.next,
-    }
+    let rest = expect(rest, b'\n')?;
+    Some((count, rest))
 }
 
 // The rows' lines, as many as there are.
-fn read_rows(text: &[u8], right: bool, at: usize) -> Rows
-    ensures { Listed rows RowsWithin rows_within (RowsSo result.count result.lengths result.total result.addresses) right result.right (drop at text.now)
-        (drop result.next text.now) }
+fn read_rows(text: &[u8]) -> Option<(Rows, &[u8])>
+    ensures { Listed rows RowsWithin rows_within (λ r. RowsSo r.lengths.items r.addresses.items) text.now result }
 {
-    let mut lengths = [0u32; 3];
-    let mut addresses = [0u16; 12];
-    let mut count: u32 = 0;
-    let mut total: u32 = 0;
-    let mut i = at;
-    while goes_on(text, i, b'R', count, 3) {
-        let row = read_row(text, i, addresses, total);
-        let size = row.count;
-        if !row.right {
-            return Rows {
-                right: false,
-                count: 0,
-                lengths,
-                total: 0,
-                addresses,
-                next: 0,
-            };
-        }
-        let place = count as usize;
-        lengths[place] = size;
-        addresses = row.addresses;
-        total += size;
-        count += 1;
-        i = row.next;
+    let mut lengths = ArrayVec::new();
+    let mut addresses = ArrayVec::new();
+    let mut rest = text;
+    while goes_on(rest, b'R', lengths.len() as u32, 3) {
+        let (length, after) = read_row(rest, &mut addresses)?;
+        lengths.push(length);
+        rest = after;
     }
-    Rows {
-        right,
-        count,
-        lengths,
-        total,
-        addresses,
-        next: i,
-    }
+    Some((Rows { lengths, addresses }, rest))
 }
 
-// A soft value at n places.
-fn fill_default(words: &mut [i8], base: usize, n: u32, value: i8)
-    requires { base + n ≤ length words.old }
-    ensures { words.new ≡ sets words.old base (replicate n value) }
+// The first line: the code's n.
+fn read_head(text: &[u8]) -> Option<(u32, &[u8])>
+    ensures { Reads head_form (λ n x. x.0 ≡ n) text.now result }
 {
-    let mut i: usize = 0;
-    let end = n as usize;
-    while i < end {
-        words[base + i] = value;
-        i += 1;
-    }
+    let rest = expect(text, b'N')?;
+    let (n, rest) = read_field(rest, 1122)?;
+    let rest = expect(rest, b'\n')?;
+    Some((n, rest))
 }
 
-// A word's pairs, stored: the place behind their line.
-fn fill_pairs(text: &[u8], at: usize, n: u32, words: &mut [i8], base: usize) -> usize
-    requires { (base + n ≤ length words.old) × PairsHere n (drop at text.now) }
-    ensures { (ps : List Pair) (rest : List ℕ)
-        → PairsAt n (drop at text.now) ps rest
-        → ReadAndStored (drop result text.now) rest words.new (stored base ps words.old) }
+// A whole text: what it asks for, and the words' soft values at the start of the slice.
+fn read_text(text: &[u8], soft: &mut [i8]) -> Option<Reading>
+    requires { 17952 ≤ length soft.old }
+    ensures { MatchOption result (NoText text.now) (λ r. OneDescription text.now soft.old r soft.new) }
 {
-    let mut i = at;
-    let mut count: u32 = 0;
-    while goes_on(text, i, b'\t', count, 64) {
-        let p = read_pair(text, i);
-        let place = base + (p.position as usize);
-        let value = p.value;
-        words[place] = value;
-        i = p.next;
-        count += 1;
-    }
-    i + 1
+    let (n, rest) = read_head(text)?;
+    let (rows, rest) = read_rows(rest)?;
+    let (settings, rest) = read_settings(rest)?;
+    let words = read_words(rest, n as usize, soft)?;
+    Some(Reading {
+        n,
+        rows,
+        settings,
+        words,
+    })
 }
 
-// A word's soft values: the place behind its line.
-fn fill_word(text: &[u8], at: usize, n: u32, words: &mut [i8], base: usize) -> usize
-    requires { (base + n ≤ length words.old) × WordHere n (drop at text.now) }
-    ensures { (w : Word) (rest : List ℕ)
-        → WordAt n (drop at text.now) w rest
-        → ReadAndStored (drop result text.now) rest words.new (sets words.old base (soft_word n w)) }
-{
-    let value = read_small_field(text, true, at + 1);
-    fill_default(words, base, n, value.value);
-    fill_pairs(text, value.next, n, words, base)
-}
-
-// The soft values of all words, one after another.
-fn fill_words(text: &[u8], at: usize, n: u32, words: &mut [i8])
-    requires { (17952 ≤ length words.old) × WordsHere n (drop at text.now) }
-    ensures { (ws : List Word) → WordsAt n (drop at text.now) ws → words.new ≡ sets words.old 0 (soft_words n ws) }
-{
-    let mut i = at;
-    let mut count: u32 = 0;
-    let mut base: usize = 0;
-    let size = n as usize;
-    while goes_on(text, i, b'W', count, 16) {
-        i = fill_word(text, i, n, words, base);
-        base += size;
-        count += 1;
-    }
-}
-
-// Refusal 1.
-fn refused() -> Reading
-    ensures { result ≡ refused_reading }
-{
-    Reading {
-        refusal: 1,
-        n: 0,
-        rows: 0,
-        lengths: [0u32; 3],
-        total: 0,
-        addresses: [0u16; 12],
-        lanes: 0,
-        iteration_limit: 0,
-        offset: 0,
-        layered: false,
-        step: 0,
-        round_limit: 0,
-        part_first: 0,
-        part_length: 0,
-        words: 0,
-    }
-}
-
-// Reads a whole text. The words' soft values go into the lent slice, one word after another.
-pub fn read(text: &[u8], words: &mut [i8]) -> Reading
+// Reads a whole text. The words' soft values go to the start of the lent slice, one word after another; a refusal changes nothing.
+pub fn read(text: &[u8], words: &mut [i8]) -> Result<Reading, Refusal>
     requires { 17952 ≤ length words.old }
     ensures { RightReading text.now words.old result words.new }
 {
-    let letter = expect(text, true, 0, b'N');
-    let size = read_field(text, letter.right, letter.next, 1122);
-    let line = expect(text, size.right, size.next, b'\n');
-    let n = size.value;
-    if !line.right {
-        return refused();
-    }
-    let rows = read_rows(text, true, line.next);
-    let settings = read_settings(text, rows.right, rows.next);
-    let list = read_words(text, settings.right, settings.next, n);
-    if !list.right {
-        return refused();
-    }
-    fill_words(text, settings.next, n, words);
-    let lengths = rows.lengths;
-    let addresses = rows.addresses;
-    Reading {
-        refusal: 0,
-        n,
-        rows: rows.count,
-        lengths,
-        total: rows.total,
-        addresses,
-        lanes: settings.lanes,
-        iteration_limit: settings.iteration_limit,
-        offset: settings.offset,
-        layered: settings.layered,
-        step: settings.step,
-        round_limit: settings.round_limit,
-        part_first: settings.part_first,
-        part_length: settings.part_length,
-        words: list.value,
-    }
+    let mut soft = [0i8; 17952];
+    let Some(reading) = read_text(text, &mut soft) else {
+        return Err(Refusal::Form);
+    };
+    let size = (reading.words * reading.n) as usize;
+    words[..size].copy_from_slice(&soft[..size]);
+    Ok(reading)
 }

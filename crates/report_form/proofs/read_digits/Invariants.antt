@@ -1,12 +1,11 @@
--- `report_form::read_digits` meets its contract. The loop's invariant: the number spells the bytes so far, and is at most one digit over the bound.
--- Assumes nothing.
-use Prim.Native.Nat.{◌-◌}
-use lib.ListN.{length}
+-- The loop's invariant: the digits so far spell the value.
+use Rattle.std.proofs.Common.{◌++◌, length}
+use Rattle.laws.specs.Definitions.{decimal}
 use Rattle.report_form.proofs.Spell.{Spelled}
 use Rattle.report_form.proofs.read_digits.Given as goal
 
-abbrev pub invariant-loop-at : goal.invariant-loop-at
-invariant-loop-at l = Spelled l.text l.at l.most l.value l.i
+abbrev pub invariant-loop-digit : goal.invariant-loop-digit
+invariant-loop-digit l = Spelled (decimal l.first ++ l.text) l.value l.rest
 
-abbrev pub decreases-loop-at : goal.decreases-loop-at
-decreases-loop-at l = length l.text - l.i
+abbrev pub decreases-loop-digit : goal.decreases-loop-digit
+decreases-loop-digit l = length l.rest

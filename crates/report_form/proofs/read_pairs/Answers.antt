@@ -1,57 +1,31 @@
-use mathlib.Core.Path.{◌≡◌, refl}
-use mathlib.Core.Logic.{inl, inr}
-use Prim.Native.Nat.{◌<◌}
-use borrow.Author.Tests.{not-true, not-false}
-use native.Mathlib.Omega.{arith}
-use lib.ListN.{drop, get_or}
-use Rattle.report_form.proofs.Lists.{goes_mark, goes_room, goes_end}
-use Rattle.report_form.proofs.Pairs.{pairs_start, pairs_again, pairs_none, pairs_wrong, pairs_hopeless, pairs_read}
+use Rattle.std.proofs.Common.{length, inl, inr, arith, rules}
+use mir.Syntax.{w8}
+use mir.ValLaws.{to_z-of_z}
+use Rattle.report_form.specs.Form.{match_both}
+use Rattle.report_form.proofs.Lists.{goes_yes, goes_no}
+use Rattle.report_form.proofs.Pairs.{pairs_again, pairs_none, pairs_wrong, pairs_unended, pairs_found}
 use Rattle.report_form.proofs.read_pairs.Goals as goal
 
-pub loop-p-init : goal.loop-p-init
-loop-p-init c = pairs_start c.args.n (drop c.args.at c.args.text.now) c.requires
-
-pub returns-then-not-p : goal.returns-then-not-p
-returns-then-not-p c =
-    let marked : get_or (drop c.loop-p.i c.args.text.now) 0 0 ≡ 9 =
-    goes_mark c.args.text.now c.loop-p.count 64 c.loop-p.i 9 c.goes_on.ensures c.loop-p-test.true in
-    pairs_hopeless c.args.n (pairs_none c.args.n c.loop-p.least c.loop-p.count _ _ c.loop-p.invariant marked
-    (c.read_pair-p.ensures.missing refl (not-true c.read_pair-p.result.right c.if-not-p.true)))
+pub returns-in_err-position : goal.returns-in_err-position
+returns-in_err-position c =
+    rw c.from_residual.ensures
+    (pairs_none (length c.args.word.now) c.loop-rest.invariant (goes_yes c.goes_on.ensures c.loop-rest-test.true).1 c.in_err-position.ensures)
 
 pub returns-then-position-least : goal.returns-then-position-least
 returns-then-position-least c =
-    let marked : get_or (drop c.loop-p.i c.args.text.now) 0 0 ≡ 9 =
-    goes_mark c.args.text.now c.loop-p.count 64 c.loop-p.i 9 c.goes_on.ensures c.loop-p-test.true in
-    pairs_hopeless _ (pairs_wrong c.args.n c.loop-p.least c.loop-p.count c.read_pair-p.result.position c.read_pair-p.result.value _ _ _
-    c.loop-p.invariant marked (c.read_pair-p.ensures.found (not-false c.read_pair-p.result.right c.if-not-p.false)) (inl c.if-position-least.true))
+    pairs_wrong (length c.args.word.now) c.loop-rest.invariant (goes_yes c.goes_on.ensures c.loop-rest-test.true).1 c.in_ok-position.ensures (inl c.if-position-least.true)
 
-pub returns-then-n-position : goal.returns-then-n-position
-returns-then-n-position c =
-    let marked : get_or (drop c.loop-p.i c.args.text.now) 0 0 ≡ 9 =
-    goes_mark c.args.text.now c.loop-p.count 64 c.loop-p.i 9 c.goes_on.ensures c.loop-p-test.true in
-    pairs_hopeless _ (pairs_wrong c.args.n c.loop-p.least c.loop-p.count c.read_pair-p.result.position c.read_pair-p.result.value _ _ _
-    c.loop-p.invariant marked (c.read_pair-p.ensures.found (not-false c.read_pair-p.result.right c.if-not-p.false)) (inr c.if-n-position.true))
+pub returns-then-word-place : goal.returns-then-word-place
+returns-then-word-place c =
+    pairs_wrong (length c.args.word.now) c.loop-rest.invariant (goes_yes c.goes_on.ensures c.loop-rest-test.true).1 c.in_ok-position.ensures (inr (omega arith))
 
-pub overflow_add-least : goal.overflow_add-least
-overflow_add-least c = omega (arith, c.if-n-position.false, c.requires)
-
-pub overflow_add-count : goal.overflow_add-count
-overflow_add-count c =
-    let room : c.loop-p.count < 64 = goes_room c.args.text.now c.loop-p.count 64 c.loop-p.i 9 c.goes_on.ensures c.loop-p-test.true in
-    omega (arith, room)
-
-pub loop-p-smaller : goal.loop-p-smaller
-loop-p-smaller c =
-    let room : c.loop-p.count < 64 = goes_room c.args.text.now c.loop-p.count 64 c.loop-p.i 9 c.goes_on.ensures c.loop-p-test.true in
-    omega (arith, room)
-
-pub loop-p-preserved : goal.loop-p-preserved
-loop-p-preserved c =
-    let room : c.loop-p.count < 64 = goes_room c.args.text.now c.loop-p.count 64 c.loop-p.i 9 c.goes_on.ensures c.loop-p-test.true in
-    pairs_again c.args.n c.loop-p.least c.loop-p.count c.read_pair-p.result.position c.read_pair-p.result.value _ _ _ c.loop-p.invariant
-    (c.read_pair-p.ensures.found (not-false c.read_pair-p.result.right c.if-not-p.false)) room c.if-position-least.false c.if-n-position.false
+pub loop-rest-preserved : goal.loop-rest-preserved
+loop-rest-preserved c =
+    pairs_again (length c.args.word.now) c.loop-rest.invariant c.in_ok-position.ensures (to_z-of_z w8 c.in_ok-position.value (search rules))
+    (goes_yes c.goes_on.ensures c.loop-rest-test.true).0 (omega arith) (omega arith)
 
 pub returns : goal.returns
 returns c =
-    pairs_read c.args.n c.loop-p.least c.loop-p.count c.loop-p.invariant
-    (goes_end c.args.text.now c.loop-p.count 64 c.loop-p.i 9 c.goes_on.ensures c.loop-p-test.false) c.expect.ensures
+    match_both c.expect.result c.expect.ensures
+    (pairs_unended (length c.args.word.now) c.loop-rest.invariant (goes_no c.goes_on.ensures c.loop-rest-test.false))
+    (λ r. pairs_found (length c.args.word.now) c.loop-rest.invariant)

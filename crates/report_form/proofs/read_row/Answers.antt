@@ -1,67 +1,22 @@
-use mathlib.Core.Path.{refl}
-use Prim.Native.Nat.{◌+◌, ◌<◌}
-use borrow.Author.Tests.{not-true, not-false}
-use native.Mathlib.Omega.{arith}
-use lib.ListN.{drop}
-use Rattle.report_form.proofs.Lists.{goes_mark, goes_room, goes_end}
-use Rattle.report_form.proofs.RowLists.{row_start_lem, row_again, row_none, row_read}
+use Rattle.std.proofs.Common.{sym, subst, List, ℕ, ◌+◌}
+use Rattle.report_form.proofs.Lists.{goes_yes, goes_no}
+use Rattle.report_form.proofs.RowLists.{RowSoFar, row_again, no_row_letter, row_none, row_unended}
 use Rattle.report_form.proofs.read_row.Goals as goal
 
-pub loop-a-init : goal.loop-a-init
-loop-a-init c = row_start_lem c.args.into c.args.from (drop c.expect-letter.result.next c.args.text.now)
+pub returns-in_err-rest : goal.returns-in_err-rest
+returns-in_err-rest c = rw c.from_residual.ensures (no_row_letter c.in_err-rest.ensures)
 
-pub returns-then-not-a : goal.returns-then-not-a
-returns-then-not-a c =
-    row_none c.args.into c.args.from c.loop-a.count c.loop-a.addresses c.expect-letter.ensures c.loop-a.invariant
-    (goes_mark c.args.text.now c.loop-a.count 4 c.loop-a.i 9 c.goes_on.ensures c.loop-a-test.true)
-    (c.read_field-a.ensures.missing refl (not-true c.read_field-a.result.right c.if-not-a.true))
+pub returns-in_err-address : goal.returns-in_err-address
+returns-in_err-address c =
+    rw c.from_residual-in_err-address.ensures
+    (row_none c.in_ok-rest.ensures c.loop-rest.invariant (goes_yes c.goes_on.ensures c.loop-rest-test.true).1 c.in_err-address.ensures)
 
-pub overflow_add-place : goal.overflow_add-place
-overflow_add-place c =
-    let room : c.loop-a.count < 4 = goes_room c.args.text.now c.loop-a.count 4 c.loop-a.i 9 c.goes_on.ensures c.loop-a-test.true in
-    let place : c.args.from + c.loop-a.count < 12 = omega (arith, c.requires, room) in
-    omega (arith, place)
+pub loop-rest-preserved : goal.loop-rest-preserved
+loop-rest-preserved c =
+    subst (λ (l : List ℕ). RowSoFar c.args.addresses.now.items (c.loop-rest.count + 1) l c.in_ok-rest.rest.now c.in_ok-address.after.now) (sym c.push.ensures.items)
+    (row_again c.loop-rest.invariant c.in_ok-address.ensures (goes_yes c.goes_on.ensures c.loop-rest-test.true).0)
 
-pub overflow_cast-place : goal.overflow_cast-place
-overflow_cast-place c =
-    let room : c.loop-a.count < 4 = goes_room c.args.text.now c.loop-a.count 4 c.loop-a.i 9 c.goes_on.ensures c.loop-a-test.true in
-    let place : c.args.from + c.loop-a.count < 12 = omega (arith, c.requires, room) in
-    omega (arith, place)
-
-pub overflow_cast-addresses : goal.overflow_cast-addresses
-overflow_cast-addresses c =
-    let f = c.read_field-a.ensures.found (not-false c.read_field-a.result.right c.if-not-a.false) in
-    omega (arith, f.within, f.says)
-
-pub offset_bounds-addresses-place : goal.offset_bounds-addresses-place
-offset_bounds-addresses-place c =
-    let room : c.loop-a.count < 4 = goes_room c.args.text.now c.loop-a.count 4 c.loop-a.i 9 c.goes_on.ensures c.loop-a-test.true in
-    let place : c.args.from + c.loop-a.count < 12 = omega (arith, c.requires, room) in
-    omega (arith, place)
-
-pub bounds-addresses-place : goal.bounds-addresses-place
-bounds-addresses-place c =
-    let room : c.loop-a.count < 4 = goes_room c.args.text.now c.loop-a.count 4 c.loop-a.i 9 c.goes_on.ensures c.loop-a-test.true in
-    let place : c.args.from + c.loop-a.count < 12 = omega (arith, c.requires, room) in
-    omega (arith, place)
-
-pub overflow_add-count : goal.overflow_add-count
-overflow_add-count c =
-    let room : c.loop-a.count < 4 = goes_room c.args.text.now c.loop-a.count 4 c.loop-a.i 9 c.goes_on.ensures c.loop-a-test.true in
-    omega (arith, room)
-
-pub loop-a-smaller : goal.loop-a-smaller
-loop-a-smaller c =
-    let room : c.loop-a.count < 4 = goes_room c.args.text.now c.loop-a.count 4 c.loop-a.i 9 c.goes_on.ensures c.loop-a-test.true in
-    omega (arith, room)
-
-pub loop-a-preserved : goal.loop-a-preserved
-loop-a-preserved c =
-    let room : c.loop-a.count < 4 = goes_room c.args.text.now c.loop-a.count 4 c.loop-a.i 9 c.goes_on.ensures c.loop-a-test.true in
-    row_again c.args.into c.args.from c.loop-a.count c.read_field-a.result.value c.loop-a.addresses c.loop-a.invariant
-    (c.read_field-a.ensures.found (not-false c.read_field-a.result.right c.if-not-a.false)) room
-
-pub returns : goal.returns
-returns c =
-    row_read c.args.into c.args.from c.loop-a.count c.loop-a.addresses c.expect-letter.ensures c.loop-a.invariant
-    (goes_end c.args.text.now c.loop-a.count 4 c.loop-a.i 9 c.goes_on.ensures c.loop-a-test.false) c.expect-end.ensures
+pub returns-in_err-rest-2 : goal.returns-in_err-rest-2
+returns-in_err-rest-2 c =
+    rw c.from_residual-in_err-rest-2.ensures
+    (row_unended c.in_ok-rest.ensures c.loop-rest.invariant (goes_no c.goes_on.ensures c.loop-rest-test.false) c.in_err-rest-2.ensures)

@@ -1,12 +1,10 @@
--- `report_form::read_row` meets its contract. The loop's invariant: the addresses so far, laid into the array.
--- Assumes nothing.
-use Prim.Native.Nat.{◌-◌}
-use lib.ListN.{drop}
+-- The loop's invariant: the addresses so far stand behind those of the rows before.
+use Rattle.std.proofs.Common.{◌-◌}
 use Rattle.report_form.proofs.RowLists.{RowSoFar}
 use Rattle.report_form.proofs.read_row.Given as goal
 
-abbrev pub invariant-loop-a : goal.invariant-loop-a
-invariant-loop-a l = RowSoFar l.initial.addresses l.from l.count l.addresses (drop l.letter.next l.text) (drop l.i l.text)
+abbrev pub invariant-loop-rest : goal.invariant-loop-rest
+invariant-loop-rest l = RowSoFar l.initial.addresses.items l.count l.addresses.items l.initial.rest l.rest
 
-abbrev pub decreases-loop-a : goal.decreases-loop-a
-decreases-loop-a l = 4 - l.count
+abbrev pub decreases-loop-rest : goal.decreases-loop-rest
+decreases-loop-rest l = 4 - l.count

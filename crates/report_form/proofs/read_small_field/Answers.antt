@@ -1,8 +1,6 @@
--- `report_form::read_small_field` meets its contract.
--- Assumes nothing.
-use Rattle.report_form.specs.Form.{lead_reads}
+use Rattle.report_form.specs.Form.{lead_none}
 use Rattle.report_form.specs.Forms.{smalls}
 use Rattle.report_form.proofs.read_small_field.Goals as goal
 
-pub returns : goal.returns
-returns c = lead_reads 9 smalls c.expect-tab.ensures c.read_small.ensures
+pub returns-in_err-text : goal.returns-in_err-text
+returns-in_err-text c = rw c.from_residual.ensures (lead_none 9 smalls c.in_err-text.ensures)

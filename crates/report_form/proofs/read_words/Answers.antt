@@ -1,47 +1,26 @@
-use mathlib.Core.Path.{◌≡◌, refl}
-use mathlib.Core.Logic.{◌⊎◌}
-use Prim.Native.Nat.{◌<◌, ◌≤◌}
-use borrow.Author.Tests.{not-true, not-false}
-use native.Mathlib.Omega.{arith}
-use lib.ListN.{drop, get_or}
-use Rattle.report_form.specs.Form.{reads_off}
-use Rattle.report_form.proofs.Lists.{goes_mark, goes_room, goes_end}
-use Rattle.report_form.proofs.Words.{words_start, words_again, words_none, words_read, at_end_lem, not_end}
+use Rattle.std.proofs.Common.{ap, length, false-eqb, arith, rules, ◌+◌, ◌≤◌}
+use Rattle.std.proofs.lemmas.List.{nil_from_length}
+use Rattle.report_form.proofs.Lists.{goes_yes, goes_no}
+use Rattle.report_form.proofs.Words.{lent_length, put_back, words_room, words_again, words_none, words_unended, words_found}
 use Rattle.report_form.proofs.read_words.Goals as goal
 
-pub loop-w-init : goal.loop-w-init
-loop-w-init c = words_start c.args.n (drop c.args.at c.args.text.now) c.requires
+pub returns-in_err-rest : goal.returns-in_err-rest
+returns-in_err-rest c =
+    let y = goes_yes {most = 16} c.goes_on.ensures c.loop-soft-test.true in
+    let room : c.loop-soft.start + c.args.n ≤ length c.loop-soft.soft = words_room c.requires.0 y.0 c.loop-soft.invariant.says.start_is (omega (arith, c.requires.1, c.loop-soft.auto.soft)) in
+    rw c.from_residual.ensures (words_none c.args.n c.loop-soft.invariant y.1 (lent_length c.args.n c.loop-soft.start c.loop-soft.soft room) c.in_err-rest.ensures)
 
-pub returns-then-not-w : goal.returns-then-not-w
-returns-then-not-w c =
-    words_none c.args.n c.loop-w.count c.loop-w.invariant
-    (goes_mark c.args.text.now c.loop-w.count 16 c.loop-w.i 87 c.goes_on.ensures c.loop-w-test.true)
-    (c.read_word-w.ensures.missing refl (not-true c.read_word-w.result.right c.if-not-w.true))
+pub loop-soft-preserved : goal.loop-soft-preserved
+loop-soft-preserved c =
+    let y = goes_yes {most = 16} c.goes_on.ensures c.loop-soft-test.true in
+    let room : c.loop-soft.start + c.args.n ≤ length c.loop-soft.soft = words_room c.requires.0 y.0 c.loop-soft.invariant.says.start_is (omega (arith, c.requires.1, c.loop-soft.auto.soft)) in
+    words_again c.args.n c.loop-soft.invariant (lent_length c.args.n c.loop-soft.start c.loop-soft.soft room) c.in_ok-rest.ensures
+    (put_back c.args.n c.loop-soft.start c.loop-soft.soft c.read_word.new.word room (omega (arith, c.read_word.auto.word, lent_length c.args.n c.loop-soft.start c.loop-soft.soft room)))
+    y.0
 
-pub overflow_add-count : goal.overflow_add-count
-overflow_add-count c =
-    let room : c.loop-w.count < 16 = goes_room c.args.text.now c.loop-w.count 16 c.loop-w.i 87 c.goes_on.ensures c.loop-w-test.true in
-    omega (arith, room)
+pub returns-then-is_empty : goal.returns-then-is_empty
+returns-then-is_empty c = words_found c.args.n c.loop-soft.invariant (nil_from_length c.loop-soft.rest.now (search rules))
 
-pub loop-w-smaller : goal.loop-w-smaller
-loop-w-smaller c =
-    let room : c.loop-w.count < 16 = goes_room c.args.text.now c.loop-w.count 16 c.loop-w.i 87 c.goes_on.ensures c.loop-w-test.true in
-    omega (arith, room)
-
-pub loop-w-preserved : goal.loop-w-preserved
-loop-w-preserved c =
-    let room : c.loop-w.count < 16 = goes_room c.args.text.now c.loop-w.count 16 c.loop-w.i 87 c.goes_on.ensures c.loop-w-test.true in
-    words_again c.args.n c.loop-w.count c.loop-w.invariant (c.read_word-w.ensures.found (not-false c.read_word-w.result.right c.if-not-w.false)) room
-
-pub returns-then-i-text : goal.returns-then-i-text
-returns-then-i-text c =
-    let ended : (16 ≤ c.loop-w.count) ⊎ (get_or (drop c.loop-w.i c.args.text.now) 0 0 ≡ 87 → ⊥) =
-    goes_end c.args.text.now c.loop-w.count 16 c.loop-w.i 87 c.goes_on.ensures c.loop-w-test.false in
-    reads_off (words_read c.args.n c.loop-w.count c.loop-w.invariant ended
-    (not_end {u = c.args.text.now} c.args.text.now c.loop-w.i c.if-i-text.true))
-
-pub returns : goal.returns
-returns c =
-    let ended : (16 ≤ c.loop-w.count) ⊎ (get_or (drop c.loop-w.i c.args.text.now) 0 0 ≡ 87 → ⊥) =
-    goes_end c.args.text.now c.loop-w.count 16 c.loop-w.i 87 c.goes_on.ensures c.loop-w-test.false in
-    words_read c.args.n c.loop-w.count c.loop-w.invariant ended (at_end_lem c.args.text.now c.loop-w.i c.if-i-text.false)
+pub returns-else-is_empty : goal.returns-else-is_empty
+returns-else-is_empty c = words_unended c.args.n c.loop-soft.invariant (goes_no c.goes_on.ensures c.loop-soft-test.false)
+    (λ e. false-eqb (length c.loop-soft.rest.now) 0 c.if-is_empty.ensures (ap length e))

@@ -1,12 +1,10 @@
--- `report_form::read_words` meets its contract. The loop's invariant: the words so far and their number.
--- Assumes nothing.
-use Prim.Native.Nat.{◌-◌}
-use lib.ListN.{drop}
+-- The loop's invariant: the words so far and their soft values.
+use Rattle.std.proofs.Common.{◌-◌}
 use Rattle.report_form.proofs.Words.{WordsSoFar}
 use Rattle.report_form.proofs.read_words.Given as goal
 
-abbrev pub invariant-loop-w : goal.invariant-loop-w
-invariant-loop-w l = WordsSoFar l.n l.count (drop l.at l.text) (drop l.i l.text)
+abbrev pub invariant-loop-soft : goal.invariant-loop-soft
+invariant-loop-soft l = WordsSoFar l.n l.initial.soft l.count l.start l.soft l.text l.rest
 
-abbrev pub decreases-loop-w : goal.decreases-loop-w
-decreases-loop-w l = 16 - l.count
+abbrev pub decreases-loop-soft : goal.decreases-loop-soft
+decreases-loop-soft l = 16 - l.count
