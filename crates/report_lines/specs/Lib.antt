@@ -1,5 +1,4 @@
 -- What to believe: Lines. The rest are laws.
 pub mod Lines
-pub mod Wrote
 pub mod Listing
 pub mod Sizes

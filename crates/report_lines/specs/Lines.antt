@@ -2,7 +2,7 @@
 use Rattle.std.specs.Prelude.{Bool, true, false, List, [], ◌∷◌, ◌++◌, ℕ, zero, suc}
 use Rattle.laws.specs.Definitions.{decimal}
 use Rattle.report_form.specs.Description.{line}
-use Rattle.report_lines.specs.declared.Result.{Result}
+use Rattle.report_lines.specs.declared.WordResult.{WordResult}
 
 -- "ending (`finished` or `stopped`)"
 abbrev pub ending_text : Bool → List ℕ
@@ -22,7 +22,7 @@ bch_text true corrected = 45 ∷ []
 bch_text false corrected = decimal corrected
 
 -- what a line says of a word
-abbrev pub result_with : ℕ → ℕ → ℕ → Bool → ℕ → ℕ → Result
+abbrev pub result_with : ℕ → ℕ → ℕ → Bool → ℕ → ℕ → WordResult
 result_with state iterations unsatisfied lost corrected changed =
     record {
       state = state;
@@ -38,15 +38,15 @@ abbrev pub first_line : Bool → ℕ → List ℕ
 first_line stopped rounds = line (ending_text stopped) (decimal rounds ∷ [])
 
 -- "Then word, state, iterations, unsatisfied, BCH"; of the bits changed by LDPC: "Report lines gain it as a last field"
-abbrev pub result_line : ℕ → Result → List ℕ
+abbrev pub result_line : ℕ → WordResult → List ℕ
 result_line word r = line (decimal word) (state_text r.state ∷ decimal r.iterations ∷ decimal r.unsatisfied ∷ bch_text r.lost r.corrected ∷ decimal r.changed ∷ [])
 
-abbrev pub result_lines : ℕ → List Result → List ℕ
+abbrev pub result_lines : ℕ → List WordResult → List ℕ
 result_lines word [] = []
 result_lines word (r ∷ rs) = result_line word r ++ result_lines (suc word) rs
 
 -- the whole output of an accepted run, its words numbered from 0
-abbrev pub render_result : Bool → ℕ → List Result → List ℕ
+abbrev pub render_result : Bool → ℕ → List WordResult → List ℕ
 render_result stopped rounds rs = first_line stopped rounds ++ result_lines 0 rs
 
 -- "A refusal prints `refused`, tab, number"

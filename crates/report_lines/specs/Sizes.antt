@@ -4,7 +4,7 @@ use Rattle.std.proofs.Common.{sym, ap, ◌∙◌, append_assoc, append-nil, add-
 use Rattle.laws.specs.Decimal.{decimal_length}
 use Rattle.laws.specs.Definitions.{decimal}
 use Rattle.report_lines.specs.Lines.{ending_text, state_text, bch_text, first_line, result_line, result_lines}
-use Rattle.report_lines.specs.declared.Result.{Result}
+use Rattle.report_lines.specs.declared.WordResult.{WordResult}
 
 pub number_length : (v : ℕ) → v < 4294967296 → length (decimal v) ≤ 10
 number_length v h = decimal_length 9 v (omega arith)
@@ -41,7 +41,7 @@ first_line_length stopped rounds h =
     omega (arith, tabbed (ending_text stopped) (decimal rounds ++ 10 ∷ []), ending_length stopped, field_length rounds 10 h)
 
 -- a word's line is at most 63 bytes long
-pub word_line_length : (word : ℕ) (r : Result) → word < 4294967296 → r.iterations < 4294967296 → r.unsatisfied < 4294967296 → r.corrected < 4294967296 → r.changed < 4294967296 → length (result_line word r) ≤ 63
+pub word_line_length : (word : ℕ) (r : WordResult) → word < 4294967296 → r.iterations < 4294967296 → r.unsatisfied < 4294967296 → r.corrected < 4294967296 → r.changed < 4294967296 → length (result_line word r) ≤ 63
 word_line_length word r w i u c g =
     let last = decimal r.changed ++ 10 ∷ [] in
     let two = bch_text r.lost r.corrected ++ 9 ∷ last in
@@ -51,7 +51,7 @@ word_line_length word r w i u c g =
     omega (arith, tabbed (decimal word) five, field_length word 9 w, tabbed (state_text r.state) four, state_length r.state, tabbed (decimal r.iterations) three, field_length r.iterations 9 i, tabbed (decimal r.unsatisfied) two, field_length r.unsatisfied 9 u, tabbed (bch_text r.lost r.corrected) last, bch_length r.lost r.corrected c, field_length r.changed 10 g)
 
 -- one word more
-pub word_lines_snoc : (word : ℕ) (rs : List Result) (r : Result) → result_lines word (rs ++ r ∷ []) ≡ result_lines word rs ++ result_line (word + length rs) r
+pub word_lines_snoc : (word : ℕ) (rs : List WordResult) (r : WordResult) → result_lines word (rs ++ r ∷ []) ≡ result_lines word rs ++ result_line (word + length rs) r
 word_lines_snoc word [] r = append-nil (result_line word r) ∙ ap (λ (k : ℕ). result_line k r) (sym (add-zero word))
 word_lines_snoc word (q ∷ rs) r =
     ap (λ (l : List ℕ). result_line word q ++ l) (word_lines_snoc (suc word) rs r)

@@ -1,15 +1,21 @@
-// Writes the report's lines into a lent slice.
+// Writes the report's lines behind a text.
 #![tactic(auto)]
 
-ghost use Rattle.std.specs.Prelude.{◌∷◌, [], ◌++◌, ◌+◌, ◌≤◌, ◌<◌, length};
+ghost use Rattle.std.specs.Prelude.{◌≡◌, ◌∷◌, [], ◌++◌, ◌+◌, ◌≤◌, ◌<◌, length};
+ghost use Rattle.arrayvec.specs.ArrayString.{array_string_len};
 ghost use Rattle.laws.specs.Definitions.{decimal};
 ghost use Rattle.report_lines.specs.Lines.{ending_text, state_text, bch_text, first_line, result_line, refused_line};
-ghost use Rattle.report_lines.specs.Wrote.{Wrote};
+
+use arrayvec::ArrayString;
+use itoa::Buffer;
+
+// The report's lines. The longest has 16 words: 20 + 16 * 63 bytes.
+pub type Lines = ArrayString<1028>;
 
 // What a line says of a word: its state, its iterations, its unsatisfied checks, whether it is lost, the bits that BCH corrected, and the
 // bits that LDPC changed.
-#[derive(Drop)]
-pub struct Result {
+#[derive(Clone, Copy, Debug)]
+pub struct WordResult {
     pub state: u32,
     pub iterations: u32,
     pub unsatisfied: u32,
@@ -18,117 +24,81 @@ pub struct Result {
     pub changed: u32,
 }
 
-// A byte.
-fn put_byte(out: &mut [u8], at: usize, b: u8) -> usize
-    requires { at < length out.old }
-    ensures { Wrote (b ∷ []) at out.old result out.new }
+// A number in decimal, and the byte behind it.
+fn put_number(out: &mut Lines, value: u32, behind: char)
+    requires { (array_string_len out.old + 11 ≤ 1028) × (behind < 128) }
+    ensures bytes { out.new.bytes ≡ out.old.bytes ++ (decimal value ++ behind ∷ []) }
+    ensures room { array_string_len out.new ≤ array_string_len out.old + 11 }
 {
-    out[at] = b;
-    at + 1
+    out.push_str(Buffer::new().format(value));
+    out.push(behind);
 }
 
-// A text.
-fn put_text(out: &mut [u8], at: usize, text: &[u8]) -> usize
-    requires { at + length text.now ≤ length out.old }
-    ensures { Wrote text.now at out.old result out.new }
+// The ending.
+fn ending_text(stopped: bool) -> &'static str
+    ensures text { result.now ≡ ending_text stopped }
+    ensures short { length result.now ≤ 8 }
 {
-    let mut i: usize = 0;
-    while i < text.len() {
-        out[at + i] = text[i];
-        i += 1;
-    }
-    at + i
+    if stopped { "stopped" } else { "finished" }
 }
 
-// A number in decimal.
-fn put_number(out: &mut [u8], at: usize, value: u32) -> usize
-    requires { at + length (decimal value) ≤ length out.old }
-    ensures { Wrote (decimal value) at out.old result out.new }
+// A word's state, by its number.
+fn state_text(state: u32) -> &'static str
+    ensures text { result.now ≡ state_text state }
+    ensures short { length result.now ≤ 7 }
 {
-    if value < 10 {
-        return put_byte(out, at, b'0' + value as u8);
+    match state {
+        0 => "waiting",
+        1 => "held",
+        2 => "met",
+        _ => "unmet",
     }
-    let next = put_number(out, at, value / 10);
-    put_byte(out, next, b'0' + (value % 10) as u8)
-}
-
-// A number and the byte behind it.
-fn put_field(out: &mut [u8], at: usize, value: u32, b: u8) -> usize
-    requires { at + 11 ≤ length out.old }
-    ensures { Wrote (decimal value ++ b ∷ []) at out.old result out.new }
-{
-    let next = put_number(out, at, value);
-    put_byte(out, next, b)
-}
-
-// The ending, and a tab.
-fn put_ending(out: &mut [u8], at: usize, stopped: bool) -> usize
-    requires { at + 9 ≤ length out.old }
-    ensures { Wrote (ending_text stopped ++ 9 ∷ []) at out.old result out.new }
-{
-    if stopped {
-        put_text(out, at, b"stopped\t")
-    } else {
-        put_text(out, at, b"finished\t")
-    }
-}
-
-// A word's state, and a tab.
-fn put_state(out: &mut [u8], at: usize, state: u32) -> usize
-    requires { (at + 8 ≤ length out.old) × (state < 4) }
-    ensures { Wrote (state_text state ++ 9 ∷ []) at out.old result out.new }
-{
-    if state == 0 {
-        return put_text(out, at, b"waiting\t");
-    }
-    if state == 1 {
-        return put_text(out, at, b"held\t");
-    }
-    if state == 2 {
-        return put_text(out, at, b"met\t");
-    }
-    put_text(out, at, b"unmet\t")
 }
 
 // The BCH result, and a tab.
-fn put_bch(out: &mut [u8], at: usize, lost: bool, corrected: u32) -> usize
-    requires { at + 11 ≤ length out.old }
-    ensures { Wrote (bch_text lost corrected ++ 9 ∷ []) at out.old result out.new }
+fn put_bch(out: &mut Lines, lost: bool, corrected: u32)
+    requires { array_string_len out.old + 11 ≤ 1028 }
+    ensures bytes { out.new.bytes ≡ out.old.bytes ++ (bch_text lost corrected ++ 9 ∷ []) }
+    ensures room { array_string_len out.new ≤ array_string_len out.old + 11 }
 {
     if lost {
-        put_text(out, at, b"-\t")
+        out.push_str("-\t");
     } else {
-        put_field(out, at, corrected, b'\t')
+        put_number(out, corrected, '\t');
     }
 }
 
 // The first line of an accepted run: at most 20 bytes.
-pub fn write_first(out: &mut [u8], at: usize, stopped: bool, rounds: u32) -> usize
-    requires { at + 20 ≤ length out.old }
-    ensures { Wrote (first_line stopped rounds) at out.old result out.new }
+pub fn write_first(out: &mut Lines, stopped: bool, rounds: u32)
+    requires { array_string_len out.old + 20 ≤ 1028 }
+    ensures bytes { out.new.bytes ≡ out.old.bytes ++ first_line stopped rounds }
+    ensures room { array_string_len out.new ≤ array_string_len out.old + 20 }
 {
-    let next = put_ending(out, at, stopped);
-    put_field(out, next, rounds, b'\n')
+    out.push_str(ending_text(stopped));
+    out.push('\t');
+    put_number(out, rounds, '\n');
 }
 
 // A word's line: at most 63 bytes.
-pub fn write_word(out: &mut [u8], at: usize, word: u32, r: Result) -> usize
-    requires { (at + 63 ≤ length out.old) × (r.state < 4) }
-    ensures { Wrote (result_line word r) at out.old result out.new }
+pub fn write_word(out: &mut Lines, word: u32, r: WordResult)
+    requires { array_string_len out.old + 63 ≤ 1028 }
+    ensures bytes { out.new.bytes ≡ out.old.bytes ++ result_line word r }
+    ensures room { array_string_len out.new ≤ array_string_len out.old + 63 }
 {
-    let a = put_field(out, at, word, b'\t');
-    let b = put_state(out, a, r.state);
-    let c = put_field(out, b, r.iterations, b'\t');
-    let d = put_field(out, c, r.unsatisfied, b'\t');
-    let e = put_bch(out, d, r.lost, r.corrected);
-    put_field(out, e, r.changed, b'\n')
+    put_number(out, word, '\t');
+    out.push_str(state_text(r.state));
+    out.push('\t');
+    put_number(out, r.iterations, '\t');
+    put_number(out, r.unsatisfied, '\t');
+    put_bch(out, r.lost, r.corrected);
+    put_number(out, r.changed, '\n');
 }
 
 // The line of a refusal: at most 19 bytes.
-pub fn write_refused(out: &mut [u8], at: usize, number: u32) -> usize
-    requires { at + 19 ≤ length out.old }
-    ensures { Wrote (refused_line number) at out.old result out.new }
+pub fn write_refused(out: &mut Lines, number: u32)
+    requires { array_string_len out.old + 19 ≤ 1028 }
+    ensures { out.new.bytes ≡ out.old.bytes ++ refused_line number }
 {
-    let next = put_text(out, at, b"refused\t");
-    put_field(out, next, number, b'\n')
+    out.push_str("refused\t");
+    put_number(out, number, '\n');
 }
