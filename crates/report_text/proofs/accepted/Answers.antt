@@ -1,12 +1,11 @@
--- `report_text::accepted` meets its contract.
--- Assumes nothing.
+use Rattle.std.proofs.Common.{ap, ◌∙◌, List, ℕ, ◌++◌}
 use Rattle.decoder_words.specs.Fields.{first_records}
 use Rattle.report_lines.specs.Lines.{first_line}
-use Rattle.report_text.specs.Report.{lines_for}
-use Rattle.report_text.specs.Lines.{first_lines, wrote_all}
-use borrow.Author.Rules.{rules}
+use Rattle.report_text.specs.Lines.{first_lines, lines_whole}
 use Rattle.report_text.proofs.accepted.Goals as goal
 
 pub returns : goal.returns
-unfolding lines_for
-returns c = wrote_all (first_line c.args.ran.stopped c.args.ran.rounds) (first_lines (first_records c.args.ran.words c.args.records.now) c.args.ran.words) c.write_head-first.ensures c.write_words-length.ensures
+returns c =
+    c.write_words.ensures
+    ∙ ap (λ (l : List ℕ). l ++ first_lines (first_records c.args.ran.words c.args.records.now) c.args.ran.words) (c.write_first.ensures.bytes ∙ ap (λ (l : List ℕ). l ++ first_line c.args.ran.stopped c.args.ran.rounds) c.new-out.ensures)
+    ∙ lines_whole c.args.ran c.args.records.now
