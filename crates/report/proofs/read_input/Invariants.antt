@@ -1,9 +1,10 @@
--- The bytes read lie in the buffer, which keeps its length.
-use Rattle.std.proofs.Common.{◌≡◌, ◌≤◌, ◌-◌, length}
+-- The loop's invariant: the buffer begins with the input's first bytes.
+use Rattle.std.proofs.Common.{◌-◌, length}
+use Rattle.report.proofs.Parts.{ReadInto}
 use Rattle.report.proofs.read_input.Given as goal
 
 abbrev pub invariant-loop-size : goal.invariant-loop-size
-invariant-loop-size l = (l.size ≤ length l.buf) × (length l.buf ≡ length l.initial.buf)
+invariant-loop-size g l = ReadInto (g.R.Read.remaining l.initial.input) (g.R.Read.remaining l.input) l.buf l.size
 
 abbrev pub decreases-loop-size : goal.decreases-loop-size
-decreases-loop-size l = length l.buf - l.size
+decreases-loop-size g l = length l.initial.buf - l.size
