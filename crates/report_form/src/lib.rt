@@ -185,6 +185,7 @@ fn read_pair(text: &[u8]) -> Option<((u32, i8), &[u8])>
 }
 
 // Whether a list of at most `most` items goes on: there is room, and the next item's mark.
+// Its readers count in a `while`: a `for` over the room would need a `break` at the mark, and no count would be left of how many were read.
 fn goes_on(text: &[u8], mark: u8, count: u32, most: u32) -> bool
     requires { 0 < mark }
     ensures { result ≡ (ltb count most && eqb (get_or text.now 0 0) mark) }

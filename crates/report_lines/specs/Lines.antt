@@ -1,5 +1,5 @@
 -- What the report writes: the scope's "Report text", behind the input.
-use Rattle.std.specs.Prelude.{Bool, true, false, List, [], ◌∷◌, ◌++◌, ℕ, zero, suc}
+use Rattle.std.specs.Prelude.{Bool, true, false, List, [], ◌∷◌, ◌++◌, ℕ, zero, suc, Option, Some, None}
 use Rattle.laws.specs.Definitions.{decimal}
 use Rattle.report_form.specs.Description.{line}
 use Rattle.report_lines.specs.declared.WordResult.{WordResult}
@@ -17,9 +17,13 @@ state_text (suc (suc zero)) = 109 ∷ 101 ∷ 116 ∷ []
 state_text (suc (suc (suc n))) = 117 ∷ 110 ∷ 109 ∷ 101 ∷ 116 ∷ []
 
 -- "BCH (`-` if lost)", else the corrected count
-abbrev pub bch_text : Bool → ℕ → List ℕ
-bch_text true corrected = 45 ∷ []
-bch_text false corrected = decimal corrected
+abbrev pub bch_text : Option ℕ → List ℕ
+bch_text None = 45 ∷ []
+bch_text (Some corrected) = decimal corrected
+
+abbrev pub unless_lost : Bool → ℕ → Option ℕ
+unless_lost true corrected = None
+unless_lost false corrected = Some corrected
 
 -- what a line says of a word
 abbrev pub result_with : ℕ → ℕ → ℕ → Bool → ℕ → ℕ → WordResult
@@ -28,8 +32,7 @@ result_with state iterations unsatisfied lost corrected changed =
       state = state;
       iterations = iterations;
       unsatisfied = unsatisfied;
-      lost = lost;
-      corrected = corrected;
+      corrected = unless_lost lost corrected;
       changed = changed;
     }
 
@@ -39,7 +42,7 @@ first_line stopped rounds = line (ending_text stopped) (decimal rounds ∷ [])
 
 -- "Then word, state, iterations, unsatisfied, BCH"; of the bits changed by LDPC: "Report lines gain it as a last field"
 abbrev pub result_line : ℕ → WordResult → List ℕ
-result_line word r = line (decimal word) (state_text r.state ∷ decimal r.iterations ∷ decimal r.unsatisfied ∷ bch_text r.lost r.corrected ∷ decimal r.changed ∷ [])
+result_line word r = line (decimal word) (state_text r.state ∷ decimal r.iterations ∷ decimal r.unsatisfied ∷ bch_text r.corrected ∷ decimal r.changed ∷ [])
 
 abbrev pub result_lines : ℕ → List WordResult → List ℕ
 result_lines word [] = []

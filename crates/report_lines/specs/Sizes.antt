@@ -1,5 +1,5 @@
 -- How long the fields and lines are, which text a state has, and lines one after another.
-use Rattle.std.specs.Prelude.{◌≡◌, refl, Bool, true, false, List, [], ◌∷◌, ◌++◌, ℕ, zero, suc, ◌+◌, ◌≤◌, ◌<◌, length}
+use Rattle.std.specs.Prelude.{◌≡◌, refl, Bool, true, false, List, [], ◌∷◌, ◌++◌, ℕ, zero, suc, ◌+◌, ◌≤◌, ◌<◌, length, Option, Some, None, IfSome}
 use Rattle.std.proofs.Common.{sym, ap, ◌∙◌, append_assoc, append-nil, add-zero, add-suc, suc-add, arith, length-append}
 use Rattle.laws.specs.Decimal.{decimal_length}
 use Rattle.laws.specs.Definitions.{decimal}
@@ -28,9 +28,9 @@ unmet (suc zero) a b c = absurd (b refl)
 unmet (suc (suc zero)) a b c = absurd (c refl)
 unmet (suc (suc (suc n))) a b c = refl
 
-pub bch_length : (lost : Bool) (corrected : ℕ) → corrected < 4294967296 → length (bch_text lost corrected ++ 9 ∷ []) ≤ 11
-bch_length true corrected h = omega arith
-bch_length false corrected h = field_length corrected 9 h
+pub bch_length : (corrected : Option ℕ) → IfSome corrected (λ c. c < 4294967296) → length (bch_text corrected ++ 9 ∷ []) ≤ 11
+bch_length None h = omega arith
+bch_length (Some c) h = field_length c 9 h
 
 tabbed : (xs ys : List ℕ) → length (xs ++ 9 ∷ ys) ≡ length (xs ++ 9 ∷ []) + length ys
 tabbed xs ys = omega (arith, length-append xs (9 ∷ ys), length-append xs (9 ∷ []))
@@ -41,14 +41,14 @@ first_line_length stopped rounds h =
     omega (arith, tabbed (ending_text stopped) (decimal rounds ++ 10 ∷ []), ending_length stopped, field_length rounds 10 h)
 
 -- a word's line is at most 63 bytes long
-pub word_line_length : (word : ℕ) (r : WordResult) → word < 4294967296 → r.iterations < 4294967296 → r.unsatisfied < 4294967296 → r.corrected < 4294967296 → r.changed < 4294967296 → length (result_line word r) ≤ 63
+pub word_line_length : (word : ℕ) (r : WordResult) → word < 4294967296 → r.iterations < 4294967296 → r.unsatisfied < 4294967296 → IfSome r.corrected (λ c. c < 4294967296) → r.changed < 4294967296 → length (result_line word r) ≤ 63
 word_line_length word r w i u c g =
     let last = decimal r.changed ++ 10 ∷ [] in
-    let two = bch_text r.lost r.corrected ++ 9 ∷ last in
+    let two = bch_text r.corrected ++ 9 ∷ last in
     let three = decimal r.unsatisfied ++ 9 ∷ two in
     let four = decimal r.iterations ++ 9 ∷ three in
     let five = state_text r.state ++ 9 ∷ four in
-    omega (arith, tabbed (decimal word) five, field_length word 9 w, tabbed (state_text r.state) four, state_length r.state, tabbed (decimal r.iterations) three, field_length r.iterations 9 i, tabbed (decimal r.unsatisfied) two, field_length r.unsatisfied 9 u, tabbed (bch_text r.lost r.corrected) last, bch_length r.lost r.corrected c, field_length r.changed 10 g)
+    omega (arith, tabbed (decimal word) five, field_length word 9 w, tabbed (state_text r.state) four, state_length r.state, tabbed (decimal r.iterations) three, field_length r.iterations 9 i, tabbed (decimal r.unsatisfied) two, field_length r.unsatisfied 9 u, tabbed (bch_text r.corrected) last, bch_length r.corrected c, field_length r.changed 10 g)
 
 -- one word more
 pub word_lines_snoc : (word : ℕ) (rs : List WordResult) (r : WordResult) → result_lines word (rs ++ r ∷ []) ≡ result_lines word rs ++ result_line (word + length rs) r

@@ -12,15 +12,14 @@ use itoa::Buffer;
 // The report's lines. The longest has 16 words: 20 + 16 * 63 bytes.
 pub type Lines = ArrayString<1028>;
 
-// What a line says of a word: its state, its iterations, its unsatisfied checks, whether it is lost, the bits that BCH corrected, and the
-// bits that LDPC changed.
+// What a line says of a word: its state by the number that its record has, its iterations, its unsatisfied checks, the bits that BCH corrected
+// if it is not lost, and the bits that LDPC changed.
 #[derive(Clone, Copy, Debug)]
 pub struct WordResult {
     pub state: u32,
     pub iterations: u32,
     pub unsatisfied: u32,
-    pub lost: bool,
-    pub corrected: u32,
+    pub corrected: Option<u32>,
     pub changed: u32,
 }
 
@@ -56,15 +55,14 @@ fn state_text(state: u32) -> &'static str
 }
 
 // The BCH result, and a tab.
-fn put_bch(out: &mut Lines, lost: bool, corrected: u32)
+fn put_bch(out: &mut Lines, corrected: Option<u32>)
     requires { array_string_len out.old + 11 ≤ 1028 }
-    ensures bytes { out.new.bytes ≡ out.old.bytes ++ (bch_text lost corrected ++ 9 ∷ []) }
+    ensures bytes { out.new.bytes ≡ out.old.bytes ++ (bch_text corrected ++ 9 ∷ []) }
     ensures room { array_string_len out.new ≤ array_string_len out.old + 11 }
 {
-    if lost {
-        out.push_str("-\t");
-    } else {
-        put_number(out, corrected, '\t');
+    match corrected {
+        None => out.push_str("-\t"),
+        Some(corrected) => put_number(out, corrected, '\t'),
     }
 }
 
@@ -90,7 +88,7 @@ pub fn write_word(out: &mut Lines, word: u32, r: WordResult)
     out.push('\t');
     put_number(out, r.iterations, '\t');
     put_number(out, r.unsatisfied, '\t');
-    put_bch(out, r.lost, r.corrected);
+    put_bch(out, r.corrected);
     put_number(out, r.changed, '\n');
 }
 
