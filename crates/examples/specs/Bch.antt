@@ -1,8 +1,6 @@
 -- Why the starred examples of the BCH word hold: α's power is worked out, and zeros are a codeword one bit away.
-use Rattle.std.specs.Prelude.{◌≡◌, refl, List, ℕ, length}
+use Rattle.std.specs.Prelude.{◌≡◌, refl, List, ℕ, length, Ok, Err}
 use Rattle.std.proofs.Common.{sym, ap, ◌∙◌, arith}
-use Rattle.std.proofs.Math.Logic.{if_pos, if_neg}
-use Rattle.std.proofs.Math.Decide.{ℕ_discrete}
 use Rattle.laws.specs.Definitions.{◌⊕◌, rem}
 use Rattle.laws.specs.Poly.{rem_zero}
 use Rattle.algebra.specs.Gf.{mul, mul_n, xt}
@@ -17,7 +15,9 @@ use Rattle.bch.specs.Decode.{answer_of, left_of}
 use Rattle.bch.specs.ExactLaws.{up_to_12}
 use Rattle.bch.specs.Answers.{word_refusal, decoded_of, word_out}
 use Rattle.bch.specs.AnswersLaws.{short_word, fair_word, changed}
-use Rattle.bch.specs.declared.Decoded.TheVariants.{Corrected, Refused}
+use Rattle.bch.specs.declared.Decoded.TheVariants.{Corrected}
+use Rattle.refusal.specs.NumberLaws.{accepted, refused}
+use Rattle.refusal.specs.declared.Refusal.TheVariants as refusal
 use Rattle.examples.specs.Inputs.{zeros, first_set}
 
 pub alpha : (pow R16 α 16).0 ≡ 0x100B
@@ -50,9 +50,9 @@ fair = fair_word (length first_set) (omega (arith, size)) (omega (arith, size))
 near : (answer_of first_set ≡ Corrected (distance first_set (zeros 193))) × (low_bits (left_of first_set) ≡ low_bits (zeros 193))
 near = up_to_12 (zeros 193) first_set zeros_codeword same (omega (arith, size)) (omega (arith, apart))
 
-pub corrected : decoded_of first_set ≡ Corrected 1
+pub corrected : decoded_of first_set ≡ Ok (Corrected 1)
 unfolding decoded_of
-corrected = if_pos (ℕ_discrete (word_refusal (length first_set)) 0) fair (answer_of first_set) (Refused (word_refusal (length first_set))) ∙ near.0 ∙ ap Corrected apart
+corrected = accepted (word_refusal (length first_set)) (answer_of first_set) fair ∙ ap Ok (near.0 ∙ ap Corrected apart)
 
 bits_of_zeros : low_bits (zeros 193) ≡ zeros 193
 unfolding low_bits zeros
@@ -62,8 +62,6 @@ pub left : low_bits (word_out first_set) ≡ zeros 193
 unfolding word_out
 left = ap low_bits (sym (changed (word_refusal (length first_set)) (left_of first_set) first_set fair)) ∙ near.1 ∙ bits_of_zeros
 
-pub too_short : (w : List ℕ) → length w ≡ 192 → decoded_of w ≡ Refused 11
+pub too_short : (w : List ℕ) → length w ≡ 192 → decoded_of w ≡ Err refusal.Bch
 unfolding decoded_of
-too_short w n =
-    let e = short_word (length w) (omega (arith, n)) in
-    if_neg (ℕ_discrete (word_refusal (length w)) 0) (λ z. omega (arith, e)) (answer_of w) (Refused (word_refusal (length w))) ∙ ap Refused e
+too_short w n = refused (word_refusal (length w)) (answer_of w) refusal.Bch (short_word (length w) (omega (arith, n)))

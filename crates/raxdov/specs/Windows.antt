@@ -1,14 +1,15 @@
 -- A window over words that runs finished shows the figures of those words alone: nothing of the other words, lane counts and round limits.
-use Rattle.std.specs.Prelude.{◌≡◌, refl, ◌⊎◌, Bool, true, cond, List, [], ◌∷◌, ◌++◌, map, ℕ, ◌*◌, ◌^◌, ◌≤◌, ◌<◌, length}
+use Rattle.std.specs.Prelude.{◌≡◌, refl, ◌⊎◌, Bool, true, cond, List, [], ◌∷◌, ◌++◌, map, ℕ, ◌*◌, ◌^◌, ◌≤◌, ◌<◌, length, Result}
 use Rattle.std.proofs.Common.{sym, ap, ap₂, ◌∙◌, subst, inl, inr, arith}
 use Rattle.outcome.specs.Outcome.{Outcome, is_finished, lost}
 use Rattle.decoder_words.specs.Fields.{own_part}
 use Rattle.decoder.specs.Accepted.{AcceptedRun, says, alone_by}
 use Rattle.decoder.specs.Audit.{finished_alone, figures_few}
 use Rattle.window.specs.declared.Record.{Record}
-use Rattle.window.specs.declared.Pushed.{Pushed}
+use Rattle.window.specs.declared.Window.{Window}
+use Rattle.refusal.specs.declared.Refusal.{Refusal}
 use Rattle.window.specs.Figures.{finished_in, Shows}
-use Rattle.window.specs.Push.{Handed, empty, pushed, series, Fit, pushed_number, pushed_of, ring_out}
+use Rattle.window.specs.Push.{Handed, empty, pushed, series, Fit, push_refusal, pushed_of, ring_out}
 use Rattle.window.specs.Series.{series_shows, series_snoc}
 use Rattle.window.proofs.PushLaws.{pushes_any, now_is, ring_on}
 use Rattle.raxdov.specs.Numbers.{window_of, handed_of, record_of, window_into}
@@ -67,13 +68,13 @@ zeros_empty ring = refl
 
 -- a chain of calls of `raxdov_window_push` that are not refused is a series: what one leaves, by its promises of window and ring, is what the next one's `afresh`
 -- asks for
-pub numbers_on : (w : ℕ) (window window' numbers ring ring' : List ℕ) → pushed_number (pushed_of w (handed_of window ring) (record_of numbers)) ≡ 0
+pub numbers_on : (w : ℕ) (window window' numbers ring ring' : List ℕ) → push_refusal w (length ring) ≡ 0
     → window' ≡ window_into (pushed_of w (handed_of window ring) (record_of numbers)) window → ring' ≡ ring_out w (handed_of window ring) (record_of numbers)
     → (rs : List Record) (ring₀ : List ℕ) → handed_of window ring ≡ series w (empty ring₀) rs → handed_of window' ring' ≡ series w (empty ring₀) (rs ++ record_of numbers ∷ [])
 numbers_on w window window' numbers ring ring' none left ring-left rs ring₀ so =
     let W = window_of window in
     let r = record_of numbers in
     let P = pushes_any w W r ring in
-    let now = now_is w W r ring _ _ P none in
-    (λ i. record { window = ap window_of (left ∙ ap (λ (p : Pushed). window_into p window) now) i; ring = (ring-left ∙ ring_on w W r ring _ _ P none) i })
+    let now = now_is w W r ring _ _ P (P.number ∙ none) in
+    (λ i. record { window = ap window_of (left ∙ ap (λ (p : Result Window Refusal). window_into p window) now) i; ring = (ring-left ∙ ring_on w W r ring _ _ P (P.number ∙ none)) i })
     ∙ ap (λ (h : Handed). pushed w h r) so ∙ sym (series_snoc w (empty ring₀) rs r)

@@ -6,7 +6,7 @@
 
 ghost use Rattle.std.specs.Prelude.{◌<◌, ◌≤◌};
 
-use window::{Pushed, Record, Window};
+use window::{Record, Window};
 
 // Numbers of a window that was altered.
 const ALTERED: [u64; 16] = [
@@ -28,11 +28,34 @@ const ALTERED: [u64; 16] = [
     18446744073709551615,
 ];
 
-// Kind 0 goes on with the series before, 1 begins one; 2 begins with a window that was altered, and 3 goes on with it.
+// What a block does, by its number: it goes on with the series before, begins one, begins with a window that was altered, or goes on with that.
+#[derive(Clone, Copy, Debug, PartialEq, Eq)]
+enum Kind {
+    Further,
+    Series,
+    Altered,
+    AlteredFurther,
+}
+
+impl Kind {
+    fn of_number(number: u64) -> Kind {
+        match number {
+            0 => Kind::Further,
+            1 => Kind::Series,
+            2 => Kind::Altered,
+            _ => Kind::AlteredFurther,
+        }
+    }
+
+    fn in_series(self) -> bool {
+        matches!(self, Kind::Further | Kind::Series)
+    }
+}
+
 #[derive(Clone, Copy)]
 struct Block {
     number: u64,
-    kind: u64,
+    kind: Kind,
     palette: usize,
     records: u64,
     width: u32,
@@ -40,7 +63,7 @@ struct Block {
     sum: u64,
 }
 
-#[derive(Drop)]
+#[derive(Clone, Copy, Debug, PartialEq, Eq, Default)]
 struct Figures {
     words: u64,
     lost: u64,
@@ -48,32 +71,21 @@ struct Figures {
     corrected: u64,
 }
 
-// What a push left: 0 or its refusal, and the window.
-#[derive(Drop)]
-struct Step {
-    number: u32,
-    now: Window,
-}
-
 // How many were compared, and how many of them differ.
-#[derive(Clone, Copy)]
+#[derive(Clone, Copy, Debug, PartialEq, Eq, Default)]
 struct Compared {
     all: u64,
     differ: u64,
 }
 
 // The window, the finished records since a series began, and the checksum since a block began.
-#[derive(Clone, Copy)]
+#[derive(Clone, Copy, Debug, PartialEq, Eq, Default)]
 struct Progress {
     now: Window,
     done: usize,
     sum: u64,
     records: Compared,
     blocks: Compared,
-}
-
-fn one_more(x: u64) -> u64 {
-    std::num::wrapping_add_u64(x, 1)
 }
 
 // A step of the generator.
@@ -91,16 +103,7 @@ fn stir(x: u64) -> u32 {
 fn byte(s: &[u8], at: usize) -> u64
     ensures { result < 256 }
 {
-    if at < s.len() {
-        return wide(s[at]);
-    }
-    0
-}
-
-fn wide(b: u8) -> u64
-    ensures { result < 256 }
-{
-    b as u64
+    if at < s.len() { s[at] as u64 } else { 0 }
 }
 
 fn four(s: &[u8], at: usize) -> u64
@@ -115,8 +118,8 @@ fn block_at(input: &[u8], number: u64) -> Block {
     let head = 256 + (number % 65536 * 16) as usize;
     let form = four(input, head + 8);
     Block {
-        number: number,
-        kind: form % 4,
+        number,
+        kind: Kind::of_number(form % 4),
         palette: (form / 4 % 16 * 24) as usize,
         records: form / 64,
         width: four(input, head) as u32,
@@ -129,16 +132,12 @@ fn block_at(input: &[u8], number: u64) -> Block {
 fn value(code: u64, any: u32) -> u32
     requires { code < 256 }
 {
-    if code < 252 {
-        return code as u32;
+    match code {
+        252 => any % 65536,
+        255 => any,
+        _ if code < 252 => code as u32,
+        _ => 4294967041 + code as u32,
     }
-    if code == 252 {
-        return any % 65536;
-    }
-    if code == 255 {
-        return any;
-    }
-    4294967041 + code as u32
 }
 
 // One of the eight values that a palette has from a place on.
@@ -158,29 +157,22 @@ fn record(input: &[u8], of: Block, i: u64) -> Record {
 }
 
 fn finished(state: u32) -> bool {
-    if state == 2 {
-        return true;
-    }
-    state == 3
+    state == 2 || state == 3
 }
 
 // What a ring holds at first: a third of it lost words and states of finished ones.
 fn garbage(x: u64) -> u32 {
     let v = stir(x);
-    if v % 6 == 0 {
-        return 4294967295;
+    match v % 6 {
+        0 => 4294967295,
+        1 => 2 + v / 6 % 2,
+        _ => v,
     }
-    if v % 6 == 1 {
-        return 2 + v / 6 % 2;
-    }
-    v
 }
 
 fn fill(number: u64, ring: &mut [u32]) {
-    let mut j: usize = 0;
-    while j < ring.len() {
+    for j in 0..ring.len() {
         ring[j] = garbage(2147483648 + number % 65536 * 16384 + (j % 16384) as u64);
-        j += 1;
     }
 }
 
@@ -191,14 +183,8 @@ fn any_altered(x: u64) -> u64 {
 // The window that a block begins with.
 fn first_window(of: Block) -> Window {
     let x = of.number % 65536 * 4096;
-    if of.kind == 1 {
-        return Window {
-            at: 0,
-            words: 0,
-            lost: 0,
-            iterations: 0,
-            corrected: 0,
-        };
+    if of.kind == Kind::Series {
+        return Window::default();
     }
     Window {
         at: any_altered(x + 3),
@@ -209,16 +195,11 @@ fn first_window(of: Block) -> Window {
     }
 }
 
-fn push(width: u32, was: Window, new: Record, ring: &mut [u32]) -> Step {
+// What a push leaves: 0 or its refusal's number, and the window.
+fn push(width: u32, was: Window, new: Record, ring: &mut [u32]) -> (u32, Window) {
     match window::push(width, was, new, ring) {
-        Pushed::Now(now) => Step {
-            number: 0,
-            now: now,
-        },
-        Pushed::Refused(number) => Step {
-            number: number,
-            now: was,
-        },
+        Ok(now) => (0, now),
+        Err(refusal) => (refusal.number(), was),
     }
 }
 
@@ -236,65 +217,39 @@ fn keep(of: Record, done: usize, history: &mut [u64]) -> usize {
 
 fn plus(was: Figures, x: u64) -> Figures {
     let bch = x % 4294967296;
-    let iterations = std::num::wrapping_add_u64(was.iterations, x / 4294967296);
-    if bch == 4294967295 {
-        return Figures {
-            words: one_more(was.words),
-            lost: one_more(was.lost),
-            iterations: iterations,
-            corrected: was.corrected,
-        };
-    }
+    let lost = bch == 4294967295;
     Figures {
-        words: one_more(was.words),
-        lost: was.lost,
-        iterations: iterations,
-        corrected: std::num::wrapping_add_u64(was.corrected, bch),
+        words: was.words.wrapping_add(1),
+        lost: was.lost.wrapping_add(lost as u64),
+        iterations: was.iterations.wrapping_add(x / 4294967296),
+        corrected: was.corrected.wrapping_add(if lost { 0 } else { bch }),
     }
 }
 
 fn figures_of(s: &[u64]) -> Figures {
-    let mut f = Figures {
-        words: 0,
-        lost: 0,
-        iterations: 0,
-        corrected: 0,
-    };
-    let mut i: usize = 0;
-    while i < s.len() {
-        f = plus(f, s[i]);
-        i += 1;
+    let mut f = Figures::default();
+    for &x in s {
+        f = plus(f, x);
     }
     f
 }
 
-// The first of the last `width` of `done` records.
-fn first_of(width: usize, done: usize) -> usize
-    ensures { result ≤ done }
-{
-    if done < width { 0 } else { done - width }
-}
-
 // The figures over the last `width` of the first `done` finished records.
 fn afresh(width: usize, done: usize, history: &[u64]) -> Figures {
-    let from = first_of(width, done);
     if history.len() < done {
         return figures_of(history);
     }
-    figures_of(&history[from..done])
+    figures_of(&history[done.saturating_sub(width)..done])
 }
 
-fn differs(now: Window, want: Figures) -> bool {
-    if now.words != want.words {
-        return true;
+// The figures that a window shows.
+fn shown(now: Window) -> Figures {
+    Figures {
+        words: now.words,
+        lost: now.lost,
+        iterations: now.iterations,
+        corrected: now.corrected,
     }
-    if now.lost != want.lost {
-        return true;
-    }
-    if now.iterations != want.iterations {
-        return true;
-    }
-    now.corrected != want.corrected
 }
 
 // The checksum with one number more.
@@ -312,13 +267,7 @@ fn mix_step(h: u64, number: u32, now: Window) -> u64 {
 }
 
 fn mix_ring(h: u64, ring: &[u32], from: usize) -> u64 {
-    let mut r = h;
-    let mut i = from;
-    while i < ring.len() {
-        r = mix(r, ring[i]);
-        i += 1;
-    }
-    r
+    ring.iter().skip(from).fold(h, |r, &v| mix(r, v))
 }
 
 fn show(x: u64, unit: &[u8]) {
@@ -328,12 +277,9 @@ fn show(x: u64, unit: &[u8]) {
 
 // One comparison more; the first difference is shown.
 fn count(was: Compared, right: bool, number: u64, i: u64) -> Compared {
-    let all = one_more(was.all);
+    let all = was.all.wrapping_add(1);
     if right {
-        return Compared {
-            all: all,
-            differ: was.differ,
-        };
+        return Compared { all, ..was };
     }
     if was.differ == 0 {
         io::write_all(1, b"first difference in block, record ");
@@ -341,8 +287,8 @@ fn count(was: Compared, right: bool, number: u64, i: u64) -> Compared {
         show(i, b"\n");
     }
     Compared {
-        all: all,
-        differ: one_more(was.differ),
+        all,
+        differ: was.differ.wrapping_add(1),
     }
 }
 
@@ -354,9 +300,9 @@ fn compare(
     history: &[u64],
     was: Compared,
 ) -> Compared {
-    if of.kind < 2 {
+    if of.kind.in_series() {
         let want = afresh(of.width as usize, done, history);
-        return count(was, !differs(now, want), of.number, i);
+        return count(was, shown(now) == want, of.number, i);
     }
     was
 }
@@ -370,37 +316,29 @@ fn one(
     ring: &mut [u32],
     history: &mut [u64],
 ) -> Progress {
-    let before = was.now;
-    let records = was.records;
-    let blocks = was.blocks;
     let new = record(input, of, i);
-    let p = push(of.width, before, new, ring);
-    let now = p.now;
+    let (number, now) = push(of.width, was.now, new, ring);
     let done = keep(new, was.done, history);
     Progress {
-        now: now,
-        done: done,
-        sum: mix_step(was.sum, p.number, now),
-        records: compare(of, i, now, done, history, records),
-        blocks: blocks,
+        now,
+        done,
+        sum: mix_step(was.sum, number, now),
+        records: compare(of, i, now, done, history, was.records),
+        ..was
     }
 }
 
 fn ones(input: &[u8], of: Block, was: Progress, ring: &mut [u32], history: &mut [u64]) -> Progress {
     let mut at = was;
-    let mut i: u64 = 0;
-    while i < of.records {
+    for i in 0..of.records {
         at = one(input, of, i, at, ring, history);
-        i += 1;
     }
     at
 }
 
 // What a block begins with; if that is not what the one before left, its ring is filled.
 fn begun(of: Block, was: Progress, ring: &mut [u32]) -> Progress {
-    let records = was.records;
-    let blocks = was.blocks;
-    if of.kind % 3 == 0 {
+    if matches!(of.kind, Kind::Further | Kind::AlteredFurther) {
         return was;
     }
     fill(of.number, ring);
@@ -408,31 +346,24 @@ fn begun(of: Block, was: Progress, ring: &mut [u32]) -> Progress {
         now: first_window(of),
         done: 0,
         sum: 0,
-        records: records,
-        blocks: blocks,
+        ..was
     }
 }
 
 // The checksum of a block: in a series the ring's tail is in it, else all of the ring and its place.
 fn sum_of(of: Block, at: Progress, ring: &[u32]) -> u64 {
-    let now = at.now;
-    if of.kind < 2 {
+    if of.kind.in_series() {
         return mix_ring(at.sum, ring, 3 * (of.width % 65536) as usize);
     }
-    mix_ring(mix_wide(at.sum, now.at), ring, 0)
+    mix_ring(mix_wide(at.sum, at.now.at), ring, 0)
 }
 
 fn ended(of: Block, at: Progress, ring: &[u32]) -> Progress {
-    let now = at.now;
-    let records = at.records;
-    let blocks = at.blocks;
     let sum = sum_of(of, at, ring);
     Progress {
-        now: now,
-        done: at.done,
         sum: 0,
-        records: records,
-        blocks: count(blocks, sum == of.sum, of.number, of.records),
+        blocks: count(at.blocks, sum == of.sum, of.number, of.records),
+        ..at
     }
 }
 
@@ -457,45 +388,20 @@ fn cut(
     history: &mut [u64],
 ) -> Progress {
     let of = block_at(input, number);
-    let room = of.room;
-    if ring.len() < room {
+    if ring.len() < of.room {
         return was;
     }
-    replay(input, of, was, &mut ring[..room], history)
-}
-
-fn nothing() -> Progress {
-    let none = Compared { all: 0, differ: 0 };
-    Progress {
-        now: Window {
-            at: 0,
-            words: 0,
-            lost: 0,
-            iterations: 0,
-            corrected: 0,
-        },
-        done: 0,
-        sum: 0,
-        records: none,
-        blocks: none,
-    }
+    replay(input, of, was, &mut ring[..of.room], history)
 }
 
 fn blocks_in(length: usize) -> u64 {
-    if length < 256 {
-        0
-    } else {
-        (length - 256) as u64 / 16
-    }
+    length.saturating_sub(256) as u64 / 16
 }
 
 fn all(input: &[u8], ring: &mut [u32], history: &mut [u64]) -> Progress {
-    let mut at = nothing();
-    let last = blocks_in(input.len());
-    let mut number: u64 = 0;
-    while number < last {
+    let mut at = Progress::default();
+    for number in 0..blocks_in(input.len()) {
         at = cut(input, number, at, ring, history);
-        number += 1;
     }
     at
 }
@@ -511,8 +417,6 @@ fn main() {
     let mut history = [0u64; 24000];
     let n = io::read_full(0, &mut input);
     let at = all(&input[..n], &mut ring, &mut history);
-    let records = at.records;
-    show_compared(records, b" records compared with sums made afresh, ");
-    let blocks = at.blocks;
-    show_compared(blocks, b" blocks compared with the second model, ");
+    show_compared(at.records, b" records compared with sums made afresh, ");
+    show_compared(at.blocks, b" blocks compared with the second model, ");
 }

@@ -1,26 +1,30 @@
 -- The ways through `push`: refused, passed over, taken.
-use Rattle.std.specs.Prelude.{◌≡◌, ℕ, ◌*◌, ◌<◌, ◌≤◌, Bool, true, false, cond, ◌≢◌, List, [], ◌∷◌, ◌++◌, length, nat_eq, refl}
-use Rattle.std.proofs.Math.Path.{sym, ap, ap₂, subst}
-use Rattle.std.proofs.Common.{◌∙◌, arith}
+use Rattle.std.specs.Prelude.{◌≡◌, ℕ, ◌*◌, ◌<◌, ◌≤◌, Bool, true, false, cond, ◌≢◌, ◌⊎◌, List, [], ◌∷◌, ◌++◌, length, nat_eq, nat_lt, refl, Result, Ok, Err}
+use Rattle.std.proofs.Common.{sym, ap, ap₂, subst, ◌∙◌, inl, inr, arith}
 use Rattle.std.proofs.Math.Decide.{ℕ_discrete, dec_lt}
-use borrow.Author.Tests.{lt-ltb, le-ltb, eq-eqb, ne_eqb}
+use Rattle.std.proofs.lemmas.Bool.{lt-ltb, le-ltb, eq-eqb, ne_eqb}
+use Rattle.refusal.specs.Number.{number, number_of, refusal_of}
+use Rattle.refusal.specs.NumberLaws.{number_least, number_refusal, refused, accepted as answered}
+use Rattle.refusal.specs.declared.Refusal.{Refusal}
 use Rattle.outcome.specs.Outcome.{is_finished}
 use Rattle.window.specs.declared.Record.{Record}
 use Rattle.window.specs.declared.Window.{Window}
-use Rattle.window.specs.declared.Pushed.{Pushed}
-use Rattle.window.specs.declared.Pushed.TheVariants.{Now, Refused}
 use Rattle.window.specs.Figures.{finished_in, Shows}
-use Rattle.window.specs.Push.{push_refusal, slot_of, leaving, written, moved, Handed, empty, taken, pushed, series, pushed_number, pushed_of, ring_out, Pushes}
+use Rattle.window.specs.Push.{push_refusal, slot_of, leaving, written, moved, Handed, empty, taken, pushed, series, pushed_of, ring_out, Pushes}
 use Rattle.window.specs.Series.{series_shows, series_long, series_snoc}
 
 -- ---- each test of the code
-pub zero_width : (w room : ℕ) → w ≡ 0 → push_refusal w room ≡ 14
+zero_width : (w room : ℕ) → w ≡ 0 → push_refusal w room ≡ 14
 unfolding push_refusal
 zero_width w room e = simp (eq-eqb w 0 e)
 
-pub great_width : (w room : ℕ) → w ≢ 0 → 4096 < w → push_refusal w room ≡ 14
+great_width : (w room : ℕ) → w ≢ 0 → 4096 < w → push_refusal w room ≡ 14
 unfolding push_refusal
 great_width w room ne h = simp (ne_eqb w 0 ne, lt-ltb 4096 w h)
+
+pub bad_width : (w room : ℕ) → (w ≡ 0) ⊎ ((w ≢ 0) × (4096 < w)) → push_refusal w room ≡ 14
+bad_width w room (inl e) = zero_width w room e
+bad_width w room (inr h) = great_width w room h.0 h.1
 
 pub short_ring : (w room : ℕ) → w ≢ 0 → w ≤ 4096 → room < 3 * w → push_refusal w room ≡ 13
 unfolding push_refusal
@@ -29,6 +33,16 @@ short_ring w room ne h g = simp (ne_eqb w 0 ne, le-ltb 4096 w h, lt-ltb room (3 
 pub fair : (w room : ℕ) → w ≢ 0 → w ≤ 4096 → 3 * w ≤ room → push_refusal w room ≡ 0
 unfolding push_refusal
 fair w room ne h g = simp (ne_eqb w 0 ne, le-ltb 4096 w h, le-ltb room (3 * w) g)
+
+cond_le : (b : Bool) (x y m : ℕ) → x ≤ m → y ≤ m → cond b x y ≤ m
+cond_le true x y m h g = h
+cond_le false x y m h g = g
+
+most : (w room : ℕ) → push_refusal w room ≤ 14
+unfolding push_refusal
+most w room =
+    cond_le (nat_eq w 0) 14 _ 14 (omega arith)
+    (cond_le (nat_lt 4096 w) 14 _ 14 (omega arith) (cond_le (nat_lt room (3 * w)) 13 0 14 (omega arith) (omega arith)))
 
 -- what an accepted call knows
 pub record Fair (w room : ℕ) : Type 0 where
@@ -58,31 +72,27 @@ module _ (w : ℕ) (W : Window) (r : Record) (ring : List ℕ) where
   abbrev F : ℕ
   F = push_refusal w (length ring)
 
-  abbrev window_in : Pushed → Window
-  window_in (Now A) = A
-  window_in (Refused f) = W
+  abbrev window_in : Result Window Refusal → Window
+  window_in (Ok A) = A
+  window_in (Err f) = W
 
-  abbrev is_now : Pushed → ℕ
-  is_now (Now A) = 0
-  is_now (Refused f) = 1
-
-  pub refuses : (f : ℕ) → f ≢ 0 → f ≡ F → Pushes w W r ring ring (Refused f)
+  pub refuses : (f : Refusal) → number f ≡ F → Pushes w W r ring ring (Err f)
   unfolding pushed_of ring_out
-  refuses f ne e =
-      let no : nat_eq F 0 ≡ false = ne_eqb F 0 (λ z. ne (e ∙ z)) in
+  refuses f e =
+      let no : nat_eq F 0 ≡ false = ne_eqb F 0 (λ z. omega (arith, e, z, number_least f)) in
       record {
-        answer = ap Refused e ∙ sym (ap (λ (b : Bool). cond b (Now (pushed w H r).window) (Refused F)) no);
+        answer = sym (refused F (pushed w H r).window f (sym e));
         number = e;
         ring_is = sym (ap (λ (b : Bool). cond b (pushed w H r).ring ring) no);
-        afresh = λ W' now rs ring₀ fit so. absurd (omega (arith, ap is_now now));
+        afresh = λ W' now rs ring₀ fit so. let z : number f ≡ 0 = ap number_of now in absurd (omega (arith, z, number_least f));
       }
 
-  pub accepts : F ≡ 0 → (h : Handed) → h ≡ pushed w H r → Pushes w W r ring h.ring (Now h.window)
+  pub accepts : F ≡ 0 → (h : Handed) → h ≡ pushed w H r → Pushes w W r ring h.ring (Ok h.window)
   unfolding pushed_of ring_out
   accepts e h eh =
       let yes : nat_eq F 0 ≡ true = eq-eqb F 0 e in
       record {
-        answer = ap (λ (x : Handed). Now x.window) eh ∙ sym (ap (λ (b : Bool). cond b (Now (pushed w H r).window) (Refused F)) yes);
+        answer = ap (λ (x : Handed). Ok x.window) eh ∙ sym (answered F (pushed w H r).window e);
         number = sym e;
         ring_is = ap (λ (x : Handed). x.ring) eh ∙ sym (ap (λ (b : Bool). cond b (pushed w H r).ring ring) yes);
         afresh = λ W' now rs ring₀ fit so.
@@ -108,27 +118,31 @@ module _ (w : ℕ) (W : Window) (r : Record) (ring : List ℕ) where
       at : Dec (F ≡ 0) → Pushes w W r ring (ring_out w H r) (pushed_of w H r)
       at (yes e) =
           let P = accepts e (pushed w H r) refl in
-          subst (Pushes w W r ring (ring_out w H r)) P.answer (subst (λ (l : List ℕ). Pushes w W r ring l (Now (pushed w H r).window)) P.ring_is P)
+          subst (Pushes w W r ring (ring_out w H r)) P.answer (subst (λ (l : List ℕ). Pushes w W r ring l (Ok (pushed w H r).window)) P.ring_is P)
       at (no ne) =
-          let P = refuses F ne refl in
-          subst (Pushes w W r ring (ring_out w H r)) P.answer (subst (λ (l : List ℕ). Pushes w W r ring l (Refused F)) P.ring_is P)
+          let f = refusal_of F in
+          let P = refuses f (number_refusal F (omega (arith, ne)) (most w (length ring))) in
+          subst (Pushes w W r ring (ring_out w H r)) P.answer (subst (λ (l : List ℕ). Pushes w W r ring l (Err f)) P.ring_is P)
 
   -- ---- what an answer that is no refusal says
-  module _ (ring' : List ℕ) (p : Pushed) (P : Pushes w W r ring ring' p) (none : pushed_number p ≡ 0) where
-    accepted_so : nat_eq F 0 ≡ true
-    accepted_so = eq-eqb F 0 (sym P.number ∙ none)
+  module _ (ring' : List ℕ) (p : Result Window Refusal) (P : Pushes w W r ring ring' p) (none : number_of p ≡ 0) where
+    zero_so : F ≡ 0
+    zero_so = sym P.number ∙ none
 
-    pub now_is : p ≡ Now (pushed w H r).window
+    accepted_so : nat_eq F 0 ≡ true
+    accepted_so = eq-eqb F 0 zero_so
+
+    pub now_is : p ≡ Ok (pushed w H r).window
     unfolding pushed_of
-    now_is = P.answer ∙ ap (λ (b : Bool). cond b (Now (pushed w H r).window) (Refused F)) accepted_so
+    now_is = P.answer ∙ answered F (pushed w H r).window zero_so
 
     pub ring_on : ring' ≡ (pushed w H r).ring
     unfolding ring_out
     ring_on = P.ring_is ∙ ap (λ (b : Bool). cond b (pushed w H r).ring ring) accepted_so
 
   -- a window handed on: the promise of one call is what the next one's `afresh` asks for, so that a chain of accepted calls is a series
-  pub handed_on : (ring' : List ℕ) (W' : Window) → Pushes w W r ring ring' (Now W') → (rs : List Record) (ring₀ : List ℕ) → H ≡ series w (empty ring₀) rs
+  pub handed_on : (ring' : List ℕ) (W' : Window) → Pushes w W r ring ring' (Ok W') → (rs : List Record) (ring₀ : List ℕ) → H ≡ series w (empty ring₀) rs
       → record { window = W'; ring = ring' } ≡ series w (empty ring₀) (rs ++ r ∷ [])
   handed_on ring' W' P rs ring₀ so =
-      (λ i. record { window = ap window_in (now_is ring' (Now W') P refl) i; ring = ring_on ring' (Now W') P refl i })
+      (λ i. record { window = ap window_in (now_is ring' (Ok W') P refl) i; ring = ring_on ring' (Ok W') P refl i })
       ∙ ap (λ (h : Handed). pushed w h r) so ∙ sym (series_snoc w (empty ring₀) rs r)

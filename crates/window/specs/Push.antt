@@ -1,11 +1,11 @@
 -- One record more: what `push` answers and leaves, whatever window and ring hold; and a whole series of records. The request has no ring, no 13 and
 -- no word on windows that were altered: how the figures are kept is ours (docs/DECISIONS.md).
-use Rattle.std.specs.Prelude.{◌≡◌, ℕ, ◌+◌, ◌-◌, ◌*◌, ◌%◌, ◌^◌, ◌<◌, cond, List, [], ◌∷◌, ◌++◌, length, ◌==◌, nat_lt, slice_index, slice_set}
+use Rattle.std.specs.Prelude.{◌≡◌, ℕ, ◌+◌, ◌-◌, ◌*◌, ◌%◌, ◌^◌, ◌<◌, cond, List, [], ◌∷◌, ◌++◌, length, ◌==◌, nat_lt, slice_index, slice_set, Result, Ok}
 use Rattle.outcome.specs.Outcome.{is_finished}
 use Rattle.window.specs.declared.Record.{Record}
 use Rattle.window.specs.declared.Window.{Window}
-use Rattle.window.specs.declared.Pushed.{Pushed}
-use Rattle.window.specs.declared.Pushed.TheVariants.{Now, Refused}
+use Rattle.refusal.specs.Number.{number_of, answer}
+use Rattle.refusal.specs.declared.Refusal.{Refusal}
 use Rattle.window.specs.Figures.{finished_in, lost_by, iterations_by, corrected_by, Shows}
 
 -- ---- refusals, a number or 0. "It refuses with 14 a width that is 0 or above 4,096, as the first of its checks"; then 13, a ring of fewer than 3 numbers
@@ -88,21 +88,16 @@ abbrev pub Afresh : ℕ → Handed → Record → Window → Type 0
 Afresh w h r W' = (rs : List Record) (ring₀ : List ℕ) → Fit (rs ++ r ∷ []) → h ≡ series w (empty ring₀) rs → Shows w (finished_in (rs ++ r ∷ [])) W'
 
 -- ---- `push`
--- the number of each answer, 0 where nothing is refused, and the answer
-abbrev pub pushed_number : Pushed → ℕ
-pushed_number (Now W) = 0
-pushed_number (Refused f) = f
-
-unfoldable pub pushed_of : ℕ → Handed → Record → Pushed
-pushed_of w h r = cond (push_refusal w (length h.ring) == 0) (Now (pushed w h r).window) (Refused (push_refusal w (length h.ring)))
+unfoldable pub pushed_of : ℕ → Handed → Record → Result Window Refusal
+pushed_of w h r = answer (push_refusal w (length h.ring)) (pushed w h r).window
 
 -- a refused call changes nothing
 unfoldable pub ring_out : ℕ → Handed → Record → List ℕ
 ring_out w h r = cond (push_refusal w (length h.ring) == 0) (pushed w h r).ring h.ring
 
 -- what `push` promises of the window W and its ring; ring' is the ring at exit, p the answer
-pub record Pushes (w : ℕ) (W : Window) (r : Record) (ring ring' : List ℕ) (p : Pushed) : Type 0 where
+pub record Pushes (w : ℕ) (W : Window) (r : Record) (ring ring' : List ℕ) (p : Result Window Refusal) : Type 0 where
   pub answer : p ≡ pushed_of w (record { window = W; ring = ring }) r
-  pub number : pushed_number p ≡ push_refusal w (length ring)
+  pub number : number_of p ≡ push_refusal w (length ring)
   pub ring_is : ring' ≡ ring_out w (record { window = W; ring = ring }) r
-  pub afresh : (W' : Window) → p ≡ Now W' → Afresh w (record { window = W; ring = ring }) r W'
+  pub afresh : (W' : Window) → p ≡ Ok W' → Afresh w (record { window = W; ring = ring }) r W'

@@ -3,11 +3,14 @@
 #![tactic(auto)]
 
 ghost use Rattle.std.specs.Prelude.{◌≡◌, ◌+◌, ◌*◌, ◌<◌, ◌≤◌, length};
+ghost use Rattle.refusal.specs.Number.{number_of};
 ghost use Rattle.window.specs.Figures.{corrected_by};
 ghost use Rattle.window.specs.Push.{push_refusal, slot_of, next_at, next_words, slid, leaving, written, moved, Pushes};
 
+use refusal::Refusal;
+
 // What a window reads of a word's record, and the ring holds of it.
-#[derive(Clone, Copy)]
+#[derive(Clone, Copy, Debug, PartialEq, Eq, Default)]
 pub struct Record {
     pub state: u32,
     pub iterations: u32,
@@ -16,7 +19,7 @@ pub struct Record {
 }
 
 // The slot of the ring that the next record takes, how many records the window covers, and its figures over them. Zeros: an empty window.
-#[derive(Clone, Copy)]
+#[derive(Clone, Copy, Debug, PartialEq, Eq, Default)]
 pub struct Window {
     pub at: u64,
     pub words: u64,
@@ -25,28 +28,17 @@ pub struct Window {
     pub corrected: u64,
 }
 
-// What `push` answers.
-#[derive(Drop)]
-pub enum Pushed {
-    // The window with the record.
-    Now(Window),
-    // The call was refused, by its number; the ring is unchanged.
-    Refused(u32),
-}
-
-fn refusal(width: u32, room: usize) -> u32
-    ensures { result ≡ push_refusal width room }
+// Refused by 14, a width of 0 or above 4,096, then by 13, a shorter ring.
+fn accept(width: u32, room: usize) -> Result<(), Refusal>
+    ensures { number_of result ≡ push_refusal width room }
 {
-    if width == 0 {
-        return 14;
-    }
-    if 4096 < width {
-        return 14;
+    if width == 0 || 4096 < width {
+        return Err(Refusal::Width);
     }
     if room < 3 * (width as usize) {
-        return 13;
+        return Err(Refusal::TooShort);
     }
-    0
+    Ok(())
 }
 
 // What a record adds to the corrected bits.
@@ -60,8 +52,7 @@ fn corrected_by(of: Record) -> u32
 fn slide(sum: u64, more: u32, less: u32) -> u64
     ensures { result ≡ slid sum more less }
 {
-    let grown = std::num::wrapping_add_u64(sum, more as u64);
-    std::num::wrapping_sub_u64(grown, less as u64)
+    sum.wrapping_add(more as u64).wrapping_sub(less as u64)
 }
 
 fn slot_of(width: u64, at: u64) -> u64
@@ -95,11 +86,7 @@ fn oldest(width: u64, words: u64, ring: &[u32], slot: usize) -> Record
             bch: ring[3 * slot + 2],
         }
     } else {
-        Record {
-            state: 0,
-            iterations: 0,
-            bch: 0,
-        }
+        Record::default()
     }
 }
 
@@ -130,19 +117,16 @@ fn advance(width: u64, was: Window, slot: u64, old: Record, new: Record) -> Wind
 
 // One record more. `ring` has 3 numbers for each of the `width` records: the window's own, handed on with it.
 // Refused by 14 (a width of 0 or above 4,096), then 13 (a shorter ring).
-pub fn push(width: u32, was: Window, new: Record, ring: &mut [u32]) -> Pushed
+pub fn push(width: u32, was: Window, new: Record, ring: &mut [u32]) -> Result<Window, Refusal>
     ensures { Pushes width was new ring.old ring.new result }
 {
-    let number = refusal(width, ring.len());
-    if number != 0 {
-        return Pushed::Refused(number);
-    }
+    accept(width, ring.len())?;
     if !outcome::is_finished(new.state) {
-        return Pushed::Now(was);
+        return Ok(was);
     }
     let w = width as u64;
     let slot = slot_of(w, was.at);
     let old = oldest(w, was.words, ring, slot as usize);
     put(ring, slot as usize, new);
-    Pushed::Now(advance(w, was, slot, old, new))
+    Ok(advance(w, was, slot, old, new))
 }
