@@ -1,9 +1,7 @@
 -- Demand 3 of what a run wrote, joined from the run's definition and a word alone.
 use Rattle.std.specs.Prelude.{◌≡◌, ℤ}
 use Rattle.std.proofs.Math.Path.{refl, ap, ap₂, subst}
-use Rattle.std.proofs.Common.{sym, ◌∙◌}
-use mathlib.Core.List.{List, [], ◌∷◌}
-use Prim.Native.Nat.{ℕ, ◌≤◌, ◌<◌, max}
+use Rattle.std.proofs.Common.{sym, ◌∙◌, List, [], ◌∷◌, ℕ, ◌≤◌, ◌<◌, max}
 use Rattle.iteration.specs.Check.{Word}
 use Rattle.iteration.specs.Iteration.{Code}
 use Rattle.schedule.specs.Run.{Result}

@@ -6,9 +6,8 @@
 -- Not here: the refusals of the code (ldpc_shape, Accepted).
 use Rattle.std.specs.Prelude.{◌≡◌, refl, Bool, true, false, not, ◌||◌, cond, List, ℕ, zero, suc, ◌+◌, ◌*◌, ◌/◌, ◌%◌, ◌≤◌, ◌<◌, eqb, T}
 use Rattle.std.proofs.Math.Path.{sym}
-use Rattle.std.proofs.Common.{ap, ◌∙◌, subst}
-use native.Mathlib.Omega.{arith}
-use borrow.Author.Tests.{eqb-true, eqb-false, ltb-true, ltb-false, le-ltb, not-false}
+use Rattle.std.proofs.Common.{ap, ◌∙◌, subst, arith, eqb-true, ltb-true, ltb-false, le-ltb}
+use borrow.Author.Tests.{eqb-false, not-false}
 use Rattle.std.proofs.Math.Dec.{ltb}
 use Rattle.laws.specs.Choice.{or_left, or_right}
 use Rattle.ldpc_shape.specs.Shape.{sizes_of, code_refusal}

@@ -1,10 +1,7 @@
 -- `decoder::decoded` meets its contract: the order is filled, the run made over zeros, its words corrected, and the tally counted from its records.
 -- Assumes nothing.
-use mathlib.Core.Path.{◌≡◌, refl, sym, ap, ◌∙◌, subst}
-use mathlib.Core.List.{List}
-use Prim.Native.Nat.{ℕ, ◌*◌, ◌≤◌}
-use native.Mathlib.Omega.{arith}
-use lib.ListN.{length, take, replicate, length-replicate}
+use Rattle.std.proofs.Common.{◌≡◌, refl, sym, ap, ◌∙◌, subst, List, ℕ, ◌*◌, ◌≤◌, arith, length, take, replicate}
+use lib.ListN.{length-replicate}
 use Rattle.schedule.specs.WholeRun.{count}
 use Rattle.schedule.specs.Run.{input_order}
 use Rattle.schedule.proofs.Theorem.{input_once}

@@ -1,9 +1,7 @@
 -- `decoder_rounds::rounds` meets its contract. The loop's invariant: memory and columns stand for the schedule's state, and what is left to do of it
 -- is the run's.
 -- Assumes nothing.
-use mathlib.Core.Path.{◌≡◌}
-use Prim.Native.Nat.{◌-◌}
-use lib.ListN.{length}
+use Rattle.std.proofs.Common.{◌≡◌, ◌-◌, length}
 use Rattle.decoder_words.specs.Book.{book}
 use Rattle.decoder_words.specs.Given.{code_by}
 use Rattle.decoder_lanes.specs.Lane.{lane_word}
