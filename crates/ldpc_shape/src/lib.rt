@@ -26,12 +26,6 @@ pub struct Sizes {
     pub e: usize,
 }
 
-pub fn wide(x: u32) -> usize
-    ensures { result ≡ x }
-{
-    x as usize
-}
-
 // The address's residue modulo q.
 pub fn residue(a: u16, q: u32) -> usize
     requires { 0 < q }
@@ -97,16 +91,6 @@ pub fn accept(n: u32, lens: &[u32], addrs: &[u16]) -> Result<Sizes, Refusal>
         return Err(Refusal::EqualAddresses);
     }
     Ok(sizes_of(n, lens, addrs))
-}
-
-// The number of the first of the refusals 2 to 6 that applies, 0 for none.
-pub fn refusal(n: u32, lens: &[u32], addrs: &[u16]) -> u32
-    ensures { result ≡ code_refusal n lens.now addrs.now }
-{
-    match accept(n, lens, addrs) {
-        Ok(_) => 0,
-        Err(refused) => refused.number(),
-    }
 }
 
 // The numbers of an accepted code.
