@@ -6,7 +6,6 @@ use Prim.Native.Nat.{ℕ, zero, suc, ◌+◌, ◌<◌, ◌≤◌}
 use native.Mathlib.Nat.{not-suc-le-zero, le_of_suc-le-suc}
 use native.Mathlib.Numerals.{add-one}
 use lib.ListN.{length, get_or, set, take, drop}
-use lib.Seq.{take-length}
 
 module _ {A B : Type 0} (f : A → B) (d : A) where
   -- the first i values are written
@@ -21,6 +20,3 @@ module _ {A B : Type 0} (f : A → B) (d : A) where
 
   pub upto_again : (xs : List A) (out l : List B) (i : ℕ) (v : B) → i < length xs → length xs ≤ length out → l ≡ upto xs out i → v ≡ f (get_or xs i d) → set l i v ≡ upto xs out (i + 1)
   upto_again xs out l i v h k e w = ap₂ (λ (m : List B) (y : B). set m i y) e w ∙ (next xs out i h k ∙ ap (upto xs out) (sym (add-one i)))
-
-  pub upto_end : (xs : List A) (out l : List B) (i : ℕ) → i ≡ length xs → l ≡ upto xs out i → l ≡ map f xs ++ drop (length xs) out
-  upto_end xs out l i e w = w ∙ (ap (upto xs out) e ∙ ap (λ (m : List A). map f m ++ drop (length xs) out) (take-length xs))
