@@ -15,12 +15,17 @@ fn print_rate(rt: &impl Print, r: u8) -> io::Result<()> {
     println!(rt; "{r} {k} {p} {q} {d}")
 }
 
-fn main(rt: HostRuntime) -> io::Result<()> {
+fn print_all(rt: &impl Print) -> io::Result<()> {
     for r in RATES {
-        print_rate(&rt, r)?;
+        print_rate(rt, r)?;
     }
     println!(rt; "code {N_LDPC} {GROUP}")?;
     println!(rt; "slot {HEADER_BITS} {BCH_PARITY_BITS} {STUFF_BITS}")?;
     println!(rt; "modulation slot {MOD_SLOT} {MAIN_PER_MOD_SLOT} {TMCC_PER_MOD_SLOT}")?;
     println!(rt; "frame {SLOTS} {SLOT_UNIT} {FRAME_SYMBOLS} {TMCC_SIGNAL_BITS} {TMCC_INFO_BITS}")
+}
+
+// A write that fails ends the program: what it wrote shows it.
+fn main(rt: HostRuntime) {
+    let _written = print_all(&rt).is_ok();
 }

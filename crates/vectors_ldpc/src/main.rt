@@ -229,9 +229,14 @@ fn one(rt: &(impl Print + AllocGlobal), t: u32) -> io::Result<()>
     replay(rt, seed, 120, 41 + (t - 68) * 48, 12)
 }
 
-fn main(rt: HostRuntime) -> io::Result<()> {
+fn print_all(rt: &(impl Print + AllocGlobal)) -> io::Result<()> {
     for t in 0..70 {
-        one(&rt, t)?;
+        one(rt, t)?;
     }
     Ok(())
+}
+
+// A write that fails ends the program: what it wrote shows it.
+fn main(rt: HostRuntime) {
+    let _written = print_all(&rt).is_ok();
 }
