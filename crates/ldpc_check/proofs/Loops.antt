@@ -1,6 +1,6 @@
 -- What each turn of the loops does.
 use Rattle.std.proofs.Common.{◌≡◌, refl, sym, ap, ap₂, ◌∙◌, cond, List, [], ◌∷◌, ◌++◌, append_assoc, append-nil, ℕ, zero, suc, ◌+◌, ◌-◌, ◌*◌, ◌%◌, ◌≤◌, ◌<◌, arith, mod-lt, add-one, eq-eqb, ne_eqb, lt-ltb, le-ltb, eqb, ltb, length, take, drop, get_or, set, length-append, length-take, length-drop, length-set, take-append-drop, drop-cons, drop-drop, drop-set-lt, take-suc, take-suc-set, take_at, drop_at, length-take-le}
-use lib.Seq.{set_split}
+use Rattle.std.proofs.Math.Seq.{set_split}
 use Rattle.laws.specs.Lists.{lent_from, back_from}
 use Rattle.ldpc_shape.specs.declared.Sizes.{Sizes}
 use Rattle.ldpc_shape.specs.Shape.{p_of, q_of, sizes_of, rows_of, total, count_mod, code_refusal}

@@ -1,7 +1,7 @@
 -- Sums modulo 2: a row turned, the addresses of a row, all rows; the bits of the checks of one residue.
 use Rattle.std.proofs.Common.{◌≡◌, refl, sym, ap, ap₂, ◌∙◌, subst, cond, List, ◌++◌, ℕ, zero, suc, ◌+◌, ◌-◌, ◌/◌, ◌%◌, ◌≤◌, ◌<◌, arith, add-one, eq-eqb, ne_eqb, bit_xor, eqb, length, take, drop, get_or, length-take, length-drop, length-append, drop_of_length-le, drop-cons, get_or-take, get_or-drop, get_or-append-add, length-take-le}
-use native.Mathlib.Decide.{dec_lt}
-use lib.ListN.{get_or-append}
+use Rattle.std.proofs.Math.Decide.{dec_lt}
+use Rattle.std.proofs.Math.ListN.{get_or-append}
 use Rattle.laws.specs.Modulo.{xor_parity}
 use Rattle.laws.specs.Lists.{lent_from, back_from}
 use Rattle.ldpc_encode.specs.Sums.{xors, turned_bit, row_bit, AddedToSums, stair_bit}

@@ -1,6 +1,6 @@
 -- The byte loops: xor in place, the running sum, the copy.
 use Rattle.std.proofs.Common.{◌≡◌, refl, sym, ap, ap₂, ◌∙◌, List, [], ◌∷◌, ◌++◌, append_assoc, append-nil, ℕ, zero, suc, ◌+◌, ◌-◌, ◌≤◌, ◌<◌, arith, add-one, bit_xor, length, take, drop, get_or, set, length-take, length-drop, length-append, take-append-drop, take-suc, take-suc-set, take_all, take_at, drop-cons, drop-drop, drop-set-lt}
-use lib.Seq.{take-length, drop-length}
+use Rattle.std.proofs.Math.Seq.{take-length, drop-length}
 use Rattle.laws.specs.Lists.{back_from}
 use Rattle.ldpc_edges.specs.Code.{sums}
 use Rattle.ldpc_encode.specs.Sums.{xors}

@@ -1,7 +1,7 @@
 -- The loops over the checks l, l + q, and so on, and over the residues l.
 use Rattle.std.proofs.Common.{◌≡◌, refl, sym, ap, ap₂, ◌∙◌, subst, List, ℕ, zero, suc, ◌+◌, ◌-◌, ◌*◌, ◌/◌, ◌%◌, ◌≤◌, ◌<◌, arith, mod-lt, mul-lt-mul_of_pos_right, div-add-mod', div-lt_iff_lt-mul, zero-add, length, take, drop, get_or, set, replicate, length-set, length-drop, get_or-set_other, get_or-drop}
-use native.Mathlib.Decide.{ℕ_discrete}
-use lib.ListN.{get_or-replicate}
+use Rattle.std.proofs.Math.Decide.{ℕ_discrete}
+use Rattle.std.proofs.Math.ListN.{get_or-replicate}
 use Rattle.laws.specs.Modulo.{sum_to, sum_none, sum_more, sum_same, sum_grid}
 use Rattle.laws.specs.Stores.{set_at}
 use Rattle.laws.specs.Lists.{lent_from}

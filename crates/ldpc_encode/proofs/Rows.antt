@@ -1,7 +1,7 @@
 -- The rows' information bits at the checks l + jq.
 use Rattle.std.proofs.Common.{◌≡◌, sym, ap, ap₂, ◌∙◌, subst, Bool, true, false, cond, List, [], ◌∷◌, ◌++◌, ℕ, ◌+◌, ◌-◌, ◌*◌, ◌/◌, ◌%◌, ◌<◌, arith, mod-lt, mod-eq_of_lt, eqb, length, take, drop, get_or, get_or-take, get_or-drop}
-use native.Mathlib.Nat.{add-mul-div_right, add-mul-mod_self_right, div-eq_of_lt}
-use lib.Arith.{digits_lt}
+use Rattle.std.proofs.Math.Nat.{add-mul-div_right, add-mul-mod_self_right, div-eq_of_lt}
+use Rattle.std.proofs.Math.Arith.{digits_lt}
 use Rattle.ldpc_edges.specs.Code.{Edge, of_bits, only, ones}
 use Rattle.ldpc_edges.proofs.Inside.{only_append}
 use Rattle.ldpc_edges.specs.Insert.{insert, place}

@@ -1,6 +1,6 @@
 -- The slice is filled with the code's lists.
 use Rattle.std.proofs.Common.{◌≡◌, refl, sym, ap, ap₂, ◌∙◌, subst, cond, List, [], ◌++◌, ℕ, zero, suc, ◌+◌, ◌-◌, ◌%◌, ◌≤◌, ◌<◌, arith, mod-lt, add-one, eqb, length, take, drop, get_or, length-drop, take-append-drop, drop_of_length-le, get_or-take, length-take-le, ext_get_or, drop-drop}
-use lib.Seq.{slice}
+use Rattle.std.proofs.Math.Seq.{slice}
 use Rattle.laws.specs.Lists.{drop_take}
 use Rattle.ldpc_shape.specs.declared.Sizes.{Sizes}
 use Rattle.ldpc_shape.specs.Shape.{k_of, p_of, q_of, e_of, sizes_of, rows_of, total, code_refusal}

@@ -1,6 +1,6 @@
 -- One bit put into the slice, seen in its two parts.
 use Rattle.std.proofs.Common.{◌≡◌, sym, ap, ap₂, ◌∙◌, List, ℕ, ◌+◌, ◌-◌, ◌≤◌, ◌<◌, arith, length, take, drop, get_or, set, length-take, length-drop, drop-set-lt, get_or-take}
-use lib.Seq.{take-set-le, take-set-lt, drop-set-add}
+use Rattle.std.proofs.Math.Seq.{take-set-le, take-set-lt, drop-set-add}
 use Rattle.ldpc_lists.specs.Build.{Lists, parts, Ready, put}
 
 module _ (xs : List ℕ) (base p : ℕ) (h : (base ≤ length xs) × Ready p (parts base xs)) where

@@ -18,10 +18,14 @@ answer_number : (x : Result Ran Refusal) → number_of (answer_of x) ≡ number_
 answer_number (Ok r) = refl
 answer_number (Err e) = refl
 
+-- an accepted run counts afresh, whatever the tally was
+pub counted_afresh : (r : Ran) (t : Tally) → tally_of (Ok r) t ≡ record { rounds = r.rounds; loaded = r.loaded; iterations = r.given; kept = r.kept; lost = r.lost }
+counted_afresh r t = refl
+
 -- a refused run leaves the tally as it was
-tally_refused : (x : Result Ran Refusal) (t : Tally) → number_of x ≢ 0 → tally_of x t ≡ t
-tally_refused (Ok r) t some = absurd (some refl)
-tally_refused (Err e) t some = refl
+pub counted_refused : (x : Result Ran Refusal) (t : Tally) → number_of x ≢ 0 → tally_of x t ≡ t
+counted_refused (Ok r) t some = absurd (some refl)
+counted_refused (Err e) t some = refl
 
 -- it has no words, and so changes no records
 pub metered : {n : ℕ} {lens addrs : List ℕ} {soft : List ℤ} {set : Settings} {out out' : List ℕ} {rs rs' : List Noted} {t t' : Tally} {own : List ℕ} {work work' : List ℤ} {lists lists' : List ℕ}
@@ -48,7 +52,7 @@ metered {n} {lens} {addrs} {soft} {set} {out} {out'} {rs} {rs'} {t} {t'} {own} {
             ap answer_of answer_is,
             q.out_is,
             records ∙ ap (λ (y : Result Ran Refusal). records_of y own rs) answer_is,
-            tallies ∙ tally_refused x t (λ z. some (sym is ∙ sym R.runs.number ∙ z)),
+            tallies ∙ counted_refused x t (λ z. some (sym is ∙ sym R.runs.number ∙ z)),
             q.work_is,
             q.lists_is,
           );

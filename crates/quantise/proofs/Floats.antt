@@ -1,17 +1,10 @@
 -- The soft value of a binary32 from its bits, and the result as an i8.
 -- Assumes nothing.
-use mathlib.Core.Path.{◌≡◌, refl, sym, ◌∙◌, ap, ap₂, subst}
-use mathlib.Core.Bool.{Bool, true, false, not, cond}
-use Prim.Native.Nat.{ℕ, zero, suc, ◌+◌, ◌-◌, ◌*◌, ◌/◌, ◌%◌, ◌^◌, ◌<◌, ◌≤◌, min}
-use native.Mathlib.Nat.{mul-one}
-use native.Mathlib.Omega.{arith}
-use lib.Dec.{T, ltb, leb, eqb, lit<}
-use lib.IntN.{ℤ, pos, negsuc, neg_ℤ, sub_ℕ, ◌-ℤ◌, +ℤ_idl}
+use Rattle.std.proofs.Common.{◌≡◌, refl, sym, ◌∙◌, ap, ap₂, subst, Bool, true, false, not, cond, ℕ, zero, suc, ◌+◌, ◌-◌, ◌*◌, ◌/◌, ◌%◌, ◌^◌, ◌<◌, ◌≤◌, min, mul-one, arith, T, ltb, leb, eqb, lit<, ℤ, pos, negsuc, neg_ℤ, ◌-ℤ◌, w8, SFits, to_z, of_z, Float}
+use Rattle.std.proofs.Math.IntN.{sub_ℕ, +ℤ_idl}
 use lib.Signed.{mag}
-use mir.Syntax.{w8}
-use mir.Val.{SFits, to_z, of_z}
 use mir.ValLaws.{to_z-of_z}
-use lib.Ieee.{Float, nan, inf, fin, binary32, up, down, odd, of_fields, of_bits, is_nan, to_bits, fits}
+use lib.Ieee.{nan, inf, fin, binary32, up, down, odd, of_fields, of_bits, is_nan, to_bits, fits}
 use lib.Ieee.Bits.{of_bits-to_bits}
 use lib.Ieee.Exact.{HasValue, odd_sign}
 use lib.Ieee.Fits.{down_pos}

@@ -24,6 +24,7 @@ fn read_input<R: Read>(input: &mut R, buf: &mut [u8]) -> io::Result<usize>
     ensures bytes { IfOk result (λ size. IfSome (R.remaining input.old) (λ all. take size buf.new ≡ take (length buf.old) all)) }
 {
     let mut size = 0;
+    // No `for`: how many bytes a read brings differs.
     while size < buf.len() {
         let end = part_end(size, buf.len());
         let more = input.read(&mut buf[size..end])?;

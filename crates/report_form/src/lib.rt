@@ -93,7 +93,7 @@ fn read_field(text: &[u8], most: u32) -> Option<(u32, &[u8])>
     read_number(text, most)
 }
 
-// The number below 0 that many.
+// The number below 0 that many. In the reader itself it would be three casts.
 fn minus(value: u32) -> i8
     requires { (0 < value) × (value ≤ 128) }
     ensures { result ≡ negsuc (value - 1) }

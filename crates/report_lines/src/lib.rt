@@ -16,6 +16,7 @@ pub type Lines = ArrayString<1028>;
 // if it is not lost, and the bits that LDPC changed.
 #[derive(Clone, Copy, Debug)]
 pub struct WordResult {
+    // As the record has it, whose numbers the C interface lends.
     pub state: u32,
     pub iterations: u32,
     pub unsatisfied: u32,

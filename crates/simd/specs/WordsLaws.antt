@@ -1,8 +1,7 @@
 -- A row written, and the word of its column; a check on a column is the check of its word; the column laws of the code.
-use Rattle.std.specs.Prelude.{◌≡◌, Bool, true, false, cond, List, eqb, length, ℤ, ◌+ℤ◌, ◌-ℤ◌}
-use Rattle.std.proofs.Math.Path.{refl, sym, ap}
+use Rattle.std.specs.Prelude.{◌≡◌, Bool, true, false, cond, List, eqb, length, ℤ, ◌+ℤ◌, ◌-ℤ◌, ℕ, zero, suc, ◌+◌, ◌%◌, ◌≤◌, ◌<◌}
 use Rattle.std.proofs.Common.{◌∙◌, arith, eqb-true, eq-eqb, ne_eqb}
-use Prim.Native.Nat.{ℕ, zero, suc, ◌+◌, ◌%◌, ◌≤◌, ◌<◌}
+use Rattle.std.proofs.Math.Path.{refl, sym, ap}
 use Rattle.std.proofs.lemmas.Bool.{eqb-false}
 use Rattle.laws.specs.Put.{put_other}
 use Rattle.laws.specs.Definitions.{put}

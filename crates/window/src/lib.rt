@@ -12,6 +12,7 @@ use refusal::Refusal;
 // What a window reads of a word's record, and the ring holds of it.
 #[derive(Clone, Copy, Debug, PartialEq, Eq, Default)]
 pub struct Record {
+    // Numbers, since the ring and the records are lent by the C interface and may hold any.
     pub state: u32,
     pub iterations: u32,
     // 4,294,967,295 for a lost word.

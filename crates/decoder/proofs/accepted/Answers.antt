@@ -1,7 +1,7 @@
 -- `decoder::accepted` meets its contract: the lists are built into the lent slice, the words decoded, and what was lent is cleared.
 -- Assumes nothing.
 use Rattle.std.proofs.Common.{◌≡◌, ap, ◌∙◌, ◌++◌, ℕ, ◌*◌, ◌≤◌, arith, pos, length, take, drop, replicate, length-take-le, take_at, drop_at}
-use lib.ListN.{length-replicate, get_or-replicate}
+use Rattle.std.proofs.Math.ListN.{length-replicate, get_or-replicate}
 use Rattle.ldpc_edges.specs.Code.{edge_lists}
 use Rattle.fixed_conflicts.specs.Prepared.{prepared}
 use Rattle.decoder_refuse.specs.Refusal.{lists_need}

@@ -1,7 +1,7 @@
 -- `decoder::decoded` meets its contract: the order is filled, the run made over zeros, its words corrected, and the tally counted from its records.
 -- Assumes nothing.
 use Rattle.std.proofs.Common.{◌≡◌, refl, sym, ap, ◌∙◌, subst, List, ℕ, ◌*◌, ◌≤◌, arith, length, take, replicate}
-use lib.ListN.{length-replicate}
+use Rattle.std.proofs.Math.ListN.{length-replicate}
 use Rattle.schedule.specs.WholeRun.{count}
 use Rattle.schedule.specs.Run.{input_order}
 use Rattle.schedule.proofs.Theorem.{input_once}

@@ -1,7 +1,7 @@
-use Rattle.std.proofs.lemmas.Int.{to_z-of_z}
 use Rattle.std.proofs.Common.{rules, arith, ◌≡◌, ◌∙◌, subst, cond, ◌+◌, ◌≤◌, ◌<◌, length, ℤ, nat_abs, ◌+ℤ◌, ◌-ℤ◌, w32, to_z, of_z}
-use borrow.Author.Rules.{sfits_of}
+use Rattle.std.proofs.lemmas.Int.{to_z-of_z}
 use lib.Signed.{mag}
+use borrow.Author.Rules.{sfits_of}
 use Rattle.laws.specs.Signed.{plain}
 use Rattle.lane16.specs.Lanes.{int_at}
 use Rattle.fixed_layered.specs.Bounds.{abs_byte}

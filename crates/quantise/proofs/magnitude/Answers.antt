@@ -1,7 +1,6 @@
 -- `quantise::magnitude` meets its contract: `size_of` in each of the three ranges.
 -- Assumes nothing.
-use native.Mathlib.Omega.{arith}
-use lib.Dec.{lit<}
+use Rattle.std.proofs.Common.{arith, lit<}
 use Rattle.quantise.proofs.Sizes.{size_small, size_large, size_middle, size_below, moved_le, moved_fits}
 use Rattle.quantise.proofs.magnitude.Goals as goal
 

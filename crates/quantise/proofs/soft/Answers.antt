@@ -1,5 +1,5 @@
-use Rattle.std.proofs.Common.{◌≡◌, true, false, sym, ◌∙◌, ap₂}
-use Rattle.std.proofs.lemmas.Bool.{le-leb, lt-leb}
+use Rattle.std.proofs.Common.{◌≡◌, true, false, sym, ◌∙◌, ap₂, le-leb}
+use Rattle.std.proofs.lemmas.Bool.{lt-leb}
 use lib.Ieee.{binary32, mul}
 use lib.Ieee.Fits.{mul-fits}
 use Rattle.quantise.specs.Soft.{signed, soft_value}

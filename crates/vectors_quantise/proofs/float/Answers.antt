@@ -1,5 +1,4 @@
-use Rattle.std.proofs.Common.{sym, ◌∙◌, subst, Bool, not, ◌%◌, T}
-use Rattle.std.proofs.lemmas.Bool.{le-ltb}
+use Rattle.std.proofs.Common.{sym, ◌∙◌, subst, Bool, not, ◌%◌, T, le-ltb}
 use lib.Ieee.{binary32}
 use lib.Ieee.Bits.{nan_bits_above}
 use Rattle.vectors_quantise.proofs.float.Goals as goal
