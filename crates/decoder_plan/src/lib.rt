@@ -1,4 +1,4 @@
-// What a run is asked for, and what it goes by.
+// What a run is asked for, what it goes by, and how it ends.
 #![tactic(auto)]
 
 ghost use Rattle.std.specs.Prelude.{◌≡◌, ◌<◌};
@@ -47,6 +47,13 @@ pub struct Plan {
     pub schedule: Schedule,
     pub offset: i8,
     pub part: Part,
+}
+
+// How a run ended.
+#[derive(Debug, Clone, Copy, PartialEq, Eq)]
+pub enum Ending {
+    Finished,
+    Stopped,
 }
 
 impl Schedule {

@@ -1,13 +1,15 @@
 -- What the report writes: the scope's "Report text", behind the input.
 use Rattle.std.specs.Prelude.{Bool, true, false, List, [], ◌∷◌, ◌++◌, ℕ, zero, suc, Option, Some, None}
 use Rattle.laws.specs.Definitions.{decimal}
+use Rattle.decoder_plan.specs.declared.Ending.{Ending}
+use Rattle.decoder_plan.specs.declared.Ending.TheVariants.{Finished, Stopped}
 use Rattle.report_form.specs.Description.{line}
 use Rattle.report_lines.specs.declared.WordResult.{WordResult}
 
 -- "ending (`finished` or `stopped`)"
-abbrev pub ending_text : Bool → List ℕ
-ending_text true = 115 ∷ 116 ∷ 111 ∷ 112 ∷ 112 ∷ 101 ∷ 100 ∷ []
-ending_text false = 102 ∷ 105 ∷ 110 ∷ 105 ∷ 115 ∷ 104 ∷ 101 ∷ 100 ∷ []
+abbrev pub ending_text : Ending → List ℕ
+ending_text Stopped = 115 ∷ 116 ∷ 111 ∷ 112 ∷ 112 ∷ 101 ∷ 100 ∷ []
+ending_text Finished = 102 ∷ 105 ∷ 110 ∷ 105 ∷ 115 ∷ 104 ∷ 101 ∷ 100 ∷ []
 
 -- "state (`waiting`, `held`, `met`, `unmet`)", by the record's numbers 0, 1, 2, 3
 abbrev pub state_text : ℕ → List ℕ
@@ -37,8 +39,8 @@ result_with state iterations unsatisfied lost corrected changed =
     }
 
 -- "First line: ending, rounds"
-abbrev pub first_line : Bool → ℕ → List ℕ
-first_line stopped rounds = line (ending_text stopped) (decimal rounds ∷ [])
+abbrev pub first_line : Ending → ℕ → List ℕ
+first_line ending rounds = line (ending_text ending) (decimal rounds ∷ [])
 
 -- "Then word, state, iterations, unsatisfied, BCH"; of the bits changed by LDPC: "Report lines gain it as a last field"
 abbrev pub result_line : ℕ → WordResult → List ℕ
@@ -49,8 +51,8 @@ result_lines word [] = []
 result_lines word (r ∷ rs) = result_line word r ++ result_lines (suc word) rs
 
 -- the whole output of an accepted run, its words numbered from 0
-abbrev pub render_result : Bool → ℕ → List WordResult → List ℕ
-render_result stopped rounds rs = first_line stopped rounds ++ result_lines 0 rs
+abbrev pub render_result : Ending → ℕ → List WordResult → List ℕ
+render_result ending rounds rs = first_line ending rounds ++ result_lines 0 rs
 
 -- "A refusal prints `refused`, tab, number"
 abbrev pub refused_line : ℕ → List ℕ

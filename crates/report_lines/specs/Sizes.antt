@@ -1,8 +1,10 @@
 -- How long the fields and lines are, which text a state has, and lines one after another.
-use Rattle.std.specs.Prelude.{◌≡◌, refl, Bool, true, false, List, [], ◌∷◌, ◌++◌, ℕ, zero, suc, ◌+◌, ◌≤◌, ◌<◌, length, Option, Some, None, IfSome}
+use Rattle.std.specs.Prelude.{◌≡◌, refl, List, [], ◌∷◌, ◌++◌, ℕ, zero, suc, ◌+◌, ◌≤◌, ◌<◌, length, Option, Some, None, IfSome}
 use Rattle.std.proofs.Common.{sym, ap, ◌∙◌, append_assoc, append-nil, add-zero, add-suc, suc-add, arith, length-append}
 use Rattle.laws.specs.Decimal.{decimal_length}
 use Rattle.laws.specs.Definitions.{decimal}
+use Rattle.decoder_plan.specs.declared.Ending.{Ending}
+use Rattle.decoder_plan.specs.declared.Ending.TheVariants.{Finished, Stopped}
 use Rattle.report_lines.specs.Lines.{ending_text, state_text, bch_text, first_line, result_line, result_lines}
 use Rattle.report_lines.specs.declared.WordResult.{WordResult}
 
@@ -12,9 +14,9 @@ number_length v h = decimal_length 9 v (omega arith)
 pub field_length : (v b : ℕ) → v < 4294967296 → length (decimal v ++ b ∷ []) ≤ 11
 field_length v b h = omega (arith, length-append (decimal v) (b ∷ []), number_length v h)
 
-pub ending_length : (stopped : Bool) → length (ending_text stopped ++ 9 ∷ []) ≤ 9
-ending_length true = omega arith
-ending_length false = omega arith
+pub ending_length : (ending : Ending) → length (ending_text ending ++ 9 ∷ []) ≤ 9
+ending_length Finished = omega arith
+ending_length Stopped = omega arith
 
 pub state_length : (state : ℕ) → length (state_text state ++ 9 ∷ []) ≤ 8
 state_length zero = omega arith
@@ -36,9 +38,9 @@ tabbed : (xs ys : List ℕ) → length (xs ++ 9 ∷ ys) ≡ length (xs ++ 9 ∷ 
 tabbed xs ys = omega (arith, length-append xs (9 ∷ ys), length-append xs (9 ∷ []))
 
 -- a first line is at most 20 bytes long
-pub first_line_length : (stopped : Bool) (rounds : ℕ) → rounds < 4294967296 → length (first_line stopped rounds) ≤ 20
-first_line_length stopped rounds h =
-    omega (arith, tabbed (ending_text stopped) (decimal rounds ++ 10 ∷ []), ending_length stopped, field_length rounds 10 h)
+pub first_line_length : (ending : Ending) (rounds : ℕ) → rounds < 4294967296 → length (first_line ending rounds) ≤ 20
+first_line_length ending rounds h =
+    omega (arith, tabbed (ending_text ending) (decimal rounds ++ 10 ∷ []), ending_length ending, field_length rounds 10 h)
 
 -- a word's line is at most 63 bytes long
 pub word_line_length : (word : ℕ) (r : WordResult) → word < 4294967296 → r.iterations < 4294967296 → r.unsatisfied < 4294967296 → IfSome r.corrected (λ c. c < 4294967296) → r.changed < 4294967296 → length (result_line word r) ≤ 63

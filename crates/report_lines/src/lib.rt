@@ -7,6 +7,7 @@ ghost use Rattle.laws.specs.Definitions.{decimal};
 ghost use Rattle.report_lines.specs.Lines.{ending_text, state_text, bch_text, first_line, result_line, refused_line};
 
 use arrayvec::ArrayString;
+use decoder_plan::Ending;
 use itoa::Buffer;
 
 // The report's lines. The longest has 16 words: 20 + 16 * 63 bytes.
@@ -35,11 +36,14 @@ fn put_number(out: &mut Lines, value: u32, behind: char)
 }
 
 // The ending.
-fn ending_text(stopped: bool) -> &'static str
-    ensures text { result.now ≡ ending_text stopped }
+fn ending_text(ending: Ending) -> &'static str
+    ensures text { result.now ≡ ending_text ending }
     ensures short { length result.now ≤ 8 }
 {
-    if stopped { "stopped" } else { "finished" }
+    match ending {
+        Ending::Finished => "finished",
+        Ending::Stopped => "stopped",
+    }
 }
 
 // A word's state, by its number.
@@ -68,12 +72,12 @@ fn put_bch(out: &mut Lines, corrected: Option<u32>)
 }
 
 // The first line of an accepted run: at most 20 bytes.
-pub fn write_first(out: &mut Lines, stopped: bool, rounds: u32)
+pub fn write_first(out: &mut Lines, ending: Ending, rounds: u32)
     requires { array_string_len out.old + 20 ≤ 1028 }
-    ensures bytes { out.new.bytes ≡ out.old.bytes ++ first_line stopped rounds }
+    ensures bytes { out.new.bytes ≡ out.old.bytes ++ first_line ending rounds }
     ensures room { array_string_len out.new ≤ array_string_len out.old + 20 }
 {
-    out.push_str(ending_text(stopped));
+    out.push_str(ending_text(ending));
     out.push('\t');
     put_number(out, rounds, '\n');
 }

@@ -35,7 +35,7 @@ pub record State (X : Type 0) : Type 0 where
 pub data Ending : Type 0 where
   finished stopped : Ending
 
--- an ending as the code answers it
+-- an ending as a flag, by which the laws of the loop tell it
 unfoldable pub is_stopped : Ending → Bool
 is_stopped finished = false
 is_stopped stopped = true

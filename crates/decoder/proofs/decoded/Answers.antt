@@ -37,7 +37,7 @@ tally-sums-requires c =
     (c.number.ensures ∙ ap input_order (length-replicate {A = ℕ} 4096 0)) in
     let finished :
     Finished (code_by c.args.plan c.args.lists.now) c.args.plan c.args.soft.now (book c.fill.new.self c.args.out.now)
-    c.complete-ended.result.stopped c.complete-ended.result.rounds c.complete-ended.result.lanes.next (book c.correct.new.records c.correct.new.out) =
+    c.complete-ended.result.ending c.complete-ended.result.rounds c.complete-ended.result.lanes.next (book c.correct.new.records c.correct.new.out) =
     finished_so _ _ _ _ _ _ _ _ _ _ order_input c.complete-ended.ensures c.correct.ensures in
     record {
       words_bound =
@@ -52,7 +52,7 @@ overflow_cast-result c =
     (c.number.ensures ∙ ap input_order (length-replicate {A = ℕ} 4096 0)) in
     let finished :
     Finished (code_by c.args.plan c.args.lists.now) c.args.plan c.args.soft.now (book c.fill.new.self c.args.out.now)
-    c.complete-ended.result.stopped c.complete-ended.result.rounds c.complete-ended.result.lanes.next (book c.correct.new.records c.correct.new.out) =
+    c.complete-ended.result.ending c.complete-ended.result.rounds c.complete-ended.result.lanes.next (book c.correct.new.records c.correct.new.out) =
     finished_so _ _ _ _ _ _ _ _ _ _ order_input c.complete-ended.ensures c.correct.ensures in
     omega (arith, next_le _ _ _ _ _ _ _ _ finished c.requires.given.0.fair.some_lanes, c.requires.given.0.fair.few_words)
 
@@ -65,7 +65,7 @@ returns c =
     (c.number.ensures ∙ ap input_order (length-replicate {A = ℕ} 4096 0)) in
     let finished :
     Finished (code_by c.args.plan c.args.lists.now) c.args.plan c.args.soft.now (book c.fill.new.self c.args.out.now)
-    c.complete-ended.result.stopped c.complete-ended.result.rounds c.complete-ended.result.lanes.next (book c.correct.new.records c.correct.new.out) =
+    c.complete-ended.result.ending c.complete-ended.result.rounds c.complete-ended.result.lanes.next (book c.correct.new.records c.correct.new.out) =
     finished_so _ _ _ _ _ _ _ _ _ _ order_input c.complete-ended.ensures c.correct.ensures in
     record {
       words_are = refl;

@@ -17,14 +17,8 @@ pub loop-w-preserved : goal.loop-w-preserved
 loop-w-preserved c =
     ap (λ x. set c.loop-w.records c.loop-w.w x) c.read.ensures ∙ records_again _ c.loop-w.w _ c.loop-w.records c.loop-w.invariant
 
-pub returns-then-ran : goal.returns-then-ran
-returns-then-ran c =
-    metered_stored c.args.tally.now c.in_ok-ran.ran _
-    (recorded_so _ c.min-size.result (4096 * fields) _ c.core.new.records (c.min-size.ensures ∙ min_room _) refl c.core.auto.records c.in_ok-ran.ensures)
-    c.loop-w.w c.loop-w.invariant (omega arith) c.if-ran.true
-
 pub returns : goal.returns
 returns c =
-    metered_stored c.args.tally.now c.in_ok-ran.ran _
+    metered_stored c.args.tally.now c.in_ok-ran.ran
     (recorded_so _ c.min-size.result (4096 * fields) _ c.core.new.records (c.min-size.ensures ∙ min_room _) refl c.core.auto.records c.in_ok-ran.ensures)
-    c.loop-w.w c.loop-w.invariant (omega arith) c.if-ran.false
+    c.loop-w.w c.loop-w.invariant (omega arith)
