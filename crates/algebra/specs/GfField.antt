@@ -1,5 +1,5 @@
 -- The elements of Gf with xor and `mul` are a ring; a field where every element squared suc n times is itself, and only 0 and 1 are their own
--- squares (GfChecks: by two computed checks).
+-- squares (GfChecks: by two computed checks). Pairs with a proof are compared by the logic's HLevel, which std does not hand on.
 use Rattle.std.specs.Prelude.{◌≡◌, ◌⊎◌, ℕ, suc, ◌^◌, ◌<◌}
 use Rattle.std.proofs.Common.{ap, ◌∙◌, arith, pow_pos}
 use mathlib.Core.HLevel.{Σ_prop_discrete}

@@ -1,4 +1,5 @@
 -- The product `mul` is that of a commutative ring of characteristic 2 with xor, on the numbers below 2 ^ suc n.
+-- Pairs with a proof are equal by the logic's HLevel, which std does not hand on.
 use Rattle.std.specs.Prelude.{◌≡◌}
 use Rattle.std.proofs.Math.Path.{refl, sym, ap, ap₂}
 use Rattle.std.proofs.Common.{◌∙◌, not-suc-le-zero, le_of_suc-le-suc, mod-lt, one-mul, le_of_lt, arith, ℕ, zero, suc, ◌*◌, ◌/◌, ◌%◌, ◌^◌, ◌≤◌, ◌<◌}

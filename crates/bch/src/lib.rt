@@ -10,6 +10,7 @@ ghost use Rattle.bch.specs.Places.{flip_all};
 ghost use Rattle.bch.specs.Decode.{Located};
 ghost use Rattle.bch.specs.Answers.{message_refusal, parity_out, encode_out, Decodes};
 
+use bch_locator::Register;
 use bch_table::Reg;
 use refusal::Refusal;
 
@@ -82,14 +83,13 @@ fn correct(word: &mut [u8], r: Reg) -> Decoded
     requires { (193 ≤ length word.old) × (length word.old ≤ 65535) × (value_of r ≡ remainder_of word.old) }
     ensures { Located word.old word.new result }
 {
-    let Some(register) = bch_locator::shortest(bch_locator::syndromes(r)) else {
+    let Some(register) = Register::shortest(bch_locator::syndromes(r)) else {
         return Decoded::Uncorrectable;
     };
-    let len = register.len;
-    let found = bch_locator::chien(register, word.len());
+    let found = register.chien(word.len());
     flip(word, found.as_slice());
-    if found.len() == len {
-        Decoded::Corrected(len as u32)
+    if found.len() == register.len {
+        Decoded::Corrected(register.len as u32)
     } else {
         Decoded::Uncorrectable
     }

@@ -1,22 +1,15 @@
 -- An array of sixteen that a loop fills: each entry below i meets P. Assumes nothing.
-use Rattle.std.proofs.Common.{◌≡◌, refl, ◌∙◌, List, ℕ, ◌+◌, ◌*◌, ◌≤◌, ◌<◌, mul-le-mul, le_of_suc-le-suc, arith, get_or, set, length-set, replicate}
+use Rattle.std.proofs.Common.{◌≡◌, ◌∙◌, List, ℕ, ◌+◌, ◌*◌, ◌≤◌, ◌<◌, arith, get_or, set, length-set}
 use Rattle.algebra.specs.Series.{ev}
 use Rattle.gf16.specs.Field16.{R16, α}
 use Rattle.bch_locator.specs.Element.{to_el, poly}
 use Rattle.bch_locator.specs.Lanes.{Lanes, Products}
-use Rattle.laws.specs.Lists.{zeros_at}
 use Rattle.laws.specs.Stores.{set_each, grown}
 
 pub record Filling (P : ℕ → ℕ → Type 0) (r : List ℕ) (i : ℕ) : Type 0 where
   pub lanes : Lanes r
   pub below : i ≤ 16
   pub at : (j : ℕ) → j < i → P j (get_or r j 0)
-
-pub zero_lanes : Lanes (replicate 16 0)
-zero_lanes = record { len = refl; fit = λ i. let e = zeros_at 16 i in omega arith }
-
-pub filling_start : (P : ℕ → ℕ → Type 0) (r : List ℕ) → Lanes r → Filling P r 0
-filling_start P r z = record { lanes = z; below = omega arith; at = λ j h. absurd (omega arith) }
 
 pub lanes_set : (r : List ℕ) (i v : ℕ) → Lanes r → i < 16 → v < 65536 → Lanes (set r i v)
 lanes_set r i v l h hv = record { len = length-set r i v ∙ l.len; fit = set_each 0 (λ _ x. x < 65536) r i v (omega (arith, l.len)) hv (λ j _. l.fit j) }
@@ -28,11 +21,6 @@ filling_again P r i v F h hv p =
 -- ---- `times`
 abbrev pub At : List ℕ → List ℕ → ℕ → ℕ → Type 0
 At t p i v = to_el v ≡ ev R16 32 (get_or t i 0 * get_or p i 0) α
-
-pub product_fits : (a b : ℕ) → a < 65536 → b ≤ 4096 → a * b < 2147483648
-product_fits a b ha hb =
-    let m : a * b ≤ 65535 * 4096 = mul-le-mul (le_of_suc-le-suc ha) hb in
-    omega arith
 
 pub products_end : (r t p : List ℕ) (i : ℕ) → 16 ≤ i → Filling (At t p) r i → Products r t p
 unfolding poly

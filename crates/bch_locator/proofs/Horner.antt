@@ -1,5 +1,5 @@
 -- The remainder's value at the odd powers of α, from the top digit down in all lanes at once; the even powers by squares. Assumes nothing.
-use Rattle.std.proofs.Common.{◌≡◌, refl, sym, ap, ap₂, ◌∙◌, List, ℕ, zero, suc, ◌+◌, ◌-◌, ◌*◌, ◌/◌, ◌%◌, ◌^◌, ◌≤◌, ◌<◌, mod-lt, not-suc-le-zero, div-one, add-one, arith, bit_xor, bit_and, shr-shr, get_or, length, set, length-set, replicate, get_or-set_same, get_or-set_other}
+use Rattle.std.proofs.Common.{◌≡◌, refl, sym, ap, ap₂, ◌∙◌, List, ℕ, zero, suc, ◌+◌, ◌-◌, ◌*◌, ◌/◌, ◌%◌, ◌^◌, ◌≤◌, ◌<◌, mod-lt, not-suc-le-zero, add-one, arith, bit_xor, bit_and, shr-shr, get_or, length, set, length-set, replicate, get_or-set_same, get_or-set_other}
 use Rattle.std.proofs.Math.Decide.{ℕ_discrete}
 use Rattle.laws.specs.Xor.{⊕-lt, two_cases, two_pos}
 use Rattle.laws.specs.Definitions.{◌⊕◌}
@@ -88,16 +88,6 @@ partial_again s w r k one two next p q D h le P Q U W A =
     half : w / 2 ^ k ≡ w / 2 ^ (k - 1) / 2
     half = let e : k ≡ k - 1 + 1 = omega arith in ap (λ (z : ℕ). w / 2 ^ z) e ∙ sym (shr-shr w (k - 1) 1)
 
-pub partial_end : (r s : List ℕ) (w k : ℕ) → w < 2 ^ 64 → k ≤ 0 → Partial r s w k → Horner r s w
-partial_end r s w k hw h D =
-    let e : k ≡ 0 = omega arith in
-    record {
-      lanes = D.lanes;
-      fit = hw;
-      at = λ i g. D.at i g ∙ ap (λ (m : ℕ). R16.◌⊞◌ (R16.◌⊠◌ (pow R16 (odd i) (64 - m)) (poly s i)) (ev R16 (64 - m) (w / 2 ^ m) (odd i))) e
-          ∙ ap (λ (m : ℕ). R16.◌⊞◌ (R16.◌⊠◌ (pow R16 (odd i) 64) (poly s i)) (ev R16 64 m (odd i))) (div-one w);
-    }
-
 -- ---- three words
 poly_none : (i : ℕ) → poly (replicate 16 0) i ≡ R16.𝟘
 unfolding poly
@@ -123,9 +113,6 @@ pub record Squaring (s t : List ℕ) (k : ℕ) : Type 0 where
   pub most : k ≤ 12
   pub lane : (j : ℕ) → j < k → poly s (2 * j) ≡ poly t j
   pub square : (j : ℕ) → j < k → poly s (2 * j + 1) ≡ R16.◌⊠◌ (poly s j) (poly s j)
-
-pub squaring_start : (s t : List ℕ) → length s ≡ 24 → Squaring s t 0
-squaring_start s t e = record { len = e; most = omega arith; lane = λ j h. absurd (not-suc-le-zero h); square = λ j h. absurd (not-suc-le-zero h) }
 
 -- lane k, and the square of what stands at k then
 pub squaring_again : (s t : List ℕ) (k v q : ℕ) → k < 12 → Squaring s t k → v ≡ get_or t k 0
@@ -165,9 +152,6 @@ squaring_again s t k v q h S e f =
         ∙ ap (λ (m : ℕ). R16.◌⊠◌ (to_el m) (to_el m)) b
     square j g (no d) =
         ap to_el (earlier (2 * j + 1) (omega arith)) ∙ S.square j (omega arith) ∙ ap (λ (m : ℕ). R16.◌⊠◌ (to_el m) (to_el m)) (sym (earlier j (omega arith)))
-
-pub squaring_end : (s t : List ℕ) (k : ℕ) → 12 ≤ k → Squaring s t k → Squared s t
-squaring_end s t k h S = record { len = S.len; lane = λ j g. S.lane j (omega arith); square = λ j g. S.square j (omega arith) }
 
 -- ---- all of them
 even_place : (s t : List ℕ) (w : ℕ) → Squared s t → ((i : ℕ) → i < 12 → poly t i ≡ ev R16 192 w (odd i)) → (j k : ℕ) → j ≡ 2 * k → j < 24

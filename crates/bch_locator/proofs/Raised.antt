@@ -1,5 +1,5 @@
 -- Lanes times powers of two are elements times powers of α. Assumes nothing.
-use Rattle.std.proofs.Common.{◌≡◌, sym, ap, ap₂, ◌∙◌, subst, List, ℕ, zero, suc, ◌+◌, ◌-◌, ◌*◌, ◌^◌, ◌≤◌, ◌<◌, pow-suc, mul_assoc, arith, T, eqb, eqb→eq, pow_mono, get_or, length}
+use Rattle.std.proofs.Common.{◌≡◌, sym, ap, ap₂, ◌∙◌, List, ℕ, zero, suc, ◌+◌, ◌-◌, ◌*◌, ◌^◌, ◌≤◌, ◌<◌, pow-suc, mul_assoc, arith, T, eqb, eqb→eq, get_or, length}
 use Rattle.std.proofs.Math.Decide.{dec_lt}
 use Rattle.std.specs.Int.Bits.{xor_shifted}
 use Rattle.std.proofs.Math.ListN.{get_or-eq_default}
@@ -22,13 +22,6 @@ powers_by p e len low t z = record { at = λ i h. eqb→eq _ _ (below_at 12 _ t 
         let k : i ≡ 12 + (i - 12) = omega arith in
         ap (λ (m : ℕ). get_or p m 0) k ∙ eqb→eq _ _ (below_at 4 _ z (i - 12) (omega arith))
     pick i h (no g) = get_or-eq_default p 0 {n = i} (omega (arith, len))
-
-pub powers_small : (p : List ℕ) (e : ℕ → ℕ) → PowersOf p e → (i : ℕ) → get_or p i 0 ≤ 4096
-powers_small p e P i = pick (dec_lt i 12)
-  where
-    pick : Dec (i < 12) → get_or p i 0 ≤ 4096
-    pick (yes h) = subst (λ (z : ℕ). z ≤ 4096) (sym (P.at i h)) (pow_mono (P.low i h))
-    pick (no h) = let z = P.rest i (omega arith) in omega arith
 
 ev_up : {F : Type 0} (R : Ring F) (k e w : ℕ) (z : F) → ev R (k + e) (w * 2 ^ e) z ≡ R.◌⊠◌ (pow R z e) (ev R k w z)
 unfolding pow

@@ -1,5 +1,5 @@
 -- The search: lane i holds c (l - 1 - i) α^(p (i + 1)), so that c l and the lanes' sum are α^(p l) times the register at α^-p. Assumes nothing.
-use Rattle.std.proofs.Common.{◌≡◌, refl, sym, ap, ap₂, ◌∙◌, subst, ◌≢◌, List, ℕ, zero, suc, ◌+◌, ◌-◌, ◌*◌, ◌≤◌, ◌<◌, zero-mul, mul-zero, not-suc-le-zero, add-one, arith, bit_xor, get_or, length, set, replicate, get_or-set_other, [], ◌∷◌, ◌++◌}
+use Rattle.std.proofs.Common.{◌≡◌, refl, sym, ap, ap₂, ◌∙◌, subst, ◌≢◌, List, ℕ, zero, suc, ◌+◌, ◌-◌, ◌*◌, ◌≤◌, ◌<◌, zero-mul, mul-zero, not-suc-le-zero, add-one, arith, bit_xor, get_or, length, [], ◌∷◌, ◌++◌}
 use Rattle.std.proofs.lemmas.List.{get_or_push, get_or_append_left, length_push}
 use Rattle.std.proofs.Math.Nat.{suc-sub-suc, sub-zero}
 use Rattle.std.proofs.Math.Decide.{ℕ_discrete, dec_lt}
@@ -20,9 +20,6 @@ use Rattle.bch_locator.specs.Element.{to_el, to_el_inj, to_el_xor, to_el_zero, t
 use Rattle.bch_locator.specs.Lanes.{Lanes, Products, PowersOf}
 use Rattle.bch_locator.specs.Places.{PlacesOf, Reversed}
 use Rattle.bch_locator.proofs.Raised.{raised, lanes_raised, lanes_past}
-use Rattle.laws.specs.Lists.{zeros_at}
-use Rattle.laws.specs.Stores.{grown}
-use Rattle.bch_locator.proofs.Filling.{zero_lanes, lanes_set}
 
 -- ---- the terms
 pub record Terms (t c : List ℕ) (l p : ℕ) : Type 0 where
@@ -273,23 +270,3 @@ pub record Reversing (t c : List ℕ) (l i : ℕ) : Type 0 where
   pub below : i ≤ l
   pub at : (j : ℕ) → j < i → get_or t j 0 ≡ get_or c (l - suc j) 0
   pub rest : (j : ℕ) → i ≤ j → get_or t j 0 ≡ 0
-
-pub reversing_start : (c : List ℕ) (l : ℕ) → Reversing (replicate 16 0) c l 0
-reversing_start c l = record { lanes = zero_lanes; below = omega arith; at = λ j h. absurd (not-suc-le-zero h); rest = λ j h. zeros_at 16 j }
-
-pub reversing_again : (t c : List ℕ) (l i v : ℕ) → l ≤ 12 → i < l → v < 65536 → Reversing t c l i → v ≡ get_or c (l - 1 - i) 0 → Reversing (set t i v) c l (i + 1)
-reversing_again t c l i v hl h hv W e =
-    record {
-      lanes = lanes_set t i v W.lanes (omega arith) hv;
-      below = omega arith;
-      at =
-          (let k : l - 1 - i ≡ l - suc i = omega arith in
-          grown 0 (λ j x. x ≡ get_or c (l - suc j) 0) t i v (omega (arith, W.lanes.len)) W.at (e ∙ ap (λ (m : ℕ). get_or c m 0) k));
-      rest = λ j g. get_or-set_other t i j v 0 (omega arith) ∙ W.rest j (omega arith);
-    }
-
-pub reversing_end : (t c : List ℕ) (l i : ℕ) → l ≤ i → Reversing t c l i → Reversed t c l
-reversing_end t c l i h W = record { lanes = W.lanes; at = λ j g. W.at j (omega arith); rest = λ j g. W.rest j (omega (arith, W.below)) }
-
-pub lanes_end : (t : List ℕ) (i r : ℕ) → i ≡ 16 → to_el r ≡ sum R16 i (poly t) → to_el r ≡ sum R16 16 (poly t)
-lanes_end t i r h e = e ∙ ap (λ (n : ℕ). sum R16 n (poly t)) h

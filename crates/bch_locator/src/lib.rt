@@ -11,7 +11,6 @@ ghost use Rattle.bch_locator.specs.Lanes.{Lanes, Products, PowersOf};
 ghost use Rattle.bch_locator.specs.Syndromes.{Syndromes, first_part, second_part, Added, Horner, Squared};
 ghost use Rattle.bch_locator.specs.Places.{PlacesOf, Reversed};
 ghost use Rattle.bch_locator.specs.Register.{total, Mended};
-ghost use Rattle.bch_locator.specs.Shortest.{ShortestOf};
 
 use arrayvec::ArrayVec;
 use bch_table::Reg;
@@ -142,48 +141,6 @@ fn mend(c: &mut [u16; 13], q: u16, m: usize, b: &[u16; 13])
     }
 }
 
-// The register 1 + c[1] x + .. + c[len] x^len.
-#[derive(Drop)]
-pub struct Register {
-    pub c: [u16; 13],
-    pub len: usize,
-}
-
-// Berlekamp-Massey over the 24 syndromes, as far as length 12.
-pub fn shortest(s: [u16; 24]) -> Option<Register>
-    ensures { ShortestOf s result }
-{
-    let mut c = [0; 13];
-    c[0] = 1;
-    let mut b = c;
-    let mut l = 0;
-    let mut m = 1;
-    let mut e = 1;
-    for k in 0..24 {
-        let d = discrepancy(&c, &s, k, l);
-        if d == 0 {
-            m += 1;
-        } else {
-            let q = mul(d, inverse(e));
-            if l + l <= k {
-                if 12 < k + 1 - l {
-                    return None;
-                }
-                let t = c;
-                mend(&mut c, q, m, &b);
-                b = t;
-                l = k + 1 - l;
-                e = d;
-                m = 1;
-            } else {
-                mend(&mut c, q, m, &b);
-                m += 1;
-            }
-        }
-    }
-    Some(Register { c, len: l })
-}
-
 // The sum of the lanes.
 fn lane_sum(t: [u16; 16]) -> u16
     ensures { to_el result ≡ sum R16 16 (poly t) }
@@ -195,69 +152,115 @@ fn lane_sum(t: [u16; 16]) -> u16
     r
 }
 
-// c[len - 1] down to c[0], and zeros.
-fn reversed(c: [u16; 13], len: usize) -> [u16; 16]
-    requires { len ≤ 12 }
-    ensures { Reversed result c len }
-{
-    let mut t = [0; 16];
-    for i in 0..len {
-        t[i] = c[len - 1 - i];
-    }
-    t
-}
-
 // 2 to the 1, 2, .. 12, and zeros.
 const PLACE_POWERS: [u16; 16] = [
     2, 4, 8, 16, 32, 64, 128, 256, 512, 1024, 2048, 4096, 0, 0, 0, 0,
 ];
 
-// The search from power 0 up. Lane i has c[len - 1 - i], times α^(i + 1) for each power passed, so that c[len] and the lanes' sum are the
-// register at α^-p times a power of α. A register has no more roots than its length.
-fn roots(c: [u16; 13], len: usize, n: usize) -> ArrayVec<usize, 12>
-    requires { (len ≤ 12) × (n ≤ 65535) × (poly c 0 ≡ R16.𝟙) }
-    ensures { PlacesOf result.items c len n }
-{
-    let last = c[len];
-    let mut t = reversed(c, len);
-    let mut found = ArrayVec::new();
-    for p in 0..n {
-        if lane_sum(t) == last {
-            found.push(p);
-            if found.len() == len {
-                return found;
+// The register 1 + c[1] x + .. + c[len] x^len, its thirteen coefficients with zeros behind. len is no count of them: c[len] may be 0.
+#[derive(Clone, Copy)]
+pub struct Register {
+    pub c: [u16; 13],
+    pub len: usize,
+    ghost short: { len ≤ 12 },
+    ghost first: { poly c 0 ≡ R16.𝟙 },
+}
+
+impl Register {
+    ghost use Rattle.bch_locator.specs.Shortest.{ShortestOf};
+
+    // Berlekamp-Massey over the 24 syndromes, as far as length 12.
+    pub fn shortest(s: [u16; 24]) -> Option<Register>
+        ensures { ShortestOf s result }
+    {
+        let mut c = [0; 13];
+        c[0] = 1;
+        let mut b = c;
+        let mut l = 0;
+        let mut m = 1;
+        let mut e = 1;
+        for k in 0..24 {
+            let d = discrepancy(&c, &s, k, l);
+            if d == 0 {
+                m += 1;
+            } else {
+                let q = mul(d, inverse(e));
+                if l + l <= k {
+                    if 12 < k + 1 - l {
+                        return None;
+                    }
+                    let t = c;
+                    mend(&mut c, q, m, &b);
+                    b = t;
+                    l = k + 1 - l;
+                    e = d;
+                    m = 1;
+                } else {
+                    mend(&mut c, q, m, &b);
+                    m += 1;
+                }
             }
         }
-        let next = times(t, PLACE_POWERS);
-        t = next;
+        Some(Register { c, len: l })
     }
-    found
-}
 
-// The search for a register of length 1, 1 + c[1] x: its root is α^-p where c[1] is α^p.
-fn root(c: [u16; 13], n: usize) -> ArrayVec<usize, 12>
-    requires { (n ≤ 65535) × (poly c 0 ≡ R16.𝟙) }
-    ensures { PlacesOf result.items c 1 n }
-{
-    let mut found = ArrayVec::new();
-    let mut x = 1;
-    for p in 0..n {
-        if x == c[1] {
-            found.push(p);
-            return found;
+    // The Chien search: the powers below n, which are those present, at which the register vanishes, ascending.
+    pub fn chien(&self, n: usize) -> ArrayVec<usize, 12>
+        requires { n ≤ 65535 }
+        ensures { PlacesOf result.items self.now.c self.now.len n }
+    {
+        let n = n as u16;
+        if self.len == 1 {
+            return self.root(n);
         }
-        x = fold(x as u32 * 2);
+        self.roots(n)
     }
-    found
-}
 
-// The Chien search: the powers below n, which are those present, at which the register vanishes, ascending.
-pub fn chien(register: Register, n: usize) -> ArrayVec<usize, 12>
-    requires { (register.len ≤ 12) × (n ≤ 65535) × (poly register.c 0 ≡ R16.𝟙) }
-    ensures { PlacesOf result.items register.c register.len n }
-{
-    if register.len == 1 {
-        return root(register.c, n);
+    // The search from power 0 up. Lane i has c[len - 1 - i], times α^(i + 1) for each power passed, so that c[len] and the lanes' sum are the
+    // register at α^-p times a power of α. A register has no more roots than its length.
+    fn roots(&self, n: u16) -> ArrayVec<usize, 12>
+        ensures { PlacesOf result.items self.now.c self.now.len n }
+    {
+        let last = self.c[self.len];
+        let mut t = self.reversed();
+        let mut found = ArrayVec::new();
+        for p in 0..n {
+            if lane_sum(t) == last {
+                found.push(usize::from(p));
+                if found.len() == self.len {
+                    return found;
+                }
+            }
+            let next = times(t, PLACE_POWERS);
+            t = next;
+        }
+        found
     }
-    roots(register.c, register.len, n)
+
+    // The search for a register of length 1, 1 + c[1] x: its root is α^-p where c[1] is α^p.
+    fn root(&self, n: u16) -> ArrayVec<usize, 12>
+        ensures { PlacesOf result.items self.now.c 1 n }
+    {
+        let mut found = ArrayVec::new();
+        let mut x = 1;
+        for p in 0..n {
+            if x == self.c[1] {
+                found.push(usize::from(p));
+                return found;
+            }
+            x = fold(x as u32 * 2);
+        }
+        found
+    }
+
+    // c[len - 1] down to c[0], and zeros.
+    fn reversed(&self) -> [u16; 16]
+        ensures { Reversed result self.now.c self.now.len }
+    {
+        let mut t = [0; 16];
+        for i in 0..self.len {
+            t[i] = self.c[self.len - 1 - i];
+        }
+        t
+    }
 }

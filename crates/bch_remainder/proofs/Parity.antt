@@ -1,8 +1,7 @@
 -- Remainders a byte at a time, and a word's last 192 bits as three words.
 -- Assumes nothing.
-use Rattle.std.proofs.Common.{◌≡◌, sym, ap, ap₂, ◌∙◌, List, [], ◌++◌, append_assoc, append-nil, ℕ, ◌+◌, ◌-◌, ◌*◌, ◌%◌, ◌^◌, ◌≤◌, ◌<◌, lt_of_lt_of_le, arith, bit_xor, pow_mono, length, take, drop, length-append, length-drop, take-append-drop, take-add, length-take-le}
+use Rattle.std.proofs.Common.{◌≡◌, sym, ap, ap₂, ◌∙◌, List, ◌++◌, append_assoc, ℕ, ◌+◌, ◌-◌, ◌*◌, ◌%◌, ◌^◌, ◌≤◌, ◌<◌, lt_of_lt_of_le, arith, bit_xor, pow_mono, length, take, drop, length-append, length-drop, take-append-drop, take-add, length-take-le}
 use Rattle.std.proofs.Math.Nat.{add-sub_cancel_left}
-use Rattle.std.proofs.lemmas.List.{nil_from_length}
 use Rattle.laws.specs.Definitions.{◌⊕◌}
 use Rattle.bch_table.specs.Step.{joined, step_of}
 use Rattle.bch_table.specs.Words.{xored}
@@ -39,11 +38,6 @@ divide_again m v v' rest byte rest' s e h ev =
       left = omega (arith, length-append byte rest', ap length e, s.left);
       done = ev ∙ ap (λ (x : ℕ). step_of x (number byte)) s.done ∙ sym (parity_step s.passed byte h);
     }
-
-pub divide_end : (m : List ℕ) (v : ℕ) (rest : List ℕ) → Divided m v rest → length rest < 8 → v ≡ parity_of m
-divide_end m v rest s h =
-    let none : rest ≡ [] = nil_from_length rest (omega (arith, s.left)) in
-    s.done ∙ ap parity_of (sym (append-nil s.passed) ∙ ap (λ (l : List ℕ). s.passed ++ l) (sym none) ∙ s.split)
 
 -- ---- remainder: the last 192 bits are three words
 last_words : (d : List ℕ) → length d ≡ 192 → number d ≡ joined (number (take 64 d)) (number (take 64 (drop 64 d))) (number (drop 128 d))

@@ -72,13 +72,20 @@ pub fn plan_of(sizes: Sizes, soft: usize, set: Settings) -> Plan
     requires { 0 < sizes.n }
     ensures { result ≡ plan_of sizes soft set }
 {
+    let Settings {
+        lanes,
+        limits,
+        schedule,
+        offset,
+        part,
+    } = set;
     Plan {
         sizes,
         words: soft / sizes.n,
-        lanes: set.lanes as usize,
-        limits: set.limits,
-        schedule: set.schedule,
-        offset: set.offset,
-        part: set.part,
+        lanes: lanes as usize,
+        limits,
+        schedule,
+        offset,
+        part,
     }
 }

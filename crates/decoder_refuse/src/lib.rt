@@ -51,7 +51,7 @@ fn bad_part(n: usize, part: Part) -> bool
     part.length < 193 || 65535 < part.length || n < part.first as usize + part.length as usize
 }
 
-// (n + 3E) times lanes.
+// (n + 3E) times lanes. (`Bounded` stands here and in the next two, and in no ghost field of `Sizes`: `sizes_of` makes sizes of any lists.)
 #[tactic(auto, unfolding(crate::specs::Refusal::work_need))]
 pub fn work_need(of: Sizes, lanes: usize) -> usize
     requires { Bounded of × (lanes ≤ 64) }
@@ -70,9 +70,9 @@ pub fn lists_need(of: Sizes) -> usize
 }
 
 #[tactic(auto, unfolding(crate::specs::Refusal::too_short, crate::specs::Refusal::out_need))]
-fn too_short(of: Sizes, lanes: usize, lent: Lent) -> bool
-    requires { Bounded of × (lanes ≤ 64) × (lent.soft / of.n ≤ 4096) }
-    ensures { result ≡ too_short of lanes lent }
+fn too_short(of: Sizes, lanes: usize, lent: &Lent) -> bool
+    requires { Bounded of × (lanes ≤ 64) × (lent.now.soft / of.n ≤ 4096) }
+    ensures { result ≡ too_short of lanes lent.now }
 {
     let words = lent.soft / of.n;
     let work = work_need(of, lanes);
@@ -89,8 +89,7 @@ pub fn plan(n: u32, lens: &[u32], addrs: &[u16], set: Settings, lent: Lent) -> R
     if bad_lanes(set.lanes) {
         return Err(Refusal::Lanes);
     }
-    let soft = lent.soft;
-    if bad_words(of.n, soft) {
+    if bad_words(of.n, lent.soft) {
         return Err(Refusal::Words);
     }
     if 65535 < set.limits.iterations {
@@ -102,8 +101,8 @@ pub fn plan(n: u32, lens: &[u32], addrs: &[u16], set: Settings, lent: Lent) -> R
     if bad_part(of.n, set.part) {
         return Err(Refusal::Bch);
     }
-    if too_short(of, set.lanes as usize, lent) {
+    if too_short(of, set.lanes as usize, &lent) {
         return Err(Refusal::TooShort);
     }
-    Ok(decoder_plan::plan_of(of, soft, set))
+    Ok(decoder_plan::plan_of(of, lent.soft, set))
 }

@@ -17,24 +17,6 @@ pub record NextRow (table counts : List ℕ) (g k : ℕ) (table' : List ℕ) : T
   pub done : (l : ℕ) → l < k → span_at table' l (g + 1) ≡ span_at table l g + get_or counts l 0
   pub still : (i : ℕ) → i < (g + 1) * 120 → get_or table' i 0 ≡ get_or table i 0
 
-pub next_row_start : (table counts : List ℕ) (g : ℕ) → NextRow table counts g 0 table
-next_row_start table counts g = record { long = refl; done = λ l h. absurd (omega (arith, h)); still = λ i h. refl }
-
-pub next_row_again : {table counts : List ℕ} {g k : ℕ} {table' : List ℕ} {y : ℕ} → NextRow table counts g k table' → k < 120 → (g + 1) * 120 + k < length table
-    → y ≡ span_at table' k g + get_or counts k 0
-    → NextRow table counts g (k + 1) (set table' ((g + 1) * 120 + k) y)
-next_row_again {table} {counts} {g} {k} {table'} {y} v few room e =
-    record {
-      long = simp length-set v.long;
-      done =
-          grown_at 0 (λ l. (g + 1) * 120 + l) (λ l x. x ≡ span_at table l g + get_or counts l 0) table' k y (omega (arith, v.long)) (λ l h r. omega arith) v.done
-          (e ∙ ap (λ (z : ℕ). z + get_or counts k 0) (v.still (g * 120 + k) (omega arith)));
-      still = λ i h. get_or-set_other table' ((g + 1) * 120 + k) i y 0 (λ r. omega arith) ∙ v.still i h;
-    }
-
-pub next_row_end : {table counts : List ℕ} {g k q : ℕ} {table' : List ℕ} → k ≡ q → NextRow table counts g k table' → NextRow table counts g q table'
-next_row_end {table} {counts} {g} {k} {q} {table'} e v = subst (λ (j : ℕ). NextRow table counts g j table') e v
-
 -- ---- the first g rows
 pub record Begun (q : ℕ) (lens addrs : List ℕ) (g at : ℕ) (table : List ℕ) : Type 0 where
   pub long : length table ≡ spans_length

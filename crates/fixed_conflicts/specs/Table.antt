@@ -64,32 +64,5 @@ flagged_start table rows q l flags any long few zeros e =
       some = λ f. (rows, get_or-set_same flags rows any false (omega arith) ∙ f);
     }
 
-pub flagged_again : {table : List ℕ} {rows q l k : ℕ} {flags : List Bool} {any any' many : Bool} → Flagged table rows q l k flags any → k < rows → rows < 120
-    → many ≡ ltb (span_at table l k + 1) (span_at table l (k + 1)) → any' ≡ (any || many) → Flagged table rows q l (k + 1) (set flags k many) any'
-flagged_again {table} {rows} {q} {l} {k} {flags} {any} {any'} {many} v h few e f =
-    record {
-      long = simp length-set v.long;
-      of_row = grown false (λ g b. b ≡ ltb (span_at table l g + 1) (span_at table l (g + 1))) flags k many (omega (arith, v.long)) v.of_row e;
-      of_parity = get_or-set_other flags k rows many false (λ r. omega arith) ∙ v.of_parity;
-      others = λ g r s. get_or-set_other flags k g many false (λ t. omega arith) ∙ v.others g (omega arith) s;
-      none = λ r. set_each false (λ _ b. b ≡ false) flags k many (omega (arith, v.long)) (or_right any many (sym f ∙ r)) (λ g _. v.none (or_left any many (sym f ∙ r)) g);
-      some = λ r. found any many refl refl (sym f ∙ r);
-    }
-  where
-    same : get_or (set flags k many) k false ≡ many
-    same = get_or-set_same flags k many false (omega (arith, v.long))
-
-    -- a row that was flagged is another one: row k was not yet
-    kept : any ≡ true → (g : ℕ) × (get_or (set flags k many) g false ≡ true)
-    kept a =
-        let p = v.some a in
-        let other : p.0 ≡ k → ⊥ = λ t. subst T (sym (sym (v.others k (omega arith) (λ r. omega arith)) ∙ ap (λ (j : ℕ). get_or flags j false) (sym t) ∙ p.1)) tt in
-        (p.0, get_or-set_other flags k p.0 many false other ∙ p.1)
-
-    found : (a m : Bool) → any ≡ a → many ≡ m → (any || many) ≡ true → (g : ℕ) × (get_or (set flags k many) g false ≡ true)
-    found true m x y r = kept x
-    found false true x y r = (k, same ∙ y)
-    found false false x y r = absurd (subst T (sym (sym (ap₂ ◌||◌ x y) ∙ r)) tt)
-
 pub flagged_end : {table : List ℕ} {rows q l k : ℕ} {flags : List Bool} {any : Bool} → k ≡ rows → Flagged table rows q l k flags any → Flagged table rows q l rows flags any
 flagged_end {table} {rows} {q} {l} {k} {flags} {any} e v = subst (λ (j : ℕ). Flagged table rows q l j flags any) e v

@@ -7,27 +7,55 @@ ghost use Rattle.fixed_conflicts.specs.Table.{spans_length, Flagged, flags_of, a
 ghost use Rattle.fixed_conflicts.specs.Conflicts.{Spanned};
 ghost use Rattle.fixed_conflicts.specs.Marks.{NextRow};
 
+use ldpc_rows::Rows;
 use ldpc_shape::{MAX_Q, Sizes};
 
 // How many numbers the table has: 120 for each of 121 rows.
 pub const SPANS: usize = MAX_Q * (MAX_Q + 1);
 
-// Where row g's edges begin in the list of each check of layer l. The parity bits are the row behind the last.
-pub fn span(table: &[u8], g: usize, l: usize) -> usize
-    requires { (length table.now ≡ spans_length) × ((g ≤ 120) × (l < 120)) }
-    ensures { (result ≡ get_or table.now (g * 120 + l) 0) × (result ≤ 255) }
-{
-    table[g * MAX_Q + l] as usize
+// The table: where each row's edges begin in the list of each check of each layer. The parity bits are the row behind the last.
+#[derive(Clone, Copy)]
+pub struct RowSpans<'a> {
+    pub table: &'a [u8],
+    pub ghost whole: { length table.now ≡ spans_length },
+}
+
+impl RowSpans<'_> {
+    // Where row g's edges begin in the checks of layer l.
+    pub fn span(self, g: usize, l: usize) -> usize
+        requires { (g ≤ 120) × (l < 120) }
+        ensures { (result ≡ get_or self.entry.table.now (g * 120 + l) 0) × (result ≤ 255) }
+    {
+        self.table[g * MAX_Q + l] as usize
+    }
+
+    // The rows of layer l whose variables can have several edges in a run, if there are any: those with two edges or more in a check; and the parity bits if q = 1.
+    pub fn shared(self, rows: usize, q: usize, l: usize) -> Option<[bool; MAX_Q]>
+        requires { (rows ≤ 119) × (l < 120) }
+        ensures { Flagged self.entry.table.now rows q l rows (flags_of result) (any_of result) }
+    {
+        let mut flags = [false; MAX_Q];
+        let mut any = q == 1;
+        flags[rows] = any;
+        for g in 0..rows {
+            let from = self.span(g, l);
+            let to = self.span(g + 1, l);
+            let many = from + 1 < to;
+            flags[g] = many;
+            any |= many;
+        }
+        if any { Some(flags) } else { None }
+    }
 }
 
 // The next row's edges begin where those of row g end: one for each of its addresses that is l modulo q.
 fn advance(table: &mut [u8], counts: &[u32; MAX_Q], g: usize, q: usize)
-    requires sizes { (length table.old ≡ spans_length) × ((g ≤ 119) × (q ≤ 120)) }
+    requires sizes { ((g + 2) * 120 ≤ length table.old) × (q ≤ 120) }
     requires fits { (l : ℕ) → l < q → get_or table.old (g * 120 + l) 0 + get_or counts.now l 0 ≤ 255 }
     ensures { NextRow table.old counts.now g q table.new }
 {
     for l in 0..q {
-        let from = span(table, g, l) as u32;
+        let from = u32::from(table[g * MAX_Q + l]);
         table[(g + 1) * MAX_Q + l] = (from + counts[l]) as u8;
     }
 }
@@ -39,31 +67,10 @@ pub fn spans(of: Sizes, lens: &[u32], addrs: &[u16], table: &mut [u8])
     ensures { Spanned of.n lens.now addrs.now table.new }
 {
     let q = of.q as u32;
-    let mut at = 0;
-    for (g, len) in lens.iter().enumerate() {
-        let to = at + *len as usize;
-        let counts = ldpc_shape::counts(&addrs[at..to], q);
+    for (g, row) in Rows::new(lens, addrs).enumerate() {
+        let counts = ldpc_shape::counts(row.addrs, q);
         advance(table, &counts, g, of.q);
-        at = to;
     }
     let two = [2; MAX_Q];
     advance(table, &two, lens.len(), of.q);
-}
-
-// The rows of layer l whose variables can have several edges in a run, if there are any: those with two edges or more in a check; and the parity bits if q = 1.
-pub fn shared(table: &[u8], rows: usize, q: usize, l: usize) -> Option<[bool; MAX_Q]>
-    requires { (length table.now ≡ spans_length) × ((rows ≤ 119) × (l < 120)) }
-    ensures { Flagged table.now rows q l rows (flags_of result) (any_of result) }
-{
-    let mut flags = [false; MAX_Q];
-    let mut any = q == 1;
-    flags[rows] = any;
-    for g in 0..rows {
-        let from = span(table, g, l);
-        let to = span(table, g + 1, l);
-        let many = from + 1 < to;
-        flags[g] = many;
-        any |= many;
-    }
-    if any { Some(flags) } else { None }
 }

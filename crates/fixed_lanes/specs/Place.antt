@@ -28,7 +28,3 @@ placed lanes lane u x a room few =
     within r false e =
         get_or-set_other a (u * lanes + lane) (r * lanes + lane) x (pos 0) (λ k. eqb-false r u e (one_place lanes r lane u lane few few k).0)
         ∙ sym (ap (λ (b : Bool). cond b x (get_or a (r * lanes + lane) (pos 0))) e)
-
--- a row below n lies in memory of n rows
-pub inside_rows : (u n lanes lane m : ℕ) → u < n → lane < lanes → n * lanes ≤ m → u * lanes + lane < m
-inside_rows u n lanes lane m h q k = omega (arith, row_ends u n lanes h)

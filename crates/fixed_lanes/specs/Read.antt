@@ -30,9 +30,6 @@ pub record Deciding (L : ℕ → ℤ) (old : List ℕ) (k : ℕ) (new : List ℕ
   pub bits : (u : ℕ) → u < k → get_or new u 0 ≡ hard (L u)
   pub rest : (u : ℕ) → k ≤ u → get_or new u 0 ≡ get_or old u 0
 
-pub deciding_start : (L : ℕ → ℤ) (old : List ℕ) → Deciding L old 0 old
-deciding_start L old = record { long = refl; bits = λ u q. absurd (omega (arith, q)); rest = λ u q. refl }
-
 pub deciding_again : {L : ℕ → ℤ} {old new new' : List ℕ} {k y : ℕ} → Deciding L old k new → k < length old → y ≡ hard (L k) → length new' ≡ length new → new' ≡ set new k y
     → Deciding L old (k + 1) new'
 deciding_again {L} {old} {new} {new'} {k} {y} d h e len is =

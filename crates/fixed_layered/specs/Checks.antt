@@ -1,14 +1,15 @@
 -- A run check after check: each with its values but those of shared variables, which have other edges in the run. It makes the run but for those.
 --
--- In order: the checks of a run on the memory (`PartMade`, `ChecksMade`); a run whose variables have one edge each (`turn_made`); with the values of the
+-- In order: the checks of a run on the memory (`PartMade`, `ChecksMade`); a layer whose variables have one edge each (`layer_made`); with the values of the
 -- shared variables it is the run (`run_law`).
 --
 -- Not here: the same of one word (iteration, InTurn); those values (Rows).
-use Rattle.std.specs.Prelude.{◌≡◌, refl, Bool, true, false, cond, List, ℕ, ◌+◌, ◌*◌, ◌/◌, ◌≤◌, ◌<◌, ltb, get_or, ℤ, pos}
+use Rattle.std.specs.Prelude.{◌≡◌, refl, Bool, true, false, cond, List, ℕ, zero, suc, ◌+◌, ◌*◌, ◌-◌, ◌/◌, ◌≤◌, ◌<◌, min, ltb, get_or, ℤ, pos}
 use Rattle.std.proofs.Math.Path.{sym, subst}
-use Rattle.std.proofs.Common.{ap, ◌∙◌, arith, add-one, ltb-true, ltb-false, le-ltb}
-use Rattle.iteration.specs.Check.{wrote, t_of, within}
-use Rattle.iteration.specs.Iteration.{Code, degree, Sum, gather_run, settle, run, run_of}
+use Rattle.std.proofs.Common.{ap, ◌∙◌, arith, add-zero, add-suc, add-one, ltb-true, ltb-false, le-ltb}
+use Rattle.std.proofs.Math.Decide.{dec_lt}
+use Rattle.iteration.specs.Check.{Word, check, wrote, t_of, within}
+use Rattle.iteration.specs.Iteration.{Code, degree, Sum, gather_run, settle, run, run_of, in_turn, in_run, run_size, runs, run_count}
 use Rattle.iteration.specs.CheckLaws.{within_at}
 use Rattle.lane16.specs.Column.{column}
 use Rattle.iteration.specs.Once.{shared_in, stepped, Once, Order}
@@ -24,7 +25,7 @@ use Rattle.fixed_layered.specs.Sent.{within_wrote, sent}
 use Rattle.fixed_layered.specs.Gather.{gather_run_at, run_gathers, run_none}
 use Rattle.fixed_layered.specs.Rows.{written_at, Written}
 use Rattle.fixed_layered.specs.RunMemory.{InRun}
-use Rattle.fixed_layered.specs.Layers.{RunMade}
+use Rattle.fixed_layered.specs.Layers.{RunMade, RunsMade, same_checks, once_part}
 
 -- ---- on the memory: the run but for the values of shared variables
 pub record PartMade (sh : ℕ → Bool) (n p lanes : ℕ) (o : ℤ) (lists : List ℕ) (first q m : ℕ) (a a' : List ℤ) : Type 0 where
@@ -71,7 +72,7 @@ module _ {sh : ℕ → Bool} {n p lanes : ℕ} {o : ℤ} {lists : List ℕ} {fir
       D = sym (degree_in p lists (stepped first q x) s d h e f)
 
   -- the run but for the values of shared variables
-  pub checks_end : {x m : ℕ} {a' : List ℤ} {o' : ℤ} → o ≡ o' → x ≡ m → InRun n p lanes first q m lists a → ((v : ℕ) → sh v ≡ false → Once (code_in p lists) (stepped first q) m v)
+  pub checks_end : {x m : ℕ} {a' : List ℤ} {o' : ℤ} → o ≡ o' → x ≡ m → InRun n p first q m lists → ((v : ℕ) → sh v ≡ false → Once (code_in p lists) (stepped first q) m v)
       → ChecksMade sh n p lanes o lists first q a x a'
       → PartMade sh n p lanes o' lists first q m a a'
   checks_end {x} {m} {a'} {o'} e f r once v =
@@ -79,19 +80,76 @@ module _ {sh : ℕ → Bool} {n p lanes : ℕ} {o : ℤ} {lists : List ℕ} {fir
       (record {
         fulls =
             λ i h. v.fulls i h ∙ ap (λ (j : ℕ). checks_full sh o (code_in p lists) (stepped first q) j (full n (edges_in p lists) lanes a i)) f
-            ∙ checks_run o (code_in p lists) (stepped first q) m (edges_in p lists) n (order r.memory.lists_right first q m r.step r.inside) sh once (full n (edges_in p lists) lanes a i);
+            ∙ checks_run o (code_in p lists) (stepped first q) m (edges_in p lists) n (order r.lists_right first q m r.step r.inside) sh once (full n (edges_in p lists) lanes a i);
         rest = v.rest;
       })
 
-pub turn_made : {n p lanes : ℕ} {o : ℤ} {lists : List ℕ} {first q m : ℕ} {a a' : List ℤ} → InRun n p lanes first q m lists a → ((v : ℕ) → Once (code_in p lists) (stepped first q) m v)
-    → InTurn n p lanes o lists first q a m a' → RunMade n p lanes o lists first q m a a'
-turn_made {n} {p} {lanes} {o} {lists} {first} {q} {m} {a} {a'} r once v =
-    record {
-      words =
-          λ i h. v.words i h
-          ∙ in_turn_run o (code_in p lists) (stepped first q) m (edges_in p lists) n (order r.memory.lists_right first q m r.step r.inside) once (word n (edges_in p lists) lanes a i);
-      rest = λ i h u k. v.rest i h u (omega (arith, k));
-    }
+-- ---- a layer whose variables have one edge each: its checks in turn are its runs
+in_turn_join : (o : ℤ) (code : Code) (c : ℕ → ℕ) (a b : ℕ) (w : Word) → in_turn o code c (a + b) w ≡ in_turn o code (λ x. c (a + x)) b (in_turn o code c a w)
+unfolding in_turn
+in_turn_join o code c a zero w = ap (λ (k : ℕ). in_turn o code c k w) (add-zero a)
+in_turn_join o code c a (suc b) w =
+    ap (λ (k : ℕ). in_turn o code c k w) (add-suc a b)
+    ∙ ap (check o code.rows (code.row_start (c (a + b))) (degree code (c (a + b)))) (in_turn_join o code c a b w)
+
+-- a run of no checks
+run_of_none : (o : ℤ) (code : Code) (c : ℕ → ℕ) (E n : ℕ) (w : Word) → run o code c 0 w ≡ w
+unfolding in_turn
+run_of_none o code c E n w =
+    sym (in_turn_run o code c 0 E n (record { next = λ j x h k. absurd (omega (arith, k)); last = λ x h. absurd (omega (arith, h)); below = λ x k h. absurd (omega (arith, h)) })
+    (λ v. record { one = λ x k y j h. absurd (omega (arith, h)) }) w)
+
+module _ {n p q l : ℕ} (s : ℕ) (o : ℤ) {lists : List ℕ} (r : InRun n p l q 374 lists) (once : (v : ℕ) → Once (code_in p lists) (stepped l q) 374 v) where
+  -- run j, which begins at check j * s of the layer
+  run_in_turn : (j : ℕ) (w : Word) → j * s < 374 → run o (code_in p lists) (in_run q s l j) (run_size s j) w ≡ in_turn o (code_in p lists) (λ x. stepped l q (j * s + x)) (run_size s j) w
+  run_in_turn j w h =
+      let fits : j * s + run_size s j ≤ 374 = omega arith in
+      let inside : (x : ℕ) → x < run_size s j → stepped (l + j * s * q) q x < p = λ x k. subst (λ (y : ℕ). y < p) (there (j * s) x) (r.inside (j * s + x) (omega arith)) in
+      ap (λ (c : ℕ → ℕ). run o (code_in p lists) c (run_size s j) w) (sym (same_checks q s l j (j * s) refl))
+      ∙ sym (in_turn_run o (code_in p lists) (stepped (l + j * s * q) q) (run_size s j) (edges_in p lists) n (order r.lists_right (l + j * s * q) q (run_size s j) r.step inside)
+      (λ v. once_part q l (j * s) (run_size s j) fits (once v)) w)
+      ∙ ap (λ (c : ℕ → ℕ). in_turn o (code_in p lists) c (run_size s j) w) (λ i x. sym (there (j * s) x) i)
+    where
+      there : (at x : ℕ) → l + (at + x) * q ≡ l + at * q + x * q
+      there at x = omega arith
+
+  layer_runs : (j : ℕ) (w : Word) → runs o (code_in p lists) q s l j w ≡ in_turn o (code_in p lists) (stepped l q) (min (j * s) 374) w
+  unfolding runs in_turn
+  layer_runs zero w = let z : 0 ≡ min (0 * s) 374 = omega arith in ap (λ (k : ℕ). in_turn o (code_in p lists) (stepped l q) k w) z
+  layer_runs (suc j) w = go (dec_lt (j * s) 374) (layer_runs j w)
+    where
+      before : Word
+      before = runs o (code_in p lists) q s l j w
+
+      turned : ℕ → Word
+      turned k = in_turn o (code_in p lists) (stepped l q) k w
+
+      go : Dec (j * s < 374) → before ≡ turned (min (j * s) 374) → run o (code_in p lists) (in_run q s l j) (run_size s j) before ≡ turned (min (suc j * s) 374)
+      go (yes h) ih =
+          let at : min (j * s) 374 ≡ j * s = omega arith in
+          let ends : j * s + run_size s j ≡ min (suc j * s) 374 = omega arith in
+          run_in_turn j before h
+          ∙ ap (in_turn o (code_in p lists) (λ x. stepped l q (j * s + x)) (run_size s j)) (ih ∙ ap turned at)
+          ∙ sym (in_turn_join o (code_in p lists) (stepped l q) (j * s) (run_size s j) w)
+          ∙ ap turned ends
+      go (no h) ih =
+          let none : run_size s j ≡ 0 = omega arith in
+          let ends : min (j * s) 374 ≡ min (suc j * s) 374 = omega arith in
+          ap (λ (m : ℕ). run o (code_in p lists) (in_run q s l j) m before) none
+          ∙ run_of_none o (code_in p lists) (in_run q s l j) (edges_in p lists) n before
+          ∙ ih
+          ∙ ap turned ends
+
+  pub layer_made : {lanes : ℕ} {a a' : List ℤ} → 0 < s → InTurn n p lanes o lists l q a 374 a' → RunsMade n p lanes o lists q s l a (run_count s) a'
+  layer_made {lanes} {a} {a'} some v =
+      let all : 374 ≡ min (run_count s * s) 374 = omega arith in
+      record {
+        words =
+            λ i h. v.words i h
+            ∙ ap (λ (k : ℕ). in_turn o (code_in p lists) (stepped l q) k (word n (edges_in p lists) lanes a i)) all
+            ∙ sym (layer_runs (run_count s) (word n (edges_in p lists) lanes a i));
+        rest = λ i h u k. v.rest i h u (omega (arith, k));
+      }
 
 -- ---- with the values of shared variables it is the run
 made : {n E : ℕ} {code : Code} {c : ℕ → ℕ} {m : ℕ} (flags : List Bool) (o : ℤ) (f f' : ℕ → ℤ) (w : Full) → Order code c m E n → n ≤ 44880 → ((g : ℕ) → get_or flags g false ≡ true → 374 * g + 374 ≤ n)
@@ -134,13 +192,13 @@ behind_zero : (n E : ℕ) (f : ℕ → ℤ) (u : ℕ) → n ≤ u → (word_of n
 unfolding word_of within
 behind_zero n E f u h = ap (λ (b : Bool). cond b (f u) (pos 0)) (le-ltb u n h)
 
-pub run_law : {n p lanes : ℕ} {o : ℤ} {lists : List ℕ} {first q m : ℕ} {flags : List Bool} {a b a' : List ℤ} → InRun n p lanes first q m lists a
+pub run_law : {n p lanes : ℕ} {o : ℤ} {lists : List ℕ} {first q m : ℕ} {flags : List Bool} {a b a' : List ℤ} → InRun n p first q m lists
     → ((g : ℕ) → get_or flags g false ≡ true → 374 * g + 374 ≤ n)
     → PartMade (shared_in flags) n p lanes o lists first q m a b → Written n (edges_in p lists) (code_in p lists) (stepped first q) m lanes flags b 120 a' → RunMade n p lanes o lists first q m a a'
 run_law {n} {p} {lanes} {o} {lists} {first} {q} {m} {flags} {a} {b} {a'} r low s k =
     record {
       words =
-          λ i h. made flags o (column lanes b i) (column lanes a' i) (full n (edges_in p lists) lanes a i) (order r.memory.lists_right first q m r.step r.inside) r.few_bits low (s.fulls i h)
+          λ i h. made flags o (column lanes b i) (column lanes a' i) (full n (edges_in p lists) lanes a i) (order r.lists_right first q m r.step r.inside) r.few_bits low (s.fulls i h)
           (behind_zero n (edges_in p lists) (column lanes a i)) (λ u l e. k.done i u h l e) (λ u l. k.still i u h l);
       rest = λ i h u l. k.still i u h (λ y. go u l (shared_in flags u) refl) ∙ s.rest i h u l;
     }

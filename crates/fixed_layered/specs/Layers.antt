@@ -1,6 +1,6 @@
 -- THE COLUMN LAW of the layered iteration, stated once for any lane count: runs, layers, all.
 --
--- In order: one run (`RunMade`), the first runs of a layer (`RunsMade`), the first layers (`LayersMade`); what a layer's runs count on (`InLayer`,
+-- In order: one run (`RunMade`), the first runs of a layer (`RunsMade`), the first layers (`LayersMade`); what the layers' runs count on (`InLayers`,
 -- `RowPart`), and of the table (`Sharing`).
 --
 -- Not here: what a run is made of (Checks, Rows).
@@ -11,11 +11,10 @@ use Rattle.std.proofs.Math.Nat.{add-mul-div_right, div-eq_of_lt}
 use Rattle.iteration.specs.Iteration.{Code, degree, run, in_run, runs, run_count, layers}
 use Rattle.lane16.specs.Column.{column}
 use Rattle.simd.specs.Words.{word}
-use Rattle.lane16.specs.Memory.{CheckMemory, Memory, memory_to, check_memory}
-use Rattle.iteration.specs.Lists.{var, rows_in, edges_in, code_in}
+use Rattle.iteration.specs.Lists.{Lists, var, rows_in, edges_in, code_in}
 use Rattle.iteration.specs.ListsLaws.{start_in, degree_in}
 use Rattle.fixed_conflicts.specs.Table.{spans_length, Split, Shares, Flagged, span_at}
-use Rattle.iteration.specs.Once.{stepped}
+use Rattle.iteration.specs.Once.{stepped, Once}
 use Rattle.fixed_layered.specs.RunMemory.{InRun}
 use Rattle.fixed_layered.specs.Rows.{InRow, Grouped, part_in}
 
@@ -36,7 +35,8 @@ pub runs_start : (n p lanes : ℕ) (o : ℤ) (lists : List ℕ) (q s l : ℕ) (a
 unfolding runs
 runs_start n p lanes o lists q s l a = record { words = λ i h. refl; rest = λ i h u k. refl }
 
-same_checks : (q s l j at : ℕ) → at ≡ j * s → stepped (l + at * q) q ≡ in_run q s l j
+-- the checks of run j
+pub same_checks : (q s l j at : ℕ) → at ≡ j * s → stepped (l + at * q) q ≡ in_run q s l j
 same_checks q s l j at e =
     λ i x. (let z : at * q ≡ j * s * q = ap (λ (y : ℕ). y * q) e in let k : l + at * q + x * q ≡ l + (j * s + x) * q = omega arith in k) i
 
@@ -86,48 +86,52 @@ layers_again {n} {p} {lanes} {o} {lists} {q} {s} {a} {a'} {a''} {l} v k =
       rest = λ i h u r. k.rest i h u r ∙ v.rest i h u r;
     })
 
-pub layers_end : {n p lanes : ℕ} {o o' : ℤ} {lists : List ℕ} {q s : ℕ} {a a' : List ℤ} {l : ℕ} → o ≡ o' → l ≡ q → LayersMade n p lanes o lists q s a l a' → LayersMade n p lanes o' lists q s a q a'
-layers_end {n} {p} {lanes} {o} {o'} {lists} {q} {s} {a} {a'} {l} g e v =
-    subst (λ (y : ℕ). LayersMade n p lanes o' lists q s a y a') e (subst (λ (z : ℤ). LayersMade n p lanes z lists q s a l a') g v)
-
--- ---- what a layer's runs may count on
-pub record InLayer (n p lanes q s l : ℕ) (lists : List ℕ) (a : List ℤ) : Type 0 where
-  pub memory : Memory n p lanes lists a
+-- ---- what the layers' runs may count on, of the code
+pub record InLayers (n p q s : ℕ) (lists : List ℕ) : Type 0 where
   pub whole : p ≡ 374 * q
-  pub layer : l < q
   pub few_edges : edges_in p lists ≤ 6000000
   pub few_checks : p ≤ 44880
   pub few_bits : n ≤ 44880
   pub step : 0 < s
   pub small_step : s ≤ 4294967295
 
-pub in_layer_to : {n p lanes q s l : ℕ} {lists : List ℕ} {a b : List ℤ} → length b ≡ length a → InLayer n p lanes q s l lists a → InLayer n p lanes q s l lists b
-in_layer_to e r =
-    record { memory = memory_to e r.memory; whole = r.whole; layer = r.layer; few_edges = r.few_edges; few_checks = r.few_checks; few_bits = r.few_bits; step = r.step; small_step = r.small_step }
+-- the checks of a part of layer l
+pub inside_part : {n p q s l : ℕ} {lists : List ℕ} (at m : ℕ) → at + m ≤ 374 → l < q → InLayers n p q s lists → (x : ℕ) → x < m → stepped (l + at * q) q x < p
+inside_part {n} {p} {q} at m h low r x k = let z : (at + x + 1) * q ≤ 374 * q = mul-le-mul_right q (omega arith) in omega (arith, r.whole)
 
-pub in_run_lem : {n p lanes q s l : ℕ} {lists : List ℕ} {a : List ℤ} (at m : ℕ) → at + m ≤ 374 → InLayer n p lanes q s l lists a → InRun n p lanes (l + at * q) q m lists a
-in_run_lem {n} {p} {lanes} {q} {s} {l} at m h r =
+pub in_run_lem : {n p q s l : ℕ} {lists : List ℕ} (at m : ℕ) → at + m ≤ 374 → l < q → Lists n p lists → InLayers n p q s lists → InRun n p (l + at * q) q m lists
+in_run_lem at m h low right r =
     record {
-      memory = r.memory;
-      inside =
-          λ x k. let z : (at + x + 1) * q ≤ 374 * q = mul-le-mul_right q (omega arith) in
-          omega (arith, r.layer, r.whole);
-      step = omega (arith, r.layer);
+      lists_right = right;
+      inside = inside_part at m h low r;
+      step = omega arith;
       few_edges = r.few_edges;
       few_checks = r.few_checks;
       few_bits = r.few_bits;
     }
 
+-- the whole layer is a run too
+pub whole_layer : {n p q s l : ℕ} {lists : List ℕ} → l < q → Lists n p lists → InLayers n p q s lists → InRun n p l q 374 lists
+whole_layer {n} {p} {q} {s} {l} {lists} low right r =
+    let z : l + 0 * q ≡ l = omega arith in subst (λ (first : ℕ). InRun n p first q 374 lists) z (in_run_lem 0 374 (omega arith) low right r)
+
+-- a variable that has one edge in the layer has one in a part of it
+pub once_part : (q l : ℕ) {code : Code} {u : ℕ} (at m : ℕ) → at + m ≤ 374 → Once code (stepped l q) 374 u → Once code (stepped (l + at * q) q) m u
+once_part q l {code} {u} at m h once =
+    record {
+      one =
+          λ x i y j a b c d f g. let o = once.one (at + x) i (at + y) j (omega arith) (omega arith) (subst (λ (z : ℕ). i < degree code z) (there x) c) (subst (λ (z : ℕ). j < degree code z) (there y) d)
+          (subst (λ (z : ℕ). code.rows (code.row_start z + i) ≡ u) (there x) f) (subst (λ (z : ℕ). code.rows (code.row_start z + j) ≡ u) (there y) g) in
+          (omega (arith, o.0), o.1);
+    }
+  where
+    there : (x : ℕ) → l + at * q + x * q ≡ l + (at + x) * q
+    there x = omega arith
+
 pub shares_part : {n q : ℕ} {code : Code} {l : ℕ} {table : List ℕ} {flags : List Bool} (at m : ℕ) → at + m ≤ 374 → Shares n q code l 374 l table flags → Shares n q code (l + at * q) m l table flags
 shares_part {n} {q} {code} {l} {table} {flags} at m h v =
     record {
-      once =
-          λ u e. record {
-            one =
-                λ x i y j a b c d f g. let o = (v.once u e).one (at + x) i (at + y) j (omega arith) (omega arith) (subst (λ (z : ℕ). i < degree code z) (there x) c) (subst (λ (z : ℕ). j < degree code z) (there y) d)
-                (subst (λ (z : ℕ). code.rows (code.row_start z + i) ≡ u) (there x) f) (subst (λ (z : ℕ). code.rows (code.row_start z + j) ≡ u) (there y) g) in
-                (omega (arith, o.0), o.1);
-          };
+      once = λ u e. once_part q l at m h (v.once u e);
       low = v.low;
       fits = λ g e x a. subst (λ (z : ℕ). (span_at table l g ≤ degree code z) × (span_at table l g ≤ span_at table l (g + 1))) (sym (there x)) (v.fits g e (at + x) (omega arith));
       split = λ g e x k a b.
@@ -147,20 +151,20 @@ grouped {n} {q} {code} {first} {m} {l} {table} {flags} {from} {upto} g e some v 
     (record { split = λ x k a b. v.split g e x k a b; begins = λ x a. (v.fits g e x a).0; rises = (v.fits g e 0 some).1 }))
 
 -- the row's edges in check x: from `from` up to `end` of its d
-pub record RowPart (n p lanes first q base from upto x s d end : ℕ) (lists rows : List ℕ) (a : List ℤ) : Type 0 where
+pub record RowPart (p first q base from upto x s d end : ℕ) (lists : List ℕ) : Type 0 where
   pub up : end ≤ upto
   pub most : end ≤ degree (code_in p lists) (stepped first q x)
   pub least : from ≤ end
   pub all : end < upto → end ≡ degree (code_in p lists) (stepped first q x)
   pub below : end ≤ d
   pub start_is : s ≡ (code_in p lists).row_start (stepped first q x)
-  pub part_room : CheckMemory rows (s + from) (end - from) n lanes a
-  pub in_row : InRow (var rows) base (s + from) (end - from)
+  pub ends : s + from + (end - from) ≤ edges_in p lists
+  pub in_row : InRow (var (rows_in p lists)) base (s + from) (end - from)
 
-pub row_part : {n p lanes first q m base from upto x s d end : ℕ} {lists rows : List ℕ} {a : List ℤ} → InRun n p lanes first q m lists a → rows ≡ rows_in p lists
+pub row_part : {n p first q m base from upto x s d end : ℕ} {lists : List ℕ} → InRun n p first q m lists
     → Grouped (code_in p lists) (stepped first q) m base from upto → x < m
-    → s ≡ get_or lists (stepped first q x) 0 → s + d ≡ get_or lists (stepped first q x + 1) 0 → end ≡ min upto d → RowPart n p lanes first q base from upto x s d end lists rows a
-row_part {n} {p} {lanes} {first} {q} {m} {base} {from} {upto} {x} {s} {d} {end} {lists} {rows} {a} r same g h e f ends =
+    → s ≡ get_or lists (stepped first q x) 0 → s + d ≡ get_or lists (stepped first q x + 1) 0 → end ≡ min upto d → RowPart p first q base from upto x s d end lists
+row_part {n} {p} {first} {q} {m} {base} {from} {upto} {x} {s} {d} {end} {lists} r g h e f ends =
     record {
       up = omega arith;
       most = omega (arith, D);
@@ -168,21 +172,10 @@ row_part {n} {p} {lanes} {first} {q} {m} {base} {from} {upto} {x} {s} {d} {end} 
       all = λ k. omega (arith, D);
       below = omega arith;
       start_is = S;
-      part_room =
-          subst (λ (l : List ℕ). CheckMemory l (s + from) (end - from) n lanes a) (sym same)
-          (let w = check_memory (stepped first q x) s d r.memory (r.inside x h) e f in
-          record {
-            edges = omega (arith, w.edges, D, g.rises, g.begins x h);
-            degree = omega (arith, w.degree);
-            variables = w.variables;
-            long = w.long;
-            many = w.many;
-            some_lanes = w.some_lanes;
-          });
+      ends = omega (arith, r.lists_right.within (stepped first q x + 1) (omega (arith, r.inside x h)), D, g.rises, g.begins x h);
       in_row =
-          subst (λ (l : List ℕ). InRow (var l) base (s + from) (end - from)) (sym same)
-          (subst (λ (y : ℕ). InRow (code_in p lists).rows base (y + from) (end - from)) (sym S)
-          (part_in g n (edges_in p lists) h end (omega arith) (omega (arith, D)) (omega (arith, D, g.rises, g.begins x h)) (λ k. omega (arith, D))));
+          subst (λ (y : ℕ). InRow (code_in p lists).rows base (y + from) (end - from)) (sym S)
+          (part_in g n (edges_in p lists) h end (omega arith) (omega (arith, D)) (omega (arith, D, g.rises, g.begins x h)) (λ k. omega (arith, D)));
     }
   where
     S : s ≡ (code_in p lists).row_start (stepped first q x)

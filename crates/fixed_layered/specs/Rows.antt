@@ -4,10 +4,11 @@
 -- of a row at the end of the run (`RowWritten`), and of the flagged ones of the first rows (`Written`).
 --
 -- Not here: what one variable gathers (Gather); that its sums fit (Bounds, Sums).
-use Rattle.std.proofs.Common.{◌≡◌, refl, true, false, eqb, get_or, set, length, ℤ, nat_abs, sym, ap, ◌∙◌, true≢false, arith, add-one, eqb-true, eq-eqb, ne_eqb, get_or-set_same, get_or-set_other, List, ℕ, zero, suc, ◌+◌, ◌*◌, ◌-◌, ◌/◌, ◌≤◌, ◌<◌}
+use Rattle.std.proofs.Common.{◌≡◌, refl, true, false, eqb, get_or, set, length, take, drop, ℤ, nat_abs, sym, ap, ◌∙◌, true≢false, arith, add-one, eqb-true, eq-eqb, ne_eqb, get_or-set_same, get_or-set_other, List, ℕ, zero, suc, ◌+◌, ◌*◌, ◌-◌, ◌/◌, ◌≤◌, ◌<◌}
 use Rattle.std.proofs.Math.Path.{subst}
 use Rattle.std.proofs.Math.Bool.{Bool, cond}
 use Rattle.std.proofs.Math.Decide.{ℕ_discrete, dec_lt}
+use borrow.Rule.Slice.PartMut.{put_mid}
 use Rattle.laws.specs.Choice.{eqb_sym}
 use Rattle.laws.specs.Definitions.{put}
 use Rattle.iteration.specs.Value.{sat_z}
@@ -16,8 +17,8 @@ use Rattle.iteration.specs.Iteration.{Code, degree, Sum, gather}
 use Rattle.iteration.specs.CheckLaws.{wrote_other}
 use Rattle.lane16.specs.Lanes.{int_at}
 use Rattle.lane16.specs.Column.{column}
-use Rattle.lane16.specs.ColumnLaws.{one_place}
-use Rattle.fixed_layered.specs.Sums.{SmallSums, EdgeGathered, Settled, plus}
+use Rattle.lane16.specs.ColumnLaws.{one_place, row_ends}
+use Rattle.fixed_layered.specs.Sums.{SmallSums, EdgeGathered, Settled, plus, RowOf, LanesGathered, part_at, part_long, edge_gathered, edge_small}
 use Rattle.fixed_conflicts.specs.Table.{Split}
 use Rattle.iteration.specs.Full.{place_of}
 use Rattle.fixed_layered.specs.Gather.{gather_at, gather_run_at, run_same, at_part, SameSum, same_sum, same_sum_more, same_sum_gather, same_sum_at}
@@ -49,6 +50,32 @@ pub record EdgeDone (n E lanes at e j : ℕ) (a : List ℤ) (seen : List Bool) (
   pub sums_is : EdgeGathered lanes (j * lanes) (n + E + at) (n + e) (n + 2 * E + at) (get_or seen j false) a sums lanes sums'
   pub small : SmallSums lanes (j * lanes) (at + 1) sums'
   pub seen_is : seen' ≡ set seen j true
+
+-- the sums of a variable of the row are there
+pub sums_room : (v base lanes m u : ℕ) → v ≡ u → base ≤ u → u < base + 374 → 374 * lanes ≤ m → (v - base) * lanes + lanes ≤ m
+sums_room v base lanes m u e lo hi h = omega (arith, row_ends (v - base) 374 lanes (omega arith))
+
+-- and small enough for one edge more
+pub sums_few : {lanes at j : ℕ} (seen : List Bool) {sums : List ℤ} (w : ℕ) → Smalls lanes at seen sums → j < 374 → w ≡ lanes → j * lanes + lanes ≤ length sums → at < 6000000
+    → get_or seen j false ≡ true → (i : ℕ) → i < length (take w (drop (j * lanes) sums)) → nat_abs (int_at (take w (drop (j * lanes) sums)) i) ≤ 2000000000
+sums_few {lanes} {at} {j} seen {sums} w s h e room few f i q =
+    let k : i < lanes = omega (arith, part_long lanes (j * lanes) w sums room e) in
+    subst (λ (x : ℤ). nat_abs x ≤ 2000000000) (sym (part_at lanes (j * lanes) w sums room e i k)) (omega (arith, (s j h f).small i k))
+
+-- one edge, of variable v, from the slices of its rows and of its sums
+pub edge_done : {n E E' lanes at e v u base : ℕ} (w : ℕ) {a : List ℤ} {seen : List Bool} {sums t new old y : List ℤ} → E' ≡ E → v ≡ u → base ≤ u → u < base + 374 → 374 * lanes ≤ length sums
+    → w ≡ lanes → Smalls lanes at seen sums → RowOf lanes (n + E' + at) a t → RowOf lanes (n + e) a new → RowOf lanes (n + 2 * E' + at) a old
+    → LanesGathered (get_or seen (v - base) false) t new old (take w (drop ((v - base) * lanes) sums)) (length (take w (drop ((v - base) * lanes) sums))) y
+    → EdgeDone n E lanes at e (u - base) a seen sums (set seen (v - base) true) (put_mid ((v - base) * lanes) w sums y)
+edge_done {n} {E} {E'} {lanes} {at} {e} {v} {u} {base} w {a} {seen} {sums} {t} {new} {old} {y} same is lo hi room f s T N O g =
+    subst (λ (x : ℕ). EdgeDone n x lanes at e (u - base) a seen sums (set seen (v - base) true) (put_mid ((v - base) * lanes) w sums y)) same
+    (subst (λ (x : ℕ). EdgeDone n E' lanes at e (x - base) a seen sums (set seen (v - base) true) (put_mid ((v - base) * lanes) w sums y)) is
+    (let fits = sums_room v base lanes (length sums) u is lo hi room in
+    record {
+      sums_is = edge_gathered lanes ((v - base) * lanes) w sums fits f T N O g;
+      small = edge_small lanes ((v - base) * lanes) w sums fits f T N O g (s (v - base) (omega arith));
+      seen_is = refl;
+    }))
 
 apart : (lanes i j i' j' : ℕ) → i < lanes → i' < lanes → (j ≡ j' → ⊥) → j * lanes + i ≡ j' * lanes + i' → ⊥
 apart lanes i j i' j' a b ne e = ne (one_place lanes j i j' i' a b e).0
@@ -105,9 +132,6 @@ module _ (n E lanes : ℕ) (v : ℕ → ℕ) (base s pl : ℕ) (a : List ℤ) (B
       bound k r f (no t) =
           let w = g.small k r (sym (get_or-set_other seen j k true false t) ∙ f) in
           record { small = λ i q. subst (λ (x : ℤ). nat_abs x ≤ 256 * (pl + suc d + 1)) (sym (e.sums_is.still (k * lanes + i) (λ i' q' y. apart lanes i k i' j q q' t y))) (omega (arith, w.small i q)) }
-
-  pub gathers_end : {d d' : ℕ} {seen : List Bool} {sums : List ℤ} → d ≡ d' → Gathers lanes (pl + d) (after d) seen sums → Gathers lanes (pl + d') (after d') seen sums
-  gathers_end {d} {d'} {seen} {sums} e g = subst (λ (k : ℕ). Gathers lanes (pl + k) (after k) seen sums) e g
 
 -- ---- the row's edges of a whole check, u a variable of the row
 module _ {code : Code} {c : ℕ → ℕ} {m base from upto : ℕ} (g : Grouped code c m base from upto) (n E : ℕ) {x : ℕ} (h : x < m) (end : ℕ) (up : end ≤ upto) (most : end ≤ degree code (c x)) (least : from ≤ end) (all : end < upto → end ≡ degree code (c x)) where
@@ -177,9 +201,6 @@ settled_check_again {v} {base} {s} {lanes} {sums} {a} {d} {a'} {a''} {u} e c k =
     subst (λ (j : ℕ). CheckSettled v base s lanes sums a j a'') (sym (add-one d))
     (record { is = λ i q. k.done i q q ∙ (λ j. put (c.is i q j) (e j) (sat_z (int_at sums ((e j - base) * lanes + i)))) })
 
-pub settled_check_end : {v : ℕ → ℕ} {base s lanes : ℕ} {sums a : List ℤ} {d d' : ℕ} {a' : List ℤ} → d ≡ d' → CheckSettled v base s lanes sums a d a' → CheckSettled v base s lanes sums a d' a'
-settled_check_end {v} {base} {s} {lanes} {sums} {a} {d} {d'} {a'} e c = subst (λ (j : ℕ). CheckSettled v base s lanes sums a j a') e c
-
 -- u has its value once an edge of it was passed
 wrote_seen : (n E : ℕ) (v : ℕ → ℕ) (u s pl : ℕ) (F : ℕ → ℤ) (val : ℕ → ℤ) (f g : ℕ → ℤ) (d : ℕ) (a : Sum) → g u ≡ cond a.seen (val u) (f u)
     → wrote (λ k. v (s + k)) (λ k. val (v (s + k))) g d u ≡ cond (gather_at n E v u s pl F d a).seen (val u) (f u)
@@ -230,10 +251,6 @@ settled_row_again {n} {E} {code} {c} {m} {base} {from} {upto} {lanes} {sums} {a}
 
     here : (i : ℕ) → i < lanes → column lanes a'' i ≡ wrote (λ k. code.rows (S + k)) (λ k. sat_z (int_at sums ((code.rows (S + k) - base) * lanes + i))) (column lanes a' i) (end - from)
     here i q = k.is i q ∙ (λ y. wrote (λ k. code.rows (e y + from + k)) (λ k. sat_z (int_at sums ((code.rows (e y + from + k) - base) * lanes + i))) (column lanes a' i) (end - from))
-
-pub settled_row_end : {n E : ℕ} {code : Code} {c : ℕ → ℕ} {base lanes : ℕ} {sums a : List ℤ} {x m : ℕ} {a' : List ℤ} → x ≡ m → RowSettled n E code c base lanes sums a x a'
-    → RowSettled n E code c base lanes sums a m a'
-settled_row_end {n} {E} {code} {c} {base} {lanes} {sums} {a} {x} {m} {a'} e r = subst (λ (j : ℕ). RowSettled n E code c base lanes sums a j a') e r
 
 -- ---- the value of variable u at the end of the run
 abbrev pub written_at : ℕ → ℕ → Code → (ℕ → ℕ) → ℕ → (ℕ → ℤ) → ℕ → ℤ

@@ -1,9 +1,6 @@
 -- What agrees on a check's edges gives the same messages; writes in order; the first m of a function.
-use Rattle.std.specs.Prelude.{◌≡◌, Bool, ltb, eqb, ℤ, pos}
-use Rattle.std.proofs.Math.Path.{refl}
+use Rattle.std.specs.Prelude.{◌≡◌, refl, Bool, cond, ltb, eqb, ℕ, zero, suc, ◌+◌, ◌<◌, min, ℤ, pos}
 use Rattle.std.proofs.Common.{sym, ap, subst, ◌∙◌, arith, add-one, below_more, ltb-true, lt-ltb, eqb-true}
-use Rattle.std.proofs.Math.Bool.{cond}
-use Prim.Native.Nat.{ℕ, zero, suc, ◌+◌, ◌<◌, min}
 use Rattle.std.proofs.Math.Decide.{ℕ_discrete}
 use Rattle.laws.specs.Definitions.{negative, times, put}
 use Rattle.laws.specs.Choice.{by_bool}

@@ -1,14 +1,7 @@
 -- The lists of an accepted code are lists, and the code that they say is the code of n, row lengths and addresses.
-use Rattle.std.specs.Prelude.{◌≡◌, Bool, take, drop}
-use Rattle.std.proofs.Math.Path.{refl, sym, ap, subst}
-use Rattle.std.proofs.Common.{◌∙◌, arith, add-one, get_or-append-add}
-use Rattle.std.proofs.Math.Bool.{true, false}
-use mathlib.Core.List.{List, [], ◌++◌, append-nil}
-use Prim.Native.Nat.{ℕ, zero, suc, ◌+◌, ◌-◌, ◌≤◌, ◌<◌}
-use borrow.Author.Tests.{ltb-true, ltb-false}
-use Rattle.std.proofs.Math.Dec.{ltb}
-use Rattle.std.proofs.Math.ListN.{get_or, length, length-append, get_or-append}
-use Rattle.std.proofs.Math.Seq.{take_at, drop_at}
+use Rattle.std.specs.Prelude.{◌≡◌, refl, Bool, true, false, List, [], ◌++◌, ℕ, zero, suc, ◌+◌, ◌-◌, ◌≤◌, ◌<◌, ltb, get_or, length, take, drop}
+use Rattle.std.proofs.Common.{sym, ap, ◌∙◌, subst, arith, add-one, append-nil, ltb-true, ltb-false, length-append, get_or-append-add, take_at, drop_at}
+use Rattle.std.proofs.Math.ListN.{get_or-append}
 use Rattle.ldpc_shape.specs.Shape.{p_of, e_of}
 use Rattle.ldpc_shape.specs.Accepted.{Accepted, p_is, q_pos}
 use Rattle.ldpc_edges.specs.Code.{check, joined, row_start, rows, edge_lists}

@@ -1,2 +1,2 @@
-// One word apart from memory: a value, a check, an iteration, the code that it goes by: the definitions and their laws stand in specs/.
+// One word apart from memory: a value, a check, an iteration, the code that it goes by: definitions and laws stand in specs/, the proofs of the two smallest magnitudes in proofs/.
 #![tactic(auto)]

@@ -3,10 +3,9 @@
 -- In order: a fact of `cond b x y` (`by_cond`) and of the test itself (`by_bool`); tests joined by or; equality as a test, either way round;
 -- `same`, which is 1 where two numbers are equal.
 --
--- Not here: what a test's outcome says of the numbers, `eqb-true`, `ltb-false`, `eq-eqb` and the like (the kit's borrow.Author.Tests).
+-- Not here: what a test's outcome says of the numbers, `eqb-true`, `ltb-false`, `eq-eqb` and the like (std's Common).
 use Rattle.std.specs.Prelude.{◌≡◌, refl, Bool, true, false, cond, ◌||◌, ℕ, eqb}
 use Rattle.std.proofs.Common.{sym, ap, eqb-true, eq-eqb, ne_eqb}
-use mathlib.Mathlib.Data.Bool.Basic.{or-eq-false-eq-eq-false-and-eq-false}
 use Rattle.std.proofs.lemmas.Bool.{eqb-false}
 
 -- a fact of `cond b x y`
@@ -21,10 +20,12 @@ by_bool P false f g = g refl
 
 -- ---- neither of two tests
 pub or_left : (a b : Bool) → (a || b) ≡ false → a ≡ false
-or_left a b e = ((or-eq-false-eq-eq-false-and-eq-false a b).0 e).0
+or_left true b e = cc
+or_left false b e = refl
 
 pub or_right : (a b : Bool) → (a || b) ≡ false → b ≡ false
-or_right a b e = ((or-eq-false-eq-eq-false-and-eq-false a b).0 e).1
+or_right true b e = cc
+or_right false b e = e
 
 -- ---- equality
 pub eqb_sym : (v w : ℕ) → eqb v w ≡ eqb w v

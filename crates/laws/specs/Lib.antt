@@ -7,7 +7,7 @@ pub mod Put
 -- lists: parts, and stores in loops
 pub mod Lists
 pub mod Stores
--- numbers: xor, polynomials over two elements, sums modulo 2, signed numbers of 8 and 16 bits, decimal texts
+-- numbers: xor, polynomials over two elements, sums modulo 2, signed numbers of 8 bits, decimal texts
 pub mod Xor
 pub mod Poly
 pub mod Modulo

@@ -4,9 +4,8 @@
 -- comes back (`lent_from`, `back_from`).
 --
 -- Not here: stores (Stores).
-use Rattle.std.specs.Prelude.{◌≡◌, refl, List, [], ◌∷◌, ◌++◌, ℕ, zero, suc, ◌-◌}
-use Rattle.std.proofs.Common.{sym, ap, ◌∙◌, append-nil, arith, take_all}
-use lib.ListN.{length, get_or, take, drop, replicate, length-drop, drop_of_length-le}
+use Rattle.std.specs.Prelude.{◌≡◌, refl, List, [], ◌∷◌, ◌++◌, ℕ, zero, suc, ◌-◌, length, get_or, take, drop, replicate}
+use Rattle.std.proofs.Common.{sym, ap, ◌∙◌, append-nil, arith, take_all, length-drop, drop_of_length-le}
 use Rattle.std.proofs.Math.Seq.{take-nil}
 
 -- a part taken first and dropped from, or dropped from first

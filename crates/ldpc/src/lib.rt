@@ -1,11 +1,14 @@
 // Quasi-cyclic LDPC codes of an address table (ARIB STD-B44 v2.1 section 3.4 (2)): the entry points.
-// A code is lent as n, the length of each row, and the rows' addresses one after the other. None of these has a requires.
+// A code is lent as n, the length of each row, and the rows' addresses one after the other: three parameters, as the C interface has them; below they are a `Table`.
+// None of these has a requires.
 #![tactic(auto)]
 
-ghost use Rattle.std.specs.Prelude.{◌≡◌, length};
+ghost use Rattle.std.specs.Prelude.{◌≡◌, IfOk, length};
 ghost use Rattle.refusal.specs.Number.{number_of};
-ghost use Rattle.ldpc.specs.Answers.{new_refusal, check_refusal, parity_refusal, encode_refusal, weight_refusal, new_answer, new_into, check_answer, check_into, parity_answer, parity_into, encode_answer, encode_into, weight_answer};
+ghost use Rattle.ldpc_shape.specs.Shape.{k_of, sizes_of, code_refusal};
+ghost use Rattle.ldpc.specs.Answers.{or_else, other_of, new_refusal, check_refusal, parity_refusal, encode_refusal, weight_refusal, new_answer, new_into, check_answer, check_into, parity_answer, parity_into, encode_answer, encode_into, weight_answer};
 
+use ldpc_shape::{Sizes, Table};
 use refusal::Refusal;
 
 // The numbers of a code that `new` answers.
@@ -23,17 +26,17 @@ pub fn new(n: u32, lens: &[u32], addrs: &[u16], lists: &mut [u32]) -> Result<Cod
         × (lists.new ≡ new_into n lens.now addrs.now lists.old) }
     ensures number { number_of result ≡ new_refusal n lens.now addrs.now (length lists.old) }
 {
-    let sizes = ldpc_shape::accept(n, lens, addrs)?;
-    let size = sizes.p + 1 + sizes.e;
-    if lists.len() < size {
-        return Err(Refusal::TooShort);
-    }
-    ldpc_lists::build(sizes, lens, addrs, &mut lists[..size]);
+    let of = Table::accept(n, lens, addrs)?;
+    let Sizes { k, p, q, e, .. } = of.sizes;
+    let (front, _) = lists
+        .split_at_mut_checked(p + 1 + e)
+        .ok_or(Refusal::TooShort)?;
+    ldpc_lists::build(of, front);
     Ok(Code {
-        k: sizes.k as u32,
-        p: sizes.p as u32,
-        q: sizes.q as u32,
-        e: sizes.e as u32,
+        k: k as u32,
+        p: p as u32,
+        q: q as u32,
+        e: e as u32,
     })
 }
 
@@ -43,14 +46,34 @@ pub fn check(n: u32, lens: &[u32], addrs: &[u16], c: u32, out: &mut [u32]) -> Re
         × (out.new ≡ check_into n lens.now addrs.now c out.old) }
     ensures number { number_of result ≡ check_refusal n lens.now addrs.now c (length out.old) }
 {
-    let sizes = ldpc_shape::accept(n, lens, addrs)?;
-    if sizes.p <= c as usize {
+    let of = Table::accept(n, lens, addrs)?;
+    if of.sizes.p <= c as usize {
         return Err(Refusal::Size);
     }
-    if out.len() < ldpc_check::degree_of(n, lens, addrs, c) {
-        return Err(Refusal::TooShort);
+    let degree = ldpc_check::degree_of(of, c);
+    let (front, _) = out.split_at_mut_checked(degree).ok_or(Refusal::TooShort)?;
+    Ok(ldpc_check::check_of(of, c, front) as u32)
+}
+
+// The table of a code that has as many information bits as there are bytes.
+fn informed<'a>(
+    n: u32,
+    lens: &'a [u32],
+    addrs: &'a [u16],
+    info: &[u8],
+) -> Result<Table<'a>, Refusal>
+    ensures number { number_of result
+        ≡ or_else (code_refusal n lens.now addrs.now) (other_of (length info.now) (k_of lens.now)) }
+    ensures table { IfOk result (λ t. (t.sizes ≡ sizes_of n lens.now addrs.now)
+        × (t.lens.now ≡ lens.now)
+        × (t.addrs.now ≡ addrs.now)
+        × (length info.now ≡ t.sizes.k)) }
+{
+    let of = Table::accept(n, lens, addrs)?;
+    if info.len() != of.sizes.k {
+        return Err(Refusal::Size);
     }
-    Ok(ldpc_check::check_of(n, lens, addrs, c, out) as u32)
+    Ok(of)
 }
 
 // The P parity bits of the information, in front of `out`.
@@ -65,15 +88,11 @@ pub fn parity(
         × (out.new ≡ parity_into n lens.now addrs.now info.now out.old) }
     ensures number { number_of result ≡ parity_refusal n lens.now addrs.now (length info.now) (length out.old) }
 {
-    let sizes = ldpc_shape::accept(n, lens, addrs)?;
-    if info.len() != sizes.k {
-        return Err(Refusal::Size);
-    }
-    let p = sizes.p;
-    if out.len() < p {
-        return Err(Refusal::TooShort);
-    }
-    ldpc_encode::parity_of(n, lens, addrs, info, &mut out[..p]);
+    let of = informed(n, lens, addrs, info)?;
+    let (front, _) = out
+        .split_at_mut_checked(of.sizes.p)
+        .ok_or(Refusal::TooShort)?;
+    ldpc_encode::parity_of(of, info, front);
     Ok(())
 }
 
@@ -89,15 +108,11 @@ pub fn encode(
         × (out.new ≡ encode_into n lens.now addrs.now info.now out.old) }
     ensures number { number_of result ≡ encode_refusal n lens.now addrs.now (length info.now) (length out.old) }
 {
-    let sizes = ldpc_shape::accept(n, lens, addrs)?;
-    if info.len() != sizes.k {
-        return Err(Refusal::Size);
-    }
-    let size = sizes.n;
-    if out.len() < size {
-        return Err(Refusal::TooShort);
-    }
-    ldpc_encode::encode_of(n, lens, addrs, info, &mut out[..size]);
+    let of = informed(n, lens, addrs, info)?;
+    let (front, _) = out
+        .split_at_mut_checked(of.sizes.n)
+        .ok_or(Refusal::TooShort)?;
+    ldpc_encode::encode_of(of, info, front);
     Ok(())
 }
 
@@ -106,9 +121,9 @@ pub fn syndrome_weight(n: u32, lens: &[u32], addrs: &[u16], bits: &[u8]) -> Resu
     ensures answer { result ≡ weight_answer n lens.now addrs.now bits.now }
     ensures number { number_of result ≡ weight_refusal n lens.now addrs.now (length bits.now) }
 {
-    let sizes = ldpc_shape::accept(n, lens, addrs)?;
-    if bits.len() != sizes.n {
+    let of = Table::accept(n, lens, addrs)?;
+    if bits.len() != of.sizes.n {
         return Err(Refusal::Size);
     }
-    Ok(ldpc_encode::weight_of(n, lens, addrs, bits))
+    Ok(ldpc_encode::weight_of(of, bits))
 }

@@ -1,11 +1,11 @@
 -- What each turn of the loops does.
-use Rattle.std.proofs.Common.{◌≡◌, refl, sym, ap, ap₂, ◌∙◌, cond, List, [], ◌∷◌, ◌++◌, append_assoc, append-nil, ℕ, zero, suc, ◌+◌, ◌-◌, ◌*◌, ◌%◌, ◌≤◌, ◌<◌, arith, mod-lt, add-one, eq-eqb, ne_eqb, lt-ltb, le-ltb, eqb, ltb, length, take, drop, get_or, set, length-append, length-take, length-drop, length-set, take-append-drop, drop-cons, drop-drop, drop-set-lt, take-suc, take-suc-set, take_at, drop_at, length-take-le}
+use Rattle.std.proofs.Common.{◌≡◌, refl, sym, ap, ap₂, ◌∙◌, cond, List, [], ◌∷◌, ◌++◌, append_assoc, append-nil, ℕ, zero, suc, ◌+◌, ◌-◌, ◌*◌, ◌%◌, ◌≤◌, ◌<◌, arith, mod-lt, add-one, eq-eqb, ne_eqb, lt-ltb, le-ltb, eqb, ltb, length, take, drop, get_or, set, length-append, length-take, length-drop, length-set, take-append-drop, drop-cons, drop-drop, drop-set-lt, take-suc, take-suc-set, take_at, drop_at, length-take-le, drop_of_length-le, subst}
+use Rattle.std.proofs.lemmas.List.{take-take}
 use Rattle.std.proofs.Math.Seq.{set_split}
 use Rattle.laws.specs.Lists.{lent_from, back_from}
-use Rattle.ldpc_shape.specs.declared.Sizes.{Sizes}
-use Rattle.ldpc_shape.specs.Shape.{p_of, q_of, sizes_of, rows_of, total, count_mod, code_refusal}
-use Rattle.ldpc_shape.specs.Accepted.{Accepted, Bounded, rows_le, addrs_le}
-use Rattle.ldpc_shape.proofs.Accepted.{accepted, sizes_bounded}
+use Rattle.ldpc_shape.specs.declared.Table.{Table}
+use Rattle.ldpc_shape.specs.Shape.{p_of, rows_of, count_mod}
+use Rattle.ldpc_shape.proofs.Accepted.{table_accepted, table_bounded, table_k, table_p, table_q}
 use Rattle.ldpc_shape.specs.Counts.{CountsBelow}
 use Rattle.ldpc_edges.specs.Code.{of_bits, of_rows, meets, only, stairs, check}
 use Rattle.ldpc_edges.proofs.Inside.{only_append}
@@ -16,13 +16,13 @@ use Rattle.ldpc_rows.specs.Rows.{seen, left}
 use Rattle.ldpc_rows.proofs.Edges.{left_edges, edges_start, edges_first, edges_none}
 use Rattle.ldpc_check.specs.Found.{found, all_of}
 use Rattle.ldpc_edges.proofs.Insert.{insert_length, row_cons}
-use Rattle.ldpc_edges.proofs.Degree.{bits_none, bits_count, count_split, degree, degree_le}
+use Rattle.ldpc_edges.proofs.Degree.{bits_none, bits_count, count_split, degree}
 
--- ---- one bit more among the ascending ones
+-- ---- one bit more among the n ascending ones
 module _ (m n : ℕ) (out₀ : List ℕ) where
   -- what the loop has at place i, with v in hand
   abbrev pub Inserting : List ℕ → ℕ → ℕ → Type 0
-  Inserting out v i = insert m (take n out₀) ++ drop (n + 1) out₀ ≡ take i out ++ (insert v (take (n - i) (drop i out)) ++ drop (n + 1) out)
+  Inserting out v i = insert m (take n out₀) ≡ take i out ++ insert v (take (n - i) (drop i out))
 
   insert_next : (out : List ℕ) (v i : ℕ) → i < n → n < length out
       → insert v (take (n - i) (drop i out))
@@ -32,41 +32,35 @@ module _ (m n : ℕ) (out₀ : List ℕ) where
       let e : n - i ≡ suc (n - suc i) = omega arith in
       ap₂ (λ (y : ℕ) (z : List ℕ). insert v (take y z)) e (drop-cons out i 0 (omega arith))
 
-  pub insert_start : Inserting out₀ m 0
-  insert_start = let e : n ≡ n - 0 = omega arith in ap (λ (z : ℕ). insert m (take z out₀) ++ drop (n + 1) out₀) e
-
   pub insert_swap : (out out' : List ℕ) (v v' i : ℕ) → i < n → n < length out → v < get_or out i 0 → out' ≡ set out i v → v' ≡ get_or out i 0
       → Inserting out v i → Inserting out' v' (i + 1)
   insert_swap out out' v v' i h g t e f inv =
       inv
-      ∙ ap (λ (z : List ℕ). take i out ++ (z ++ drop (n + 1) out))
+      ∙ ap (λ (z : List ℕ). take i out ++ z)
       (insert_next out v i h g
       ∙ ap (λ b. cond b (v ∷ insert (get_or out i 0) (take (n - suc i) (drop (suc i) out))) (get_or out i 0 ∷ insert v (take (n - suc i) (drop (suc i) out)))) (lt-ltb v (get_or out i 0) t))
       ∙ sym (append_assoc (take i out) (v ∷ []) _)
-      ∙ ap (λ (z : List ℕ). z ++ (insert (get_or out i 0) (take (n - suc i) (drop (suc i) out)) ++ drop (n + 1) out)) (sym (take-suc-set out i v (omega arith)))
-      ∙ ap₂ (λ (y z : List ℕ). take (suc i) (set out i v) ++ (insert (get_or out i 0) (take (n - suc i) y) ++ z)) (sym (drop-set-lt (suc i) out i v (omega arith)))
-      (sym (drop-set-lt (n + 1) out i v (omega arith)))
-      ∙ ap₂ (λ (y : List ℕ) (z : ℕ). take (suc i) y ++ (insert z (take (n - suc i) (drop (suc i) y)) ++ drop (n + 1) y)) (sym e) (sym f)
-      ∙ ap (λ (z : ℕ). take z out' ++ (insert v' (take (n - z) (drop z out')) ++ drop (n + 1) out')) (sym (add-one i))
+      ∙ ap₂ (λ (y z : List ℕ). y ++ insert (get_or out i 0) (take (n - suc i) z)) (sym (take-suc-set out i v (omega arith))) (sym (drop-set-lt (suc i) out i v (omega arith)))
+      ∙ ap₂ (λ (y : List ℕ) (z : ℕ). take (suc i) y ++ insert z (take (n - suc i) (drop (suc i) y))) (sym e) (sym f)
+      ∙ ap (λ (z : ℕ). take z out' ++ insert v' (take (n - z) (drop z out'))) (sym (add-one i))
 
   pub insert_keep : (out out' : List ℕ) (v v' i : ℕ) → i < n → n < length out → get_or out i 0 ≤ v → out' ≡ out → v' ≡ v → Inserting out v i → Inserting out' v' (i + 1)
   insert_keep out out' v v' i h g t e f inv =
       inv
-      ∙ ap (λ (z : List ℕ). take i out ++ (z ++ drop (n + 1) out))
+      ∙ ap (λ (z : List ℕ). take i out ++ z)
       (insert_next out v i h g
       ∙ ap (λ b. cond b (v ∷ insert (get_or out i 0) (take (n - suc i) (drop (suc i) out))) (get_or out i 0 ∷ insert v (take (n - suc i) (drop (suc i) out)))) (le-ltb v (get_or out i 0) t))
       ∙ sym (append_assoc (take i out) (get_or out i 0 ∷ []) _)
-      ∙ ap (λ (z : List ℕ). z ++ (insert v (take (n - suc i) (drop (suc i) out)) ++ drop (n + 1) out)) (sym (take-suc out i 0 (omega arith)))
-      ∙ ap₂ (λ (y : List ℕ) (z : ℕ). take (suc i) y ++ (insert z (take (n - suc i) (drop (suc i) y)) ++ drop (n + 1) y)) (sym e) (sym f)
-      ∙ ap (λ (z : ℕ). take z out' ++ (insert v' (take (n - z) (drop z out')) ++ drop (n + 1) out')) (sym (add-one i))
+      ∙ ap (λ (z : List ℕ). z ++ insert v (take (n - suc i) (drop (suc i) out))) (sym (take-suc out i 0 (omega arith)))
+      ∙ ap₂ (λ (y : List ℕ) (z : ℕ). take (suc i) y ++ insert z (take (n - suc i) (drop (suc i) y))) (sym e) (sym f)
+      ∙ ap (λ (z : ℕ). take z out' ++ insert v' (take (n - z) (drop z out'))) (sym (add-one i))
 
-  pub insert_end : (out : List ℕ) (v i : ℕ) → i ≡ n → n < length out → Inserting out v i → set out n v ≡ insert m (take n out₀) ++ drop (n + 1) out₀
+  pub insert_end : (out : List ℕ) (v i : ℕ) → i ≡ n → length out ≡ n + 1 → Inserting out v i → set out n v ≡ insert m (take n out₀)
   unfolding insert
   insert_end out v i e g inv =
       let z : n - n ≡ 0 = omega arith in
-      set_split out n v g ∙ ap (λ (y : ℕ). take n out ++ v ∷ drop y out) (sym (add-one n))
-      ∙ sym (inv ∙ ap (λ (y : ℕ). take y out ++ (insert v (take (n - y) (drop y out)) ++ drop (n + 1) out)) e
-      ∙ ap (λ (y : ℕ). take n out ++ (insert v (take y (drop n out)) ++ drop (n + 1) out)) z)
+      set_split out n v (omega arith) ∙ ap (λ (y : List ℕ). take n out ++ v ∷ y) (drop_of_length-le out {i = suc n} (omega arith))
+      ∙ sym (inv ∙ ap (λ (y : ℕ). take y out ++ insert v (take (n - y) (drop y out))) e ∙ ap (λ (y : ℕ). take n out ++ insert v (take y (drop n out))) z)
 
 -- ---- the addresses of a row, from the last: those of `rest` are left
 pub record Gathered (q c first : ℕ) (row rest out₀ out : List ℕ) (n : ℕ) : Type 0 where
@@ -114,16 +108,20 @@ module _ (q c first : ℕ) (row : List ℕ) (pos : 0 < q) (inside : c < 374 * q)
     row_room f =
         omega (arith, row_size, I.size, found_le rest' (a ∷ I.done) row_parts, ap length (found_hit f), insert_length (first + place q c a) (found q c first I.done))
 
-    pub row_hit : r ≡ l → (m : ℕ) (out' : List ℕ) → m ≡ first + place q c a → out' ≡ insert m (take n out) ++ drop (n + 1) out → Gathered q c first row rest' out₀ out' (n + 1)
-    row_hit f m out' em e = record {
-      done = a ∷ I.done;
-      parts = row_parts;
-      size = omega (arith, I.size, ap length (found_hit f), insert_length (first + place q c a) (found q c first I.done));
-      list = e
-          ∙ ap₂ (λ (y z : List ℕ). y ++ z)
-          (ap₂ insert em (ap (take n) I.list ∙ take_at (found q c first I.done) (drop n out₀) n (sym I.size)) ∙ sym (found_hit f))
-          (sym (drop-drop 1 n out) ∙ ap (drop 1) (ap (drop n) I.list ∙ drop_at (found q c first I.done) (drop n out₀) n (sym I.size)) ∙ drop-drop 1 n out₀);
-    }
+    -- front: the first n + 1 places, with the bit put among them
+    pub row_hit : r ≡ l → (m : ℕ) (front : List ℕ) → m ≡ first + place q c a → front ≡ insert m (take (length (take (n + 1) out) - 1) (take (n + 1) out))
+        → Gathered q c first row rest' out₀ (front ++ drop (n + 1) out) (n + 1)
+    row_hit f m front em e =
+        let k : length (take (n + 1) out) - 1 ≡ n = let h = row_room f in omega (arith, length-take-le (n + 1) out (omega arith)) in
+        let t : take (length (take (n + 1) out) - 1) (take (n + 1) out) ≡ take n out = ap (λ (z : ℕ). take z (take (n + 1) out)) k ∙ take-take n (n + 1) out (omega arith) in
+        record {
+          done = a ∷ I.done;
+          parts = row_parts;
+          size = omega (arith, I.size, ap length (found_hit f), insert_length (first + place q c a) (found q c first I.done));
+          list = ap₂ (λ (y z : List ℕ). y ++ z)
+              (e ∙ ap₂ insert em (t ∙ ap (take n) I.list ∙ take_at (found q c first I.done) (drop n out₀) n (sym I.size)) ∙ sym (found_hit f))
+              (sym (drop-drop 1 n out) ∙ ap (drop 1) (ap (drop n) I.list ∙ drop_at (found q c first I.done) (drop n out₀) n (sym I.size)) ∙ drop-drop 1 n out₀);
+        }
 
     pub row_miss : (r ≡ l → ⊥) → Gathered q c first row rest' out₀ out n
     row_miss f = record {
@@ -217,97 +215,69 @@ rows_done out out₀ all rest n h e f k =
     (sym (ap length g ∙ length-take-le n out h), sym (take-append-drop n out) ∙ ap₂ (λ (y z : List ℕ). y ++ z) (sym g) k)
 
 -- ---- the parity bits
-pub stair_one : (out : List ℕ) (n k c v : ℕ) → v ≡ k + c → c ≡ 0 → n + length (stairs k c) ≤ length out
-    → (n < length out) × (n + 1 ≡ n + length (stairs k c)) × (set out n v ≡ take n out ++ (stairs k c ++ drop (n + 1) out))
+pub stair_one : (out : List ℕ) (k c v : ℕ) → v ≡ k + c → c ≡ 0 → length (stairs k c) ≤ length out
+    → (0 < length out) × (1 ≡ length (stairs k c)) × (set out 0 v ≡ stairs k c ++ drop 1 out)
 unfolding stairs
-stair_one out n k zero v e z h =
-    let f : v ≡ k = omega arith in
-    (omega arith, refl, set_split out n v (omega arith) ∙ ap₂ (λ (y i : ℕ). take n out ++ (y ∷ drop i out)) f (sym (add-one n)))
-stair_one out n k (suc c) v e z h = absurd (omega arith)
+stair_one [] k zero v e z h = absurd (omega arith)
+stair_one (x ∷ out) k zero v e z h = let f : v ≡ k = omega arith in (omega arith, refl, ap (λ (y : ℕ). y ∷ out) f)
+stair_one out k (suc c) v e z h = absurd (omega arith)
 
-set_two : (out : List ℕ) (n a b : ℕ) → n + 1 < length out → set (set out n a) (n + 1) b ≡ take n out ++ (a ∷ b ∷ drop (n + 1 + 1) out)
-set_two out n a b h =
-    set_split (set out n a) (n + 1) b (omega (arith, length-set out n a))
-    ∙ ap₂ (λ (y z : List ℕ). y ++ (b ∷ z)) (ap (λ (z : ℕ). take z (set out n a)) (add-one n) ∙ take-suc-set out n a (omega arith))
-    (ap (λ (z : ℕ). drop z (set out n a)) (sym (add-one (n + 1))) ∙ drop-set-lt (n + 1 + 1) out n a (omega arith))
-    ∙ append_assoc (take n out) (a ∷ []) (b ∷ drop (n + 1 + 1) out)
-
-pub stair_two : (out : List ℕ) (n k c v : ℕ) → v ≡ k + c → (c ≡ 0 → ⊥) → n + length (stairs k c) ≤ length out
-    → (n + 1 < length out) × (n + 2 ≡ n + length (stairs k c)) × (set (set out n (v - 1)) (n + 1) v ≡ take n out ++ (stairs k c ++ drop (n + 2) out))
+pub stair_two : (out : List ℕ) (k c v : ℕ) → v ≡ k + c → (c ≡ 0 → ⊥) → length (stairs k c) ≤ length out
+    → (1 < length out) × (2 ≡ length (stairs k c)) × (set (set out 0 (v - 1)) 1 v ≡ stairs k c ++ drop 2 out)
 unfolding stairs
-stair_two out n k zero v e z h = absurd (z refl)
-stair_two out n k (suc c) v e z h =
+stair_two out k zero v e z h = absurd (z refl)
+stair_two [] k (suc c) v e z h = absurd (omega arith)
+stair_two (x ∷ []) k (suc c) v e z h = absurd (omega arith)
+stair_two (x ∷ y ∷ out) k (suc c) v e z h =
     let f : v - 1 ≡ k + c = omega arith in
-    let g : n + 1 + 1 ≡ n + 2 = omega arith in
-    (omega arith, omega arith, set_two out n (v - 1) v (omega arith) ∙ ap (λ (z : ℕ). take n out ++ ((v - 1) ∷ v ∷ drop z out)) g ∙ ap₂ (λ (y i : ℕ). take n out ++ (y ∷ i ∷ drop (n + 2) out)) f e)
+    (omega arith, refl, ap₂ (λ (a b : ℕ). a ∷ b ∷ out) f e)
 
--- ---- an accepted code, with its sizes as the program has them
-module _ (n : ℕ) (lens addrs : List ℕ) (e : code_refusal n lens addrs ≡ 0) (S : Sizes) (D : S ≡ sizes_of n lens addrs) where
-  A : Accepted n lens addrs
-  A = accepted n lens addrs e
+-- ---- a table
+module _ (T : Table) where
+  p_same : 374 * T.sizes.q ≡ p_of T.sizes.n T.lens.now
+  p_same = sym (table_bounded T).p_is ∙ table_p T
 
-  pub bounds : Bounded S
-  bounds = sizes_bounded S n lens addrs D e
-
-  pub lent : (length lens ≤ 119) × (length addrs ≤ 15360) × (total lens ≡ length addrs)
-  lent = (rows_le n lens addrs A, addrs_le n lens addrs A, A.adds)
-
-  q_same : S.q ≡ q_of n lens
-  q_same = ap (λ (z : Sizes). z.q) D
-
-  p_same : 374 * S.q ≡ p_of n lens
-  p_same = sym bounds.p_is ∙ ap (λ (z : Sizes). z.p) D
-
-  pub c_inside : (c : ℕ) → c < p_of n lens → c < 374 * S.q
-  c_inside c h = omega (arith, p_same)
-
-  pub sum_fits : (c : ℕ) → c < p_of n lens → S.k + c ≤ 44880
-  sum_fits c h = omega (arith, p_same, bounds)
-
-  all_is : (c : ℕ) → all_of S.q c lens addrs ≡ only c (meets n lens addrs)
+  all_is : (c : ℕ) → all_of T.sizes.q c T.lens.now T.addrs.now ≡ only c (meets T.sizes.n T.lens.now T.addrs.now)
   unfolding all_of meets
-  all_is c = ap₂ (λ (y z : ℕ). only c (of_rows y z 0 (rows_of lens addrs))) p_same q_same
+  all_is c = ap₂ (λ (y z : ℕ). only c (of_rows y z 0 (rows_of T.lens.now T.addrs.now))) p_same (table_q T)
 
-  pub check_is : (c : ℕ) → check n lens addrs c ≡ all_of S.q c lens addrs ++ stairs S.k c
+  check_is : (c : ℕ) → check T.sizes.n T.lens.now T.addrs.now c ≡ all_of T.sizes.q c T.lens.now T.addrs.now ++ stairs T.sizes.k c
   unfolding check
-  check_is c = ap₂ (λ (y : List ℕ) (z : ℕ). y ++ stairs z c) (sym (all_is c)) (sym (ap (λ (z : Sizes). z.k) D))
+  check_is c = ap₂ (λ (y : List ℕ) (z : ℕ). y ++ stairs z c) (sym (all_is c)) (sym (table_k T))
 
   -- how many bits, from the counts r
-  pub degree_is : (r : List ℕ) → CountsBelow r S.q addrs → (c : ℕ) → c < p_of n lens → (l m : ℕ) → l ≡ c % S.q → m ≡ get_or r l 0
-      → length (check n lens addrs c) ≡ m + cond (eqb c 0) 1 2
-  degree_is r C c h l m el em =
-      degree n lens addrs A c h
+  pub degree_is : (r : List ℕ) → CountsBelow r T.sizes.q T.addrs.now → (c : ℕ) → c < T.sizes.p
+      → length (check T.sizes.n T.lens.now T.addrs.now c) ≡ get_or r (c % T.sizes.q) 0 + cond (eqb c 0) 1 2
+  degree_is r C c h =
+      degree T.sizes.n T.lens.now T.addrs.now (table_accepted T) c (subst (λ (z : ℕ). c < z) (table_p T) h)
       ∙ ap (λ (z : ℕ). z + cond (eqb c 0) 1 2)
-      (ap (λ (z : ℕ). count_mod z (c % z) addrs) (sym q_same)
-      ∙ sym (C (c % S.q) (mod-lt c bounds.q_pos)) ∙ ap (λ (z : ℕ). get_or r z 0) (sym el) ∙ sym em)
+      (ap (λ (z : ℕ). count_mod z (c % z) T.addrs.now) (sym (table_q T)) ∙ sym (C (c % T.sizes.q) (mod-lt c (table_bounded T).q_pos)))
 
-  check_length : (c : ℕ) → length (check n lens addrs c) ≡ length (all_of S.q c lens addrs) + length (stairs S.k c)
-  check_length c = ap length (check_is c) ∙ length-append (all_of S.q c lens addrs) (stairs S.k c)
+  check_length : (c : ℕ) → length (check T.sizes.n T.lens.now T.addrs.now c) ≡ length (all_of T.sizes.q c T.lens.now T.addrs.now) + length (stairs T.sizes.k c)
+  check_length c = ap length (check_is c) ∙ length-append (all_of T.sizes.q c T.lens.now T.addrs.now) (stairs T.sizes.k c)
 
-  pub info_room : (c : ℕ) (x : List ℕ) → length (check n lens addrs c) ≤ length x → length (all_of S.q c lens addrs) ≤ length x
+  pub info_room : (c : ℕ) (x : List ℕ) → length (check T.sizes.n T.lens.now T.addrs.now c) ≤ length x → length (all_of T.sizes.q c T.lens.now T.addrs.now) ≤ length x
   info_room c x h = omega (arith, check_length c)
 
-  pub stairs_room : (c d : ℕ) (x y : List ℕ) → d ≡ length (all_of S.q c lens addrs) → length y ≡ length x → length (check n lens addrs c) ≤ length x
-      → d + length (stairs S.k c) ≤ length y
+  pub stairs_room : (c d : ℕ) (x y : List ℕ) → d ≡ length (all_of T.sizes.q c T.lens.now T.addrs.now) → length y ≡ length x
+      → length (check T.sizes.n T.lens.now T.addrs.now c) ≤ length x → d + length (stairs T.sizes.k c) ≤ length y
   stairs_room c d x y e f h = omega (arith, check_length c)
 
-  pub degree_small : (c : ℕ) → c < p_of n lens → length (check n lens addrs c) ≤ 128
-  degree_small = degree_le n lens addrs A
-
-  pub check_done : (c d r : ℕ) (x y z : List ℕ) → d ≡ length (all_of S.q c lens addrs) → y ≡ all_of S.q c lens addrs ++ drop d x
-      → r ≡ d + length (stairs S.k c) → z ≡ take d y ++ (stairs S.k c ++ drop r y) → length (check n lens addrs c) ≤ length x
-      → (r ≡ length (check n lens addrs c)) × (z ≡ check n lens addrs c ++ drop r x)
-  check_done c d r x y z ed ey er ez fit = (
-    er ∙ ap (λ (u : ℕ). u + length (stairs S.k c)) ed ∙ sym (check_length c),
-    ez ∙ ap₂ (λ (u v : List ℕ). u ++ (stairs S.k c ++ v)) (ap (take d) ey ∙ take_at all (drop d x) d (sym ed)) tail
-        ∙ sym (append_assoc all (stairs S.k c) (drop r x)) ∙ ap (λ (u : List ℕ). u ++ drop r x) (sym (check_is c)),
+  -- y: the bits of the addresses in front, zs: the part from d on with the parity bits in front, r of them
+  pub check_done : (c d r : ℕ) (x y zs : List ℕ) → d ≡ length (all_of T.sizes.q c T.lens.now T.addrs.now)
+      → y ≡ all_of T.sizes.q c T.lens.now T.addrs.now ++ drop d x → r ≡ length (stairs T.sizes.k c)
+      → zs ≡ stairs T.sizes.k c ++ drop r (take (length y - d) (drop d y)) → d + r ≤ length y
+      → (d + r ≡ length (check T.sizes.n T.lens.now T.addrs.now c))
+      × (take d y ++ (zs ++ drop (length y - d) (drop d y)) ≡ check T.sizes.n T.lens.now T.addrs.now c ++ drop (d + r) x)
+  check_done c d r x y zs ed ey er ez fit = (
+    ap₂ (λ (u v : ℕ). u + v) ed er ∙ sym (check_length c),
+    back y (stairs T.sizes.k c) zs d r er ez fit
+        ∙ ap₂ (λ (u v : List ℕ). (u ++ stairs T.sizes.k c) ++ v) (ap (take d) ey ∙ take_at all (drop d x) d (sym ed)) tail
+        ∙ ap (λ (u : List ℕ). u ++ drop (d + r) x) (sym (check_is c)),
   )
     where
       all : List ℕ
-      all = all_of S.q c lens addrs
+      all = all_of T.sizes.q c T.lens.now T.addrs.now
 
-      tail : drop r y ≡ drop r x
-      tail =
-          let k : d + (r - d) ≡ r = omega arith in
-          ap (λ (u : ℕ). drop u y) (sym k) ∙ sym (drop-drop (r - d) d y) ∙ ap (drop (r - d)) (ap (drop d) ey ∙ drop_at all (drop d x) d (sym ed)) ∙ drop-drop (r - d) d x
-          ∙ ap (λ (u : ℕ). drop u x) k
+      tail : drop (d + r) y ≡ drop (d + r) x
+      tail = sym (drop-drop r d y) ∙ ap (drop r) (ap (drop d) ey ∙ drop_at all (drop d x) d (sym ed)) ∙ drop-drop r d x

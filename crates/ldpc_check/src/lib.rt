@@ -1,20 +1,20 @@
 // The list of one check of an accepted code, from the addresses alone: each address equal to c modulo q joins one bit of its row to check c.
 #![tactic(auto)]
 
-ghost use Rattle.std.specs.Prelude.{◌≡◌, ◌++◌, ◌+◌, ◌*◌, ◌<◌, ◌≤◌, length, take, drop};
-ghost use Rattle.ldpc_shape.specs.Shape.{p_of, total, code_refusal};
+ghost use Rattle.std.specs.Prelude.{◌≡◌, ◌++◌, ◌+◌, ◌-◌, ◌*◌, ◌<◌, ◌≤◌, length, take, drop};
 ghost use Rattle.ldpc_edges.specs.Code.{stairs, check};
 ghost use Rattle.ldpc_edges.specs.Insert.{insert, place};
 ghost use Rattle.ldpc_check.specs.Found.{found, all_of};
 
 use ldpc_rows::{Row, Rows};
-use ldpc_shape::{GROUP_U32, Sizes};
+use ldpc_shape::{GROUP_U32, Table};
 
-// m in its place among the n ascending bits in front.
-fn insert_bit(out: &mut [u32], n: usize, m: u32)
-    requires { n < length out.old }
-    ensures { out.new ≡ insert m (take n out.old) ++ drop (n + 1) out.old }
+// m in its place among the ascending bits before the last place.
+fn insert_bit(out: &mut [u32], m: u32)
+    requires { 0 < length out.old }
+    ensures { out.new ≡ insert m (take (length out.old - 1) out.old) }
 {
+    let n = out.len() - 1;
     let mut v = m;
     for i in 0..n {
         let b = out[i];
@@ -53,63 +53,60 @@ impl CheckAt {
         let mut n = 0;
         for &a in row.addrs.iter().rev() {
             if ldpc_shape::residue(a, self.q) == l {
-                insert_bit(out, n, row.first + self.bit_of(a));
                 n += 1;
+                insert_bit(&mut out[..n], row.first + self.bit_of(a));
             }
         }
         n
     }
 
     // Those of all rows.
-    fn rows(self, out: &mut [u32], lens: &[u32], addrs: &[u16]) -> usize
-        requires { (length lens.now ≤ 119)
-            × (total lens.now ≡ length addrs.now)
-            × (length (all_of self.q self.c lens.now addrs.now) ≤ length out.old) }
-        ensures { (result ≡ length (all_of self.q self.c lens.now addrs.now))
-            × (out.new ≡ all_of self.q self.c lens.now addrs.now ++ drop result out.old) }
+    fn rows(self, out: &mut [u32], of: Table<'_>) -> usize
+        requires { length (all_of self.q self.c of.lens.now of.addrs.now) ≤ length out.old }
+        ensures { (result ≡ length (all_of self.q self.c of.entry.lens.now of.entry.addrs.now))
+            × (out.new ≡ all_of self.q self.c of.entry.lens.now of.entry.addrs.now ++ drop result out.old) }
     {
         let mut n = 0;
-        for row in Rows::new(lens, addrs) {
+        for row in Rows::new(of.lens, of.addrs) {
             n += self.row(&mut out[n..], row);
         }
         n
     }
 }
 
-// The parity bits of check c from place n on.
-fn put_stairs(out: &mut [u32], n: usize, k: u32, c: u32) -> usize
-    requires { (k + c ≤ 44880) × (n + length (stairs k c) ≤ length out.old) }
-    ensures { (result ≡ n + length (stairs k c)) × (out.new ≡ take n out.old ++ (stairs k c ++ drop result out.old)) }
+// The parity bits of check c in front; how many.
+fn put_stairs(out: &mut [u32], k: u32, c: u32) -> usize
+    requires { (k + c ≤ 44880) × (length (stairs k c) ≤ length out.old) }
+    ensures { (result ≡ length (stairs k c)) × (out.new ≡ stairs k c ++ drop result out.old) }
 {
     let v = k + c;
     if c == 0 {
-        out[n] = v;
-        return n + 1;
+        out[0] = v;
+        return 1;
     }
-    out[n] = v - 1;
-    out[n + 1] = v;
-    n + 2
+    out[0] = v - 1;
+    out[1] = v;
+    2
 }
 
 // How many bits check c has.
-pub fn degree_of(n: u32, lens: &[u32], addrs: &[u16], c: u32) -> usize
-    requires { (code_refusal n lens.now addrs.now ≡ 0) × (c < p_of n lens.now) }
-    ensures { result ≡ length (check n lens.now addrs.now c) }
+pub fn degree_of(of: Table<'_>, c: u32) -> usize
+    requires { c < of.sizes.p }
+    ensures { result ≡ length (check of.entry.sizes.n of.entry.lens.now of.entry.addrs.now c) }
 {
-    let q = ldpc_shape::sizes_of(n, lens, addrs).q as u32;
-    let r = ldpc_shape::counts(addrs, q);
+    let q = of.sizes.q as u32;
+    let r = ldpc_shape::counts(of.addrs, q);
     let met = r[(c % q) as usize] as usize;
     if c == 0 { met + 1 } else { met + 2 }
 }
 
 // The list of check c in front; its length.
-pub fn check_of(n: u32, lens: &[u32], addrs: &[u16], c: u32, out: &mut [u32]) -> usize
-    requires { (code_refusal n lens.now addrs.now ≡ 0) × (c < p_of n lens.now) × (length (check n lens.now addrs.now c) ≤ length out.old) }
-    ensures { (result ≡ length (check n lens.now addrs.now c))
-        × (out.new ≡ check n lens.now addrs.now c ++ drop result out.old) }
+pub fn check_of(of: Table<'_>, c: u32, out: &mut [u32]) -> usize
+    requires { (c < of.sizes.p) × (length (check of.sizes.n of.lens.now of.addrs.now c) ≤ length out.old) }
+    ensures { (result ≡ length (check of.entry.sizes.n of.entry.lens.now of.entry.addrs.now c))
+        × (out.new ≡ check of.entry.sizes.n of.entry.lens.now of.entry.addrs.now c ++ drop result out.old) }
 {
-    let Sizes { k, q, .. } = ldpc_shape::sizes_of(n, lens, addrs);
-    let at = CheckAt { q: q as u32, c };
-    let d = at.rows(out, lens, addrs);
-    put_stairs(out, d, k as u32, c)
+    let q = of.sizes.q as u32;
+    let d = CheckAt { q, c }.rows(out, of);
+    d + put_stairs(&mut out[d..], of.sizes.k as u32, c)
 }

@@ -1,6 +1,6 @@
 -- Lists of edges: their parts, and where their checks and bits lie.
-use Rattle.std.specs.Prelude.{◌≡◌, refl, Bool, true, false, cond, List, [], ◌∷◌, ◌++◌, ℕ, zero, suc, ◌+◌, ◌*◌, ◌≤◌, ◌<◌, eqb, length, take, drop, get_or}
-use Rattle.std.proofs.Common.{sym, ap, ap₂, ◌∙◌, arith, mod-lt, add-one, eq-eqb, ne_eqb, length-append, drop_of_length-le, drop-cons, drop-drop}
+use Rattle.std.specs.Prelude.{◌≡◌, refl, Bool, true, false, cond, List, [], ◌∷◌, ◌++◌, ℕ, zero, suc, ◌+◌, ◌*◌, ◌≤◌, ◌<◌, eqb, length, drop}
+use Rattle.std.proofs.Common.{ap, ◌∙◌, arith, mod-lt, eq-eqb, ne_eqb, length-append}
 use Rattle.ldpc_shape.specs.Shape.{k_of, p_of, q_of, rows_of}
 use Rattle.ldpc_edges.specs.Code.{Edge, edge, met, of_bits, of_rows, meets, only}
 use Rattle.ldpc_edges.specs.Inside.{Inside}
@@ -55,17 +55,3 @@ only_hit p m c es e = ap (λ b. cond b (m ∷ only c es) (only c es)) (eq-eqb p 
 pub only_miss : (p m c : ℕ) (es : List Edge) → (p ≡ c → ⊥) → only c (edge p m ∷ es) ≡ only c es
 unfolding only
 only_miss p m c es e = ap (λ b. cond b (m ∷ only c es) (only c es)) (ne_eqb p c e)
-
--- ---- the edges of the rows from row g on, whose addresses begin at `from`: those of row g first, and none where there is no row
-pub rows_next : (P q : ℕ) (lens addrs : List ℕ) (g from : ℕ) → g < length lens → of_rows P q (374 * g) (rows_of (drop g lens) (drop from addrs))
-    ≡ of_bits P q 374 (374 * g) 0 (take (get_or lens g 0) (drop from addrs)) ++ of_rows P q (374 * (g + 1)) (rows_of (drop (g + 1) lens) (drop (from + get_or lens g 0) addrs))
-unfolding of_rows rows_of
-rows_next P q lens addrs g from h =
-    let e : 374 * g + 374 ≡ 374 * (g + 1) = omega arith in
-    ap (λ (ls : List ℕ). of_rows P q (374 * g) (rows_of ls (drop from addrs))) (drop-cons lens g 0 h ∙ ap (λ (z : ℕ). get_or lens g 0 ∷ drop z lens) (sym (add-one g)))
-    ∙ ap₂ (λ (y : ℕ) (z : List ℕ). of_bits P q 374 (374 * g) 0 (take (get_or lens g 0) (drop from addrs)) ++ of_rows P q y (rows_of (drop (g + 1) lens) z)) e
-    (drop-drop (get_or lens g 0) from addrs)
-
-pub rows_none : (P q m g : ℕ) (lens addrs : List ℕ) → length lens ≤ g → of_rows P q m (rows_of (drop g lens) addrs) ≡ []
-unfolding of_rows rows_of
-rows_none P q m g lens addrs h = ap (λ (ls : List ℕ). of_rows P q m (rows_of ls addrs)) (drop_of_length-le lens {i = g} h)

@@ -4,12 +4,11 @@
 
 ghost use Rattle.std.specs.Prelude.{◌≡◌, ◌++◌, ℕ, ◌+◌, ◌*◌, ◌/◌, ◌%◌, ◌<◌, ◌≤◌, length, drop, get_or};
 ghost use Rattle.laws.specs.Modulo.{sum_to};
-ghost use Rattle.ldpc_shape.specs.Shape.{k_of, p_of, total, code_refusal};
 ghost use Rattle.ldpc_edges.specs.Code.{sums, parity, encode, weight};
 ghost use Rattle.ldpc_encode.specs.Sums.{xors, turned_bit, row_bit, info_bit, AddedToSums, Scattered, stair_bit, unmet_at};
 
 use ldpc_rows::Rows;
-use ldpc_shape::{GROUP, GROUP_U32, Sizes};
+use ldpc_shape::{GROUP, GROUP_U32, Table};
 
 // Each byte of x xored with w's.
 fn xor_into(x: &mut [u8], w: &[u8])
@@ -39,32 +38,58 @@ fn turn(a: u16, q: u32) -> usize
     (u32::from(a) / q % GROUP_U32) as usize
 }
 
-// The bits of a row for each of its addresses that is l modulo q.
-fn add_row(x: &mut [u8; GROUP], w: &[u8], row: &[u16], q: u32, l: usize)
-    requires { (length w.now ≡ 374) × (0 < q) }
-    ensures { AddedToSums x.old x.new (row_bit q l w.now row.now) }
-{
-    for &a in row {
-        if ldpc_shape::residue(a, q) == l {
-            add_turned(x, w, turn(a, q));
+// The checks that are l modulo q: l, l + q, and so on, 374 of them.
+#[derive(Clone, Copy)]
+struct Class {
+    q: usize,
+    l: usize,
+    ghost below: { l < q },
+    ghost few: { q ≤ 120 },
+}
+
+impl Class {
+    // The bits of a row for each of its addresses that is of the class.
+    fn add_row(self, x: &mut [u8; GROUP], w: &[u8], row: &[u16])
+        requires { length w.now ≡ 374 }
+        ensures { AddedToSums x.old x.new (row_bit self.q self.l w.now row.now) }
+    {
+        let q = self.q as u32;
+        for &a in row {
+            if ldpc_shape::residue(a, q) == self.l {
+                add_turned(x, w, turn(a, q));
+            }
         }
     }
-}
 
-// The low bit of byte i: whether an odd number of the information bits of check l + iq is 1.
-fn sums_of(w: &[u8], lens: &[u32], addrs: &[u16], q: u32, l: usize) -> [u8; GROUP]
-    requires { (374 * length lens.now ≤ length w.now) × (length lens.now ≤ 120) × (total lens.now ≡ length addrs.now) × (l < q) }
-    ensures { (i : ℕ) → i < 374 → get_or result i 0 % 2 ≡ info_bit q l w.now lens.now addrs.now i % 2 }
-{
-    let mut x = [0; GROUP];
-    for row in Rows::new(lens, addrs) {
-        let first = row.first as usize;
-        add_row(&mut x, &w[first..first + GROUP], row.addrs, q, l);
+    // The low bit of byte i: whether an odd number of the information bits of the i-th check is 1.
+    fn sums(self, w: &[u8], of: Table<'_>) -> [u8; GROUP]
+        requires { of.sizes.k ≤ length w.now }
+        ensures { (i : ℕ) → i < 374
+            → get_or result i 0 % 2 ≡ info_bit self.q self.l w.now of.entry.lens.now of.entry.addrs.now i % 2 }
+    {
+        let mut x = [0; GROUP];
+        for row in Rows::new(of.lens, of.addrs) {
+            let first = row.first as usize;
+            self.add_row(&mut x, &w[first..first + GROUP], row.addrs);
+        }
+        x
     }
-    x
+
+    // How many of its checks are odd, with the sums x and the parity bits p.
+    fn odd_checks(self, x: &[u8; GROUP], p: &[u8]) -> u32
+        requires { length p.now ≡ 374 * self.q }
+        ensures { (result ≡ sum_to 374 (unmet_at self.q self.l x.now p.now)) × (result ≤ 374) }
+    {
+        let Class { q, l } = self;
+        let mut s = 0;
+        for i in 0..GROUP {
+            s += odd(x[i], stair_bit(p, l + i * q));
+        }
+        s
+    }
 }
 
-// The low bits of the sums to the checks l, l + q, and so on.
+// The low bits of the sums to the checks of a class. Not its method: as one the loop isn't vectorised, and parity takes a tenth more instructions.
 fn scatter(out: &mut [u8], x: &[u8; GROUP], q: usize, l: usize)
     requires { (length out.old ≡ 374 * q) × (l < q) × (q ≤ 120) }
     ensures { Scattered 374 q l x.now out.old out.new }
@@ -86,13 +111,14 @@ fn sum_up(p: &mut [u8])
 }
 
 // The parity bits of the information.
-pub fn parity_of(n: u32, lens: &[u32], addrs: &[u16], info: &[u8], out: &mut [u8])
-    requires { (code_refusal n lens.now addrs.now ≡ 0) × (length info.now ≡ k_of lens.now) × (length out.old ≡ p_of n lens.now) }
-    ensures { out.new ≡ parity n lens.now addrs.now info.now }
+pub fn parity_of(of: Table<'_>, info: &[u8], out: &mut [u8])
+    requires { (length info.now ≡ of.sizes.k) × (length out.old ≡ of.sizes.p) }
+    ensures { out.new ≡ parity of.entry.sizes.n of.entry.lens.now of.entry.addrs.now info.now }
 {
-    let q = ldpc_shape::sizes_of(n, lens, addrs).q;
-    for l in 0..q {
-        let x = sums_of(info, lens, addrs, q as u32, l);
+    for l in 0..of.sizes.q {
+        let q = of.sizes.q;
+        let class = Class { q, l };
+        let x = class.sums(info, of);
         scatter(out, &x, q, l);
     }
     sum_up(out);
@@ -107,12 +133,12 @@ fn copy(out: &mut [u8], w: &[u8])
 }
 
 // The information, then its parity bits.
-pub fn encode_of(n: u32, lens: &[u32], addrs: &[u16], info: &[u8], out: &mut [u8])
-    requires { (code_refusal n lens.now addrs.now ≡ 0) × (length info.now ≡ k_of lens.now) × (length out.old ≡ n) }
-    ensures { out.new ≡ encode n lens.now addrs.now info.now }
+pub fn encode_of(of: Table<'_>, info: &[u8], out: &mut [u8])
+    requires { (length info.now ≡ of.sizes.k) × (length out.old ≡ of.sizes.n) }
+    ensures { out.new ≡ encode of.entry.sizes.n of.entry.lens.now of.entry.addrs.now info.now }
 {
     copy(out, info);
-    parity_of(n, lens, addrs, info, &mut out[info.len()..]);
+    parity_of(of, info, &mut out[info.len()..]);
 }
 
 // The parity bits of check c together.
@@ -133,29 +159,16 @@ fn odd(x: u8, y: u8) -> u32
     u32::from((x ^ y) % 2)
 }
 
-// How many of the checks l, l + q, and so on are odd, with the sums x and the parity bits p.
-fn odd_checks(x: &[u8; GROUP], p: &[u8], q: usize, l: usize) -> u32
-    requires { (length p.now ≡ 374 * q) × (l < q) × (q ≤ 120) }
-    ensures { (result ≡ sum_to 374 (unmet_at q l x.now p.now)) × (result ≤ 374) }
-{
-    let mut s = 0;
-    for i in 0..GROUP {
-        s += odd(x[i], stair_bit(p, l + i * q));
-    }
-    s
-}
-
 // The number of unsatisfied checks of a word.
-pub fn weight_of(n: u32, lens: &[u32], addrs: &[u16], bits: &[u8]) -> u32
-    requires { (code_refusal n lens.now addrs.now ≡ 0) × (length bits.now ≡ n) }
-    ensures { result ≡ weight n lens.now addrs.now bits.now }
+pub fn weight_of(of: Table<'_>, bits: &[u8]) -> u32
+    requires { length bits.now ≡ of.sizes.n }
+    ensures { result ≡ weight of.entry.sizes.n of.entry.lens.now of.entry.addrs.now bits.now }
 {
-    let Sizes { k, q, .. } = ldpc_shape::sizes_of(n, lens, addrs);
-    let p = &bits[k..];
+    let p = &bits[of.sizes.k..];
     let mut u = 0;
-    for l in 0..q {
-        let x = sums_of(bits, lens, addrs, q as u32, l);
-        u += odd_checks(&x, p, q, l);
+    for l in 0..of.sizes.q {
+        let class = Class { q: of.sizes.q, l };
+        u += class.odd_checks(&class.sums(bits, of), p);
     }
     u
 }

@@ -1,4 +1,3 @@
-mod One
 mod Loops
 mod Stairs
 mod Built

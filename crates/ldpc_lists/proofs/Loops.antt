@@ -1,53 +1,35 @@
 -- What each turn of the builder's loops does.
-use Rattle.std.proofs.Common.{◌≡◌, refl, sym, ap, ap₂, ◌∙◌, subst, List, [], ◌∷◌, ◌++◌, append_assoc, append-nil, ℕ, zero, suc, ◌+◌, ◌-◌, ◌*◌, ◌%◌, ◌≤◌, ◌<◌, arith, mod-lt, mul-le-mul, length, length-take, length-drop}
+use Rattle.std.proofs.Common.{◌≡◌, refl, sym, ap, ap₂, ◌∙◌, subst, List, [], ◌∷◌, ◌++◌, append_assoc, append-nil, ℕ, zero, suc, ◌+◌, ◌-◌, ◌*◌, ◌%◌, ◌≤◌, ◌<◌, arith, mod-lt, length}
 use Rattle.ldpc_edges.specs.Code.{Edge, edge, met, of_bits}
 use Rattle.ldpc_edges.specs.Inside.{Inside}
-use Rattle.ldpc_lists.specs.Build.{Lists, parts, Ready, put, put_all, put_all_append, put_bits_length, put_at_length, RoomForEdges, room_next, room_later, room_then}
-
-pub shift_fits : (j q : ℕ) → j < 374 → q ≤ 120 → j * q ≤ 44880
-shift_fits j q h g = mul-le-mul {n₂ = 374} {m₂ = 120} (omega arith) g
-
--- filling keeps the slice's length
-pub same_parts : (base : ℕ) (xs ys : List ℕ) (es : List Edge) → parts base ys ≡ put_all es (parts base xs) → length ys ≡ length xs
-same_parts base xs ys es e =
-    omega (
-      arith,
-      ap (λ (z : Lists). length z.bits) e,
-      put_bits_length es (parts base xs),
-      ap (λ (z : Lists). length z.at) e,
-      put_at_length es (parts base xs),
-      length-drop base xs,
-      length-drop base ys,
-      length-take base xs,
-      length-take base ys,
-    )
+use Rattle.ldpc_lists.specs.Build.{Lists, Ready, put, put_all, put_all_append, RoomForEdges, room_next, room_later, room_then}
 
 -- ---- the edges `left` are to be put, and then all are
-pub record Filling (P base : ℕ) (left all : List Edge) (xs₀ xs : List ℕ) : Type 0 where
-  pub room : RoomForEdges P left (parts base xs)
-  pub same : put_all left (parts base xs) ≡ put_all all (parts base xs₀)
+pub record Filling (P : ℕ) (left all : List Edge) (st₀ st : Lists) : Type 0 where
+  pub room : RoomForEdges P left st
+  pub same : put_all left st ≡ put_all all st₀
 
-pub fill_start : (P base : ℕ) (left all : List Edge) (xs : List ℕ) → left ≡ all → RoomForEdges P all (parts base xs) → Filling P base left all xs xs
-fill_start P base left all xs e r =
-    record { room = subst (λ (es : List Edge). RoomForEdges P es (parts base xs)) (sym e) r; same = ap (λ (es : List Edge). put_all es (parts base xs)) e }
+pub fill_start : (P : ℕ) (left all : List Edge) (st : Lists) → left ≡ all → RoomForEdges P all st → Filling P left all st st
+fill_start P left all st e r =
+    record { room = subst (λ (es : List Edge). RoomForEdges P es st) (sym e) r; same = ap (λ (es : List Edge). put_all es st) e }
 
-pub fill_end : (P base : ℕ) (left all : List Edge) (xs₀ xs : List ℕ) → left ≡ [] → Filling P base left all xs₀ xs → parts base xs ≡ put_all all (parts base xs₀)
+pub fill_end : (P : ℕ) (left all : List Edge) (st₀ st : Lists) → left ≡ [] → Filling P left all st₀ st → st ≡ put_all all st₀
 unfolding put_all
-fill_end P base left all xs₀ xs e F = ap (λ (es : List Edge). put_all es (parts base xs)) (sym e) ∙ F.same
+fill_end P left all st₀ st e F = ap (λ (es : List Edge). put_all es st) (sym e) ∙ F.same
 
 -- es are the next ones
-module _ (P base : ℕ) (left all : List Edge) (xs₀ xs : List ℕ) (F : Filling P base left all xs₀ xs) (left' es : List Edge) (e : left ≡ left' ++ es) where
-  room_split : RoomForEdges P (left' ++ es) (parts base xs)
-  room_split = subst (λ (es : List Edge). RoomForEdges P es (parts base xs)) e F.room
+module _ (P : ℕ) (left all : List Edge) (st₀ st : Lists) (F : Filling P left all st₀ st) (left' es : List Edge) (e : left ≡ left' ++ es) where
+  room_split : RoomForEdges P (left' ++ es) st
+  room_split = subst (λ (es : List Edge). RoomForEdges P es st) e F.room
 
-  pub fill_room : RoomForEdges P es (parts base xs)
-  fill_room = room_later P left' es (parts base xs) room_split
+  pub fill_room : RoomForEdges P es st
+  fill_room = room_later P left' es st room_split
 
-  pub fill_next : (k : ℕ) (ys : List ℕ) → Inside P k es → parts base ys ≡ put_all es (parts base xs) → Filling P base left' all xs₀ ys
-  fill_next k ys I f =
+  pub fill_next : (k : ℕ) (st' : Lists) → Inside P k es → st' ≡ put_all es st → Filling P left' all st₀ st'
+  fill_next k st' I f =
       record {
-        room = subst (RoomForEdges P left') (sym f) (room_then P k left' es (parts base xs) I room_split);
-        same = ap (put_all left') f ∙ sym (put_all_append left' es (parts base xs)) ∙ ap (λ (es : List Edge). put_all es (parts base xs)) (sym e) ∙ F.same;
+        room = subst (RoomForEdges P left') (sym f) (room_then P k left' es st I room_split);
+        same = ap (put_all left') f ∙ sym (put_all_append left' es st) ∙ ap (λ (es : List Edge). put_all es st) (sym e) ∙ F.same;
       }
 
 -- ---- one bit: the addresses are taken from the last
@@ -56,7 +38,7 @@ unfolding met
 met_append P q m j [] ys = refl
 met_append P q m j (a ∷ xs) ys = ap (λ (z : List Edge). edge ((a + j * q) % P) m ∷ z) (met_append P q m j xs ys)
 
-module _ (P q m j base : ℕ) (row xs₀ xs rest rest' : List ℕ) (a p : ℕ) (pos : 0 < P) (F : Filling P base (met P q m j rest) (met P q m j row) xs₀ xs)
+module _ (P q m j : ℕ) (row rest rest' : List ℕ) (st₀ st : Lists) (a p : ℕ) (pos : 0 < P) (F : Filling P (met P q m j rest) (met P q m j row) st₀ st)
     (step : rest ≡ rest' ++ (a ∷ [])) (h : p ≡ (a + j * q) % P) where
   met_step : met P q m j rest ≡ met P q m j rest' ++ (edge p m ∷ [])
   unfolding met
@@ -65,13 +47,13 @@ module _ (P q m j base : ℕ) (row xs₀ xs rest rest' : List ℕ) (a p : ℕ) (
   within : p < P
   within = subst (λ (z : ℕ). z < P) (sym h) (mod-lt (a + j * q) pos)
 
-  pub met_ready : Ready p (parts base xs)
+  pub met_ready : Ready p st
   unfolding put_all
-  met_ready = room_next P (suc m) [] p m [] (parts base xs) tt within (fill_room P base _ _ xs₀ xs F (met P q m j rest') (edge p m ∷ []) met_step)
+  met_ready = room_next P (suc m) [] p m [] st tt within (fill_room P _ _ st₀ st F (met P q m j rest') (edge p m ∷ []) met_step)
 
-  pub met_next : (ys : List ℕ) → parts base ys ≡ put p m (parts base xs) → Filling P base (met P q m j rest') (met P q m j row) xs₀ ys
+  pub met_next : (st' : Lists) → st' ≡ put p m st → Filling P (met P q m j rest') (met P q m j row) st₀ st'
   unfolding put_all
-  met_next ys e = fill_next P base _ _ xs₀ xs F (met P q m j rest') (edge p m ∷ []) met_step (suc m) ys (within, omega arith, tt) e
+  met_next st' e = fill_next P _ _ st₀ st F (met P q m j rest') (edge p m ∷ []) met_step (suc m) st' (within, omega arith, tt) e
 
 pub met_none : (P q m j : ℕ) (rest : List ℕ) → length rest ≡ 0 → met P q m j rest ≡ []
 unfolding met

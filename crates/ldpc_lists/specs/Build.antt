@@ -1,10 +1,10 @@
 -- Filling the lists of all checks from their ends: each edge, the last first, is put before what its check has so far.
 --
--- In order: the slice as starts and bits (`parts`); an edge put, and several (`put_all`); room for edges (`RoomForEdges`); filled with edges (`HoldsEdges`,
+-- In order: both slices together (`as_lists`); an edge put, and several (`put_all`); room for edges (`RoomForEdges`); filled with edges (`HoldsEdges`,
 -- `fill`); all lists (`Listed`); for the loops.
 --
 -- Not here: the ends that the filling begins with (Ends).
-use Rattle.std.specs.Prelude.{◌≡◌, refl, ◌≢◌, List, [], ◌∷◌, ◌++◌, ℕ, zero, suc, ◌+◌, ◌-◌, ◌≤◌, ◌<◌, length, take, drop, get_or, set}
+use Rattle.std.specs.Prelude.{◌≡◌, refl, ◌≢◌, List, [], ◌∷◌, ◌++◌, ℕ, zero, suc, ◌+◌, ◌-◌, ◌≤◌, ◌<◌, length, take, get_or, set}
 use Rattle.std.proofs.Common.{sym, ap, ◌∙◌, subst, arith, length-set, get_or-set_other, ext_get_or, get_or-take, get_or-drop}
 use Rattle.std.proofs.Math.Decide.{ℕ_discrete, dec_lt}
 use Rattle.std.proofs.Math.Seq.{slice, length-slice}
@@ -20,9 +20,9 @@ pub record Lists : Type 0 where
   pub bits : List ℕ
   pub at : List ℕ
 
--- row_start is what lies below `base`, rows what lies above
-abbrev pub parts : ℕ → List ℕ → Lists
-parts base xs = record { bits = drop base xs; at = take base xs }
+-- the two slices, row_start and rows
+abbrev pub as_lists : List ℕ → List ℕ → Lists
+as_lists starts rows = record { bits = rows; at = starts }
 
 -- check p can take one bit more
 abbrev pub Ready : ℕ → Lists → Type 0

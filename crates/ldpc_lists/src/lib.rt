@@ -1,25 +1,26 @@
 // The lists of all checks in one lent slice: row_start (P + 1 numbers), then rows (E bits).
-// The slice is filled from the lists' ends: each start is first its list's end and goes down by one for each bit.
+// They are filled from the lists' ends: each start is first its list's end and goes down by one for each bit.
 #![tactic(auto)]
 
 ghost use Rattle.std.specs.Prelude.{◌≡◌, cond, suc, ◌+◌, ◌*◌, ◌%◌, ◌<◌, ◌≤◌, eqb, length, get_or};
-ghost use Rattle.ldpc_shape.specs.Shape.{sizes_of, rows_of, total, code_refusal};
+ghost use Rattle.ldpc_shape.specs.Shape.{rows_of};
 ghost use Rattle.ldpc_edges.specs.Code.{met, of_bits, of_rows, stairs, edge_lists};
 ghost use Rattle.ldpc_edges.specs.Count.{to_bits, to_stairs};
-ghost use Rattle.ldpc_lists.specs.Build.{parts, Ready, put, put_all, RoomForEdges};
+ghost use Rattle.ldpc_lists.specs.Build.{as_lists, Ready, put, put_all, RoomForEdges};
 ghost use Rattle.ldpc_lists.specs.Ends.{Few, EndsSet, ending};
 
 use ldpc_rows::{Row, Rows};
-use ldpc_shape::{GROUP_U32, MAX_Q, Sizes};
+use ldpc_shape::{GROUP_U32, MAX_Q, Sizes, Table};
 
-// Bit m before what check p has so far; rows begin at `base`.
-fn put_one(lists: &mut [u32], base: usize, p: usize, m: u32)
-    requires { (base ≤ length lists.old) × Ready p (parts base lists.old) }
-    ensures { parts base lists.new ≡ put p m (parts base lists.old) }
+// Bit m before what check p has so far. (`starts` and `rows` are two parameters: a structure of the two would have to say at each function that it keeps both.)
+#[tactic(auto, unfolding(crate::specs::Build::put))]
+fn put_one(starts: &mut [u32], rows: &mut [u32], p: usize, m: u32)
+    requires { Ready p (as_lists starts.old rows.old) }
+    ensures { as_lists starts.new rows.new ≡ put p m (as_lists starts.old rows.old) }
 {
-    let s = lists[p] - 1;
-    lists[p] = s;
-    lists[base + s as usize] = m;
+    let s = starts[p] - 1;
+    starts[p] = s;
+    rows[s as usize] = m;
 }
 
 // How many checks a code has, and its q.
@@ -31,69 +32,73 @@ struct Checks {
     ghost few: { q ≤ 120 },
 }
 
-// The edges of bit m, the j-th of its row.
-fn put_met(lists: &mut [u32], base: usize, row: &[u16], of: Checks, m: u32, j: u32)
-    requires { (base ≤ length lists.old) × (j < 374) × RoomForEdges of.count (met of.count of.q m j row.now) (parts base lists.old) }
-    ensures { parts base lists.new ≡ put_all (met of.count of.q m j row.now) (parts base lists.old) }
-{
-    let s = j * of.q;
-    for &a in row.iter().rev() {
-        put_one(lists, base, meets(a, s, of.count), m);
+impl Checks {
+    // The check that an address meets, s further on.
+    fn meets(self, a: u16, s: u32) -> usize
+        requires { s ≤ 44880 }
+        ensures { result ≡ (a + s) % self.count }
+    {
+        ((u32::from(a) + s) % self.count) as usize
     }
-}
 
-// The check that an address meets, s further on.
-fn meets(a: u16, s: u32, checks: u32) -> usize
-    requires { (0 < checks) × (s ≤ 44880) }
-    ensures { result ≡ (a + s) % checks }
-{
-    ((u32::from(a) + s) % checks) as usize
-}
+    // The edges of bit m, the j-th of its row.
+    fn put_met(self, starts: &mut [u32], rows: &mut [u32], row: &[u16], m: u32, j: u32)
+        requires { (j < 374) × RoomForEdges self.count (met self.count self.q m j row.now) (as_lists starts.old rows.old) }
+        ensures { as_lists starts.new rows.new ≡ put_all (met self.count self.q m j row.now) (as_lists starts.old rows.old) }
+    {
+        let s = j * self.q;
+        for &a in row.iter().rev() {
+            put_one(starts, rows, self.meets(a, s), m);
+        }
+    }
 
-// The edges of a row.
-fn put_row(lists: &mut [u32], base: usize, row: Row<'_>, of: Checks)
-    requires { (base ≤ length lists.old)
-        × RoomForEdges of.count (of_bits of.count of.q 374 row.first 0 row.addrs.now) (parts base lists.old) }
-    ensures { parts base lists.new ≡ put_all (of_bits of.count of.q 374 row.entry.first 0 row.entry.addrs.now) (parts base lists.old) }
-{
-    for j in (0..GROUP_U32).rev() {
-        put_met(lists, base, row.addrs, of, row.first + j, j);
+    // The edges of a row.
+    fn put_row(self, starts: &mut [u32], rows: &mut [u32], row: Row<'_>)
+        requires { RoomForEdges self.count (of_bits self.count self.q 374 row.first 0 row.addrs.now) (as_lists starts.old rows.old) }
+        ensures { as_lists starts.new rows.new
+            ≡ put_all (of_bits self.count self.q 374 row.entry.first 0 row.entry.addrs.now) (as_lists starts.old rows.old) }
+    {
+        for j in (0..GROUP_U32).rev() {
+            self.put_met(starts, rows, row.addrs, row.first + j, j);
+        }
     }
 }
 
 // The edges of all rows.
-fn put_rows(lists: &mut [u32], base: usize, lens: &[u32], addrs: &[u16], of: Checks)
-    requires { (base ≤ length lists.old)
-        × (length lens.now ≤ 120)
-        × (total lens.now ≡ length addrs.now)
-        × RoomForEdges of.count (of_rows of.count of.q 0 (rows_of lens.now addrs.now)) (parts base lists.old) }
-    ensures { parts base lists.new ≡ put_all (of_rows of.count of.q 0 (rows_of lens.now addrs.now)) (parts base lists.old) }
+fn put_rows(starts: &mut [u32], rows: &mut [u32], of: Table<'_>)
+    requires { RoomForEdges of.sizes.p (of_rows of.sizes.p of.sizes.q 0 (rows_of of.lens.now of.addrs.now)) (as_lists starts.old rows.old) }
+    ensures { as_lists starts.new rows.new
+        ≡ put_all (of_rows of.entry.sizes.p of.entry.sizes.q 0 (rows_of of.entry.lens.now of.entry.addrs.now)) (as_lists starts.old rows.old) }
 {
-    for row in Rows::new(lens, addrs).rev() {
-        put_row(lists, base, row, of);
+    let checks = Checks {
+        count: of.sizes.p as u32,
+        q: of.sizes.q as u32,
+    };
+    for row in Rows::new(of.lens, of.addrs).rev() {
+        checks.put_row(starts, rows, row);
     }
 }
 
 // The parity bits of check c.
-fn put_stair(lists: &mut [u32], base: usize, k: u32, c: usize)
-    requires { (base ≤ length lists.old) × (k + c ≤ 44880) × RoomForEdges (suc c) (to_bits c (stairs k c)) (parts base lists.old) }
-    ensures { parts base lists.new ≡ put_all (to_bits c (stairs k c)) (parts base lists.old) }
+fn put_stair(starts: &mut [u32], rows: &mut [u32], k: u32, c: usize)
+    requires { (k + c ≤ 44880) × RoomForEdges (suc c) (to_bits c (stairs k c)) (as_lists starts.old rows.old) }
+    ensures { as_lists starts.new rows.new ≡ put_all (to_bits c (stairs k c)) (as_lists starts.old rows.old) }
 {
     let v = k + c as u32;
-    put_one(lists, base, c, v);
+    put_one(starts, rows, c, v);
     if c == 0 {
         return;
     }
-    put_one(lists, base, c, v - 1);
+    put_one(starts, rows, c, v - 1);
 }
 
 // The parity bits of all checks.
-fn put_stairs(lists: &mut [u32], base: usize, k: u32, checks: usize)
-    requires { (base ≤ length lists.old) × (k + checks ≤ 44880) × RoomForEdges checks (to_stairs k 0 checks) (parts base lists.old) }
-    ensures { parts base lists.new ≡ put_all (to_stairs k 0 checks) (parts base lists.old) }
+fn put_stairs(starts: &mut [u32], rows: &mut [u32], k: u32, checks: usize)
+    requires { (k + checks ≤ 44880) × RoomForEdges checks (to_stairs k 0 checks) (as_lists starts.old rows.old) }
+    ensures { as_lists starts.new rows.new ≡ put_all (to_stairs k 0 checks) (as_lists starts.old rows.old) }
 {
     for c in (0..checks).rev() {
-        put_stair(lists, base, k, c);
+        put_stair(starts, rows, k, c);
     }
 }
 
@@ -105,32 +110,27 @@ fn stair(c: usize) -> u32
 }
 
 // Each start at the end of its check's list.
-fn ends(lists: &mut [u32], counts: &[u32; MAX_Q], q: usize, checks: usize)
-    requires { (0 < q) × (q ≤ 120) × (checks ≤ 44880) × (checks < length lists.old) × Few counts.now q }
-    ensures { EndsSet counts.now q lists.new checks × (get_or lists.new checks 0 ≡ ending counts.now q checks) }
+fn ends(starts: &mut [u32], counts: &[u32; MAX_Q], q: usize, checks: usize)
+    requires { (0 < q) × (q ≤ 120) × (checks ≤ 44880) × (checks < length starts.old) × Few counts.now q }
+    ensures { EndsSet counts.now q starts.new checks × (get_or starts.new checks 0 ≡ ending counts.now q checks) }
 {
     let mut e = 0;
     for i in 0..checks {
         e += counts[i % q] + stair(i);
-        lists[i] = e;
+        starts[i] = e;
     }
-    lists[checks] = e;
+    starts[checks] = e;
 }
 
-// The lists of all checks of an accepted code, in a slice of E + P + 1 numbers.
-pub fn build(of: Sizes, lens: &[u32], addrs: &[u16], lists: &mut [u32])
-    requires accepted { (code_refusal of.n lens.now addrs.now ≡ 0) × (of ≡ sizes_of of.n lens.now addrs.now) }
-    requires size { length lists.old ≡ suc of.p + of.e }
-    ensures { lists.new ≡ edge_lists of.n lens.now addrs.now }
+// The lists of all checks of a code, in a slice of E + P + 1 numbers.
+pub fn build(of: Table<'_>, lists: &mut [u32])
+    requires { length lists.old ≡ suc of.sizes.p + of.sizes.e }
+    ensures { lists.new ≡ edge_lists of.entry.sizes.n of.entry.lens.now of.entry.addrs.now }
 {
-    let Sizes { k, p, q, .. } = of;
-    let base = p + 1;
-    let counts = ldpc_shape::counts(addrs, q as u32);
-    ends(lists, &counts, q, p);
-    put_stairs(lists, base, k as u32, p);
-    let checks = Checks {
-        count: p as u32,
-        q: q as u32,
-    };
-    put_rows(lists, base, lens, addrs, checks);
+    let Sizes { k, p, q, .. } = of.sizes;
+    let counts = ldpc_shape::counts(of.addrs, q as u32);
+    let (starts, rows) = lists.split_at_mut(p + 1);
+    ends(starts, &counts, q, p);
+    put_stairs(starts, rows, k as u32, p);
+    put_rows(starts, rows, of);
 }

@@ -13,9 +13,9 @@ impl<'a> Iterator for Rows<'a> {
     ghost remaining = { item_count left };
 
     fn next(&mut self) -> Option<Row<'a>> {
-        let first = self.first;
-        let (len, lens) = self.lens.split_first()?;
-        let (row, addrs) = self.addrs.split_at(*len as usize);
+        let Rows { first, lens, addrs } = *self;
+        let (len, lens) = lens.split_first()?;
+        let (row, addrs) = addrs.split_at(*len as usize);
         *self = Rows {
             first: first + GROUP_U32,
             lens,
@@ -29,9 +29,9 @@ impl<'a> DoubleEndedIterator for Rows<'a> {
     ghost next_back_gives = { YieldsLastBy seen left };
 
     fn next_back(&mut self) -> Option<Row<'a>> {
-        let first = self.first;
-        let (len, lens) = self.lens.split_last()?;
-        let (addrs, row) = self.addrs.split_at(self.addrs.len() - *len as usize);
+        let Rows { first, lens, addrs } = *self;
+        let (len, lens) = lens.split_last()?;
+        let (addrs, row) = addrs.split_at(addrs.len() - *len as usize);
         *self = Rows { first, lens, addrs };
         Some(Row {
             first: first + (GROUP * lens.len()) as u32,

@@ -1,7 +1,7 @@
 -- What each turn of the loops does, and which number each exit of `accept` gives.
-use Rattle.std.proofs.Common.{◌≡◌, refl, sym, ap, ap₂, ◌∙◌, subst, Bool, true, false, cond, not, ◌||◌, List, [], ◌∷◌, ◌++◌, ℕ, zero, suc, ◌+◌, ◌-◌, ◌*◌, ◌/◌, ◌%◌, ◌≤◌, ◌<◌, arith, add-one, eqb, ltb, leb, length, take, get_or, set, replicate, sum, length-take, eqb-true, ltb-false}
+use Rattle.std.proofs.Common.{◌≡◌, refl, sym, ap, ap₂, ◌∙◌, Bool, true, false, cond, not, ◌||◌, List, [], ◌∷◌, ◌++◌, ℕ, zero, suc, ◌+◌, ◌-◌, ◌*◌, ◌/◌, ◌%◌, ◌≤◌, ◌<◌, arith, add-one, eqb, ltb, leb, length, take, get_or, set, replicate, sum, length-take, eqb-true, ltb-false}
 use Rattle.std.proofs.Math.Decide.{ℕ_discrete}
-use Rattle.std.proofs.Math.Seq.{take-suc, take-length, get_or-set_other}
+use Rattle.std.proofs.Math.Seq.{take-suc, get_or-set_other}
 use Rattle.std.specs.List.{list_any}
 use Rattle.std.proofs.lemmas.List.Sums.{sum_by-cons}
 use Rattle.std.proofs.lemmas.Bool.{eq-eqb, ne_eqb}
@@ -70,11 +70,6 @@ counted_again q addrs r i p h e g hq C =
 
 pub counted_room : (q : ℕ) (addrs r : List ℕ) (i p : ℕ) → p < q → i ≤ length addrs → length addrs ≤ 15360 → CountsBelow r q (take i addrs) → get_or r p 0 ≤ 15360
 counted_room q addrs r i p h g k C = omega (arith, C p h, count_le q p (take i addrs), length-take i addrs)
-
-pub counted_end : (q : ℕ) (addrs r : List ℕ) (i : ℕ) → length addrs ≤ i → i ≤ length addrs → CountsOf r q (take i addrs) → CountsOf r q addrs
-counted_end q addrs r i h g C =
-    let e : i ≡ length addrs = omega arith in
-    subst (λ (as' : List ℕ). CountsOf r q as') (ap (λ (z : ℕ). take z addrs) e ∙ take-length addrs) C
 
 -- ---- numbers that are too large, and the sum of the lengths
 pub over_any : (m : ℕ) (xs : List ℕ) → any_over m xs ≡ list_any (λ x. ltb m x) xs

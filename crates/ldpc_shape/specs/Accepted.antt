@@ -1,6 +1,6 @@
 -- What it says of a code that no refusal applies.
-use Rattle.std.specs.Prelude.{◌≡◌, false, List, [], ◌∷◌, ℕ, zero, suc, ◌+◌, ◌*◌, ◌%◌, ◌≤◌, ◌<◌, ltb, length, drop, get_or}
-use Rattle.std.proofs.Common.{sym, ap, ◌∙◌, subst, arith, add-one, ltb-false, drop-cons}
+use Rattle.std.specs.Prelude.{◌≡◌, false, List, [], ◌∷◌, ℕ, zero, suc, ◌+◌, ◌*◌, ◌%◌, ◌≤◌, ◌<◌, ltb, length}
+use Rattle.std.proofs.Common.{sym, subst, arith, ltb-false}
 use Rattle.std.proofs.Math.Decide.{ℕ_discrete}
 use Rattle.laws.specs.Choice.{or_left, or_right}
 use Rattle.ldpc_shape.specs.declared.Sizes.{Sizes}
@@ -13,16 +13,6 @@ pub record Accepted (n : ℕ) (lens addrs : List ℕ) : Type 0 where
   pub short : any_over 128 lens ≡ false
   pub adds : total lens ≡ length addrs
   pub few : any_over 126 (counts_mod (q_of n lens) addrs (q_of n lens)) ≡ false
-
--- the first of the lengths from row g on
-pub total_drop : (lens : List ℕ) (g : ℕ) → g < length lens → total (drop g lens) ≡ get_or lens g 0 + total (drop (g + 1) lens)
-unfolding total
-total_drop lens g h = ap total (drop-cons lens g 0 h) ∙ ap (λ (z : ℕ). get_or lens g 0 + total (drop z lens)) (sym (add-one g))
-
--- the addresses of row g, which begin at `from`, end inside the list, and those of the next rows follow
-module _ (lens addrs : List ℕ) (g from : ℕ) (h : g < length lens) where
-  pub rows_end_fits : (r : ℕ) → r ≡ get_or lens g 0 → from + total (drop g lens) ≡ length addrs → (from + r ≤ length addrs) × (from + r + total (drop (g + 1) lens) ≡ length addrs)
-  rows_end_fits r e f = let a = total_drop lens g h in (omega arith, omega arith)
 
 -- no number above the limit: the sum is at most the limit times how many there are
 pub total_le : (m : ℕ) (xs : List ℕ) → any_over m xs ≡ false → total xs ≤ length xs * m

@@ -26,6 +26,29 @@ pub struct Sizes {
     pub e: usize,
 }
 
+// An accepted code: its numbers, its rows' lengths, and their addresses one after the other.
+#[derive(Clone, Copy)]
+pub struct Table<'a> {
+    pub sizes: Sizes,
+    pub lens: &'a [u32],
+    pub addrs: &'a [u16],
+    ghost accepted: { code_refusal sizes.n lens.now addrs.now ≡ 0 },
+    ghost numbers: { sizes ≡ sizes_of sizes.n lens.now addrs.now },
+}
+
+impl<'a> Table<'a> {
+    // The code's table, or the first of the refusals 2 to 6 that applies.
+    pub fn accept(n: u32, lens: &'a [u32], addrs: &'a [u16]) -> Result<Table<'a>, Refusal>
+        ensures number { number_of result ≡ code_refusal n lens.now addrs.now }
+        ensures table { IfOk result (λ t. (t.sizes ≡ sizes_of n lens.now addrs.now)
+            × (t.lens.now ≡ lens.now)
+            × (t.addrs.now ≡ addrs.now)) }
+    {
+        let sizes = accept(n, lens, addrs)?;
+        Ok(Table { sizes, lens, addrs })
+    }
+}
+
 // The address's residue modulo q.
 pub fn residue(a: u16, q: u32) -> usize
     requires { 0 < q }

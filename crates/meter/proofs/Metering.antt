@@ -10,7 +10,7 @@ use Rattle.decoder_words.specs.declared.Noted.{Noted}
 use Rattle.decoder.specs.Refused.{run_refusal, nothing, words_ran}
 use Rattle.decoder.specs.declared.Ran.{Ran}
 use Rattle.meter.specs.declared.Tally.{Tally}
-use Rattle.meter.specs.Metered.{Metered, blank, answer_of, records_from, records_of, tally_of}
+use Rattle.meter.specs.Metered.{Metered, blank, answer_of, records_from, records_of, counted, tally_of}
 use Rattle.meter.specs.Recording.{RecordedRun, numbers_of}
 use Rattle.meter.specs.Laws.{records_same, blank_room, numbers_record}
 
@@ -59,8 +59,7 @@ metered {n} {lens} {addrs} {soft} {set} {out} {out'} {rs} {rs'} {t} {t'} {own} {
     }
 
 -- an accepted run whose records are stored one by one
-pub metered_stored : {n : ℕ} {lens addrs : List ℕ} {soft : List ℤ} {set : Settings} {out out' : List ℕ} {rs rs' : List Noted} (t : Tally) {own : List ℕ} {work work' : List ℤ} {lists lists' : List ℕ}
-    (r : Ran) → RecordedRun n lens addrs soft set (length rs) out out' own work work' lists lists' (Ok r) → (w : ℕ) → rs' ≡ records_from own 0 w rs → w ≡ r.words
-    → Metered n lens addrs soft set out out' rs rs' t (tally_of (Ok r) t) work work' lists lists' (Ok r.ending)
-metered_stored {n} {lens} {addrs} {soft} {set} {out} {out'} {rs} {rs'} t {own} {work} {work'} {lists} {lists'} r R w stored all =
-    metered (Ok r) R (stored ∙ ap (λ (k : ℕ). records_from own 0 k rs) all) refl
+pub metered_stored : {n : ℕ} {lens addrs : List ℕ} {soft : List ℤ} {set : Settings} {out out' : List ℕ} {rs rs' : List Noted} {t t' : Tally} {own : List ℕ} {work work' : List ℤ} {lists lists' : List ℕ}
+    (r : Ran) → RecordedRun n lens addrs soft set (length rs) out out' own work work' lists lists' (Ok r) → (w : ℕ) → rs' ≡ records_from own 0 w rs → w ≡ r.words → t' ≡ counted r
+    → Metered n lens addrs soft set out out' rs rs' t t' work work' lists lists' (Ok r.ending)
+metered_stored {rs = rs} {own = own} r R w stored all tallies = metered (Ok r) R (stored ∙ ap (λ (k : ℕ). records_from own 0 k rs) all) tallies

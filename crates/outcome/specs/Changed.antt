@@ -22,9 +22,6 @@ pub record Comparing (xs ys : List ℕ) (from i count : ℕ) : Type 0 where
   pub few : from + count ≤ i
 
 module _ (xs ys : List ℕ) where
-  pub comparing_start : (from : ℕ) → Comparing xs ys from from 0
-  comparing_start from = record { rest = omega arith; few = omega arith }
-
   one_on : (i : ℕ) → i < length xs → i < length ys → distance (drop i xs) (drop i ys) ≡ (get_or xs i 0 + get_or ys i 0) % 2 + distance (drop (suc i) xs) (drop (suc i) ys)
   unfolding distance
   one_on i h g = ap₂ distance (drop-cons xs i 0 h) (drop-cons ys i 0 g)

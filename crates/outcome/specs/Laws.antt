@@ -1,6 +1,6 @@
 -- What holds of a word's bits, of its corrected bits, and of words kept and lost.
 use Rattle.std.specs.Prelude.{◌≡◌, refl, Bool, true, false, cond, List, [], ◌∷◌, ◌++◌, ℕ, zero, suc, ◌+◌, ◌≤◌, ◌<◌, length, get_or, take, set}
-use Rattle.std.proofs.Common.{sym, ap, ap₂, ◌∙◌, arith, add-one, take-suc-set, take_all}
+use Rattle.std.proofs.Common.{sym, ap, ap₂, ◌∙◌, arith, add-one, take-suc-set}
 use Rattle.std.proofs.Math.Logic.{if_pos, if_neg}
 use Rattle.std.proofs.Math.Decide.{ℕ_discrete, dec_le}
 use Rattle.iteration.specs.Check.{Word}
@@ -52,9 +52,6 @@ bits_again x i b out h e f =
     ∙ ap₂ (λ (l : List ℕ) (y : ℕ). l ++ (y ∷ [])) e (f ∙ ap (λ (k : ℕ). hard (x.L k)) (sym z))
     ∙ sym (bits_from_snoc x 0 i)
     ∙ ap (λ (k : ℕ). bits_from x 0 k) (sym (add-one i))
-
-pub bits_end : (x : Word) (i n : ℕ) (out : List ℕ) → i ≡ n → length out ≡ n → take i out ≡ bits_of i x → out ≡ bits_of n x
-bits_end x i n out e l h = sym (take_all i out (omega arith)) ∙ h ∙ ap (λ (k : ℕ). bits_of k x) e
 
 -- ---- BCH keeps a word's length
 left_length : (w : List ℕ) → length (left_of w) ≡ length w

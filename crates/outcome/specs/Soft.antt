@@ -1,10 +1,10 @@
 -- What a scan of a word's soft values reads: the code's lists in one slice, and n soft values.
 use Rattle.std.specs.Prelude.{◌≡◌, refl, Bool, true, false, cond, List, ℕ, zero, suc, ◌+◌, ◌-◌, ◌%◌, ◌≤◌, ◌<◌, ltb, eqb, ℤ, pos, length, get_or, take, drop}
 use Rattle.std.proofs.Math.Path.{sym, ap}
-use Rattle.std.proofs.Common.{ap₂, ◌∙◌, subst, arith, add-one, ltb-false}
+use Rattle.std.proofs.Common.{ap₂, ◌∙◌, arith, add-one, zero-add, ltb-false, length-take, length-drop, get_or-take, get_or-drop}
 use Rattle.std.proofs.Math.ListN.{get_or-eq_default}
 use Rattle.iteration.specs.Iteration.{hard, negatives, unsatisfied}
-use Rattle.iteration.specs.Lists.{var, Lists, code_in}
+use Rattle.iteration.specs.Lists.{var, edges_in, Lists, code_in}
 use Rattle.laws.specs.Definitions.{negative}
 use Rattle.laws.specs.Choice.{by_cond}
 use Rattle.iteration.specs.Check.{within}
@@ -21,10 +21,9 @@ pub record Lent (p : ℕ) (lists : List ℕ) (soft : List ℤ) : Type 0 where
   pub listed : Lists (length soft) p lists
   pub few_checks : p ≤ 44880
 
--- d edges from s, whose variables are below n
-pub record Edges (rows : List ℕ) (s d n : ℕ) : Type 0 where
-  pub inside : s + d ≤ length rows
-  pub below : (e : ℕ) → e < length rows → var rows e < n
+-- edges whose variables are below n
+abbrev pub Edges : List ℕ → ℕ → Type 0
+Edges rows n = (e : ℕ) → e < length rows → var rows e < n
 
 hard_le : (z : ℤ) → hard z ≤ 1
 hard_le z = by_cond (λ n. n ≤ 1) (negative z) 1 0 (λ _. omega arith) (λ _. omega arith)
@@ -49,13 +48,27 @@ unfolding negatives
 negatives_again v s k L count b e f = ap₂ (λ (x y : ℕ). x + y) e f ∙ ap (λ (z : ℕ). negatives v s z L) (sym (add-one k))
 
 -- ---- check c of the lists, d edges from s, in the part of the slice that is lent
-module _ (p n c s d : ℕ) (lists : List ℕ) (h : c < p) (e : s ≡ get_or lists c 0) (f : s + d ≡ get_or lists (c + 1) 0) where
+module _ (p n c s d : ℕ) (lists : List ℕ) (h : c < p) (e : s ≡ get_or lists c 0) (f : s + d ≡ get_or lists (c + 1) 0) (listed : Lists n p lists) where
   abbrev lent : List ℕ
   lent = take (length lists - (p + 1)) (drop (p + 1) lists)
 
-  pub check_edges : Lists n p lists → Edges lent s d n
-  check_edges l =
-      subst (λ (r : List ℕ). Edges r s d n) (sym (rows_part p lists)) (record { inside = omega (arith, l.within (c + 1) (omega arith)); below = l.variables })
+  abbrev own : List ℕ
+  own = take (s + d - s) (drop s lent)
+
+  inside : s + d ≤ edges_in p lists
+  inside = omega (arith, listed.within (c + 1) (omega arith))
+
+  pub own_length : length own ≡ d
+  own_length = length-take (s + d - s) (drop s lent) ∙ omega (arith, length-drop s lent, ap length (rows_part p lists), inside)
+
+  own_at : (k : ℕ) → k < d → get_or own k 0 ≡ get_or lent (s + k) 0
+  own_at k q = get_or-take (s + d - s) (drop s lent) k 0 (omega arith) ∙ get_or-drop s lent k 0
+
+  own_negatives : (L : ℕ → ℤ) (k : ℕ) → k ≤ d → negatives (var own) 0 k L ≡ negatives (var lent) s k L
+  unfolding negatives
+  own_negatives L zero q = refl
+  own_negatives L (suc k) q =
+      ap₂ (λ (x y : ℕ). x + y) (own_negatives L k (omega arith)) (ap (λ j. hard (L (var own j))) (zero-add k) ∙ ap (λ v. hard (L v)) (own_at k (omega arith)))
 
   unmet_is : (r : ℕ) (L : ℕ → ℤ) → r ≡ negatives (var lent) s d L → r % 2 ≡ unmet_at (code_in p lists) L c
   unfolding unsatisfied
@@ -64,7 +77,8 @@ module _ (p n c s d : ℕ) (lists : List ℕ) (h : c < p) (e : s ≡ get_or list
       ∙ (λ i. negatives (var (rows_part p lists i)) ((e ∙ sym (start_in p lists c (omega arith))) i) (sym (degree_in p lists c s d h e f) i) L % 2)
 
   -- the parity of the negative soft values is what the code and the word say
-  pub odd_is : (soft : List ℤ) (r : ℕ) → r ≡ negatives (var lent) s d (values soft) → eqb (r % 2) 1 ≡ eqb (unmet_at (code_in p lists) (begin (length soft) soft).L c) 1
+  pub odd_is : (soft : List ℤ) (r : ℕ) → r ≡ negatives (var own) 0 (length own) (values soft) → eqb (r % 2) 1 ≡ eqb (unmet_at (code_in p lists) (begin (length soft) soft).L c) 1
   odd_is soft r g =
-      ap (λ (z : ℕ). eqb z 1) (unmet_is r (values soft) g)
+      ap (λ (z : ℕ). eqb z 1)
+      (unmet_is r (values soft) (g ∙ ap (λ z. negatives (var own) 0 z (values soft)) own_length ∙ own_negatives (values soft) d (omega arith)))
       ∙ ap (λ (L : ℕ → ℤ). eqb (unmet_at (code_in p lists) L c) 1) (sym (begin_values (length soft) soft refl))

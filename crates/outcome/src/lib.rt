@@ -13,37 +13,41 @@ ghost use Rattle.outcome.specs.Soft.{Edges, values, Lent};
 
 use bch::Decoded;
 use decoder_plan::Part;
+use fixed_code::Unmet;
 use refusal::Refusal;
 
-// How many checks a word leaves unsatisfied, and one of them: 0 if there is none, as the C interface has it in a record.
-#[derive(Drop)]
-pub struct Unmet {
-    pub count: u32,
-    pub check: u32,
-}
-
-// How many of the d edges from s have a variable with a negative value. A repeated variable counts as often as it occurs.
-fn negative(rows: &[u32], s: usize, d: usize, soft: &[i8]) -> usize
-    requires { Edges rows.now s d (length soft.now) }
-    ensures { result ≡ negatives (var rows.now) s d (values soft.now) }
+// How many of a check's variables, one in each row, have a negative value. A repeated variable counts as often as it occurs.
+fn negative(rows: &[u32], soft: &[i8]) -> usize
+    requires { Edges rows.now (length soft.now) }
+    ensures { result ≡ negatives (var rows.now) 0 (length rows.now) (values soft.now) }
 {
     let mut count = 0;
-    for k in 0..d {
-        let v = fixed_code::variable(rows, s + k);
-        count += usize::from(lane_math::bit(soft[v]));
+    for &v in rows {
+        count += usize::from(lane_math::bit(soft[v as usize]));
     }
     count
 }
 
-// Whether check c of p is unsatisfied: an odd number of its variables' values are negative.
-fn odd(lists: &[u32], p: usize, c: usize, soft: &[i8]) -> bool
-    requires { (c < p) × Lists (length soft.now) p lists.now }
-    ensures { result ≡ eqb (unmet_at (code_in p lists.now) (begin (length soft.now) soft.now).L c) 1 }
-{
-    let s = fixed_code::start(lists, c);
-    let d = fixed_code::degree(lists, soft.len(), p, c);
-    let base = p + 1;
-    negative(&lists[base..], s, d, soft) % 2 == 1
+// A word's soft values, and the lists of its code of p checks.
+#[derive(Clone, Copy)]
+struct Word<'a> {
+    p: usize,
+    lists: &'a [u32],
+    soft: &'a [i8],
+    ghost lent: { Lent p lists.now soft.now },
+}
+
+impl Word<'_> {
+    // Whether check c is unsatisfied: an odd number of its variables' values are negative.
+    fn odd(self, c: usize) -> bool
+        requires { c < self.p }
+        ensures { result ≡ eqb (unmet_at (code_in self.entry.p self.entry.lists.now) (begin (length self.entry.soft.now) self.entry.soft.now).L c) 1 }
+    {
+        let rows = &self.lists[self.p + 1..];
+        let s = fixed_code::start(self.lists, c);
+        let d = fixed_code::degree(self.lists, self.soft.len(), self.p, c);
+        negative(&rows[s..s + d], self.soft) % 2 == 1
+    }
 }
 
 // Whether a word's soft values meet every check. The scan ends at the first unsatisfied one.
@@ -51,8 +55,9 @@ pub fn soft_met(p: usize, lists: &[u32], soft: &[i8]) -> bool
     requires { Lent p lists.now soft.now }
     ensures { result ≡ met_of (code_in p lists.now) p (begin (length soft.now) soft.now) }
 {
+    let word = Word { p, lists, soft };
     for c in 0..p {
-        if odd(lists, p, c, soft) {
+        if word.odd(c) {
             return false;
         }
     }
@@ -64,10 +69,11 @@ pub fn soft_unmet(p: usize, lists: &[u32], soft: &[i8]) -> Unmet
     requires { Lent p lists.now soft.now }
     ensures { UnmetCounted (code_in p lists.now) p (begin (length soft.now) soft.now) result.count result.check }
 {
+    let word = Word { p, lists, soft };
     let mut count = 0;
     let mut check = 0;
     for c in 0..p {
-        if odd(lists, p, c, soft) {
+        if word.odd(c) {
             count += 1;
             check = c as u32;
         }
@@ -177,7 +183,7 @@ pub fn is_finished(state: u32) -> bool
     state == State::Met.number() || state == State::Unmet.number()
 }
 
-// What a word adds to the tally's `kept`.
+// What a word adds to the tally's `kept`, by its record's numbers.
 #[tactic(auto, unfolding(crate::specs::Outcome::kept_of, crate::specs::Outcome::is_lost, crate::specs::Outcome::lost))]
 pub fn kept_of(state: u32, bch: u32) -> u32
     ensures { result ≡ kept_of state bch }
@@ -185,7 +191,7 @@ pub fn kept_of(state: u32, bch: u32) -> u32
     u32::from(is_finished(state) && bch != LOST)
 }
 
-// What a word adds to the tally's `lost`.
+// What a word adds to the tally's `lost`, by its record's numbers.
 #[tactic(auto, unfolding(crate::specs::Outcome::lost_of, crate::specs::Outcome::is_lost, crate::specs::Outcome::lost))]
 pub fn lost_of(state: u32, bch: u32) -> u32
     ensures { result ≡ lost_of state bch }

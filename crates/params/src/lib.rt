@@ -44,7 +44,7 @@ pub const TMCC_INFO_BITS: u32 = 9422;
 // The numerators of the eleven rates.
 pub const RATES: [u8; 11] = [41, 49, 61, 73, 81, 89, 93, 97, 101, 105, 109];
 
-// The i-th rate's numerator; none from the twelfth on.
+// The i-th rate's numerator. From the twelfth on there is none: an Option says so, for every i as before, and no 0 can be taken for a rate.
 pub fn rate(i: usize) -> Option<u8>
     ensures { result ≡ slice_get rates i }
 {

@@ -1,15 +1,14 @@
 -- The soft value of a binary32 from its bits, and the result as an i8.
 -- Assumes nothing.
-use Rattle.std.proofs.Common.{◌≡◌, refl, sym, ◌∙◌, ap, ap₂, subst, Bool, true, false, not, cond, ℕ, zero, suc, ◌+◌, ◌-◌, ◌*◌, ◌/◌, ◌%◌, ◌^◌, ◌<◌, ◌≤◌, min, mul-one, arith, T, ltb, leb, eqb, lit<, ℤ, pos, negsuc, neg_ℤ, ◌-ℤ◌, w8, SFits, to_z, of_z, Float}
+use Rattle.std.proofs.Common.{◌≡◌, refl, sym, ◌∙◌, ap, ap₂, subst, Bool, true, false, not, cond, ℕ, zero, suc, ◌+◌, ◌-◌, ◌*◌, ◌/◌, ◌%◌, ◌^◌, ◌<◌, ◌≤◌, min, mul-one, arith, T, ltb, leb, eqb, lit<, ℤ, pos, negsuc, neg_ℤ, ◌-ℤ◌, w8, SFits, to_z, of_z, ltb-true, ltb-false, ne_eqb, Float}
 use Rattle.std.proofs.Math.IntN.{sub_ℕ, +ℤ_idl}
-use lib.Signed.{mag}
-use mir.ValLaws.{to_z-of_z}
-use lib.Ieee.{nan, inf, fin, binary32, up, down, odd, of_fields, of_bits, is_nan, to_bits, fits}
-use lib.Ieee.Bits.{of_bits-to_bits}
-use lib.Ieee.Exact.{HasValue, odd_sign}
-use lib.Ieee.Fits.{down_pos}
-use lib.Ieee.Nearest.{div_same}
-use borrow.Author.Tests.{ltb-true, ltb-false, ne_eqb}
+use Rattle.std.specs.Int.Signed.{mag}
+use Rattle.std.proofs.lemmas.Int.{to_z-of_z}
+use Rattle.std.specs.Float.Ieee.{nan, inf, fin, binary32, up, down, odd, of_fields, of_bits, is_nan, to_bits, fits}
+use Rattle.std.specs.Float.Ieee.Bits.{of_bits-to_bits}
+use Rattle.std.specs.Float.Ieee.Exact.{HasValue, odd_sign}
+use Rattle.std.specs.Float.Ieee.Fits.{down_pos}
+use Rattle.std.specs.Float.Ieee.Nearest.{div_same}
 use Rattle.quantise.specs.Soft.{signed, nearest, soft_value}
 use Rattle.quantise.specs.Bits.{units_at, size_of}
 use Rattle.quantise.proofs.Sizes.{units_large, rounds_past_top}

@@ -1,8 +1,7 @@
 -- `size_of` in the three ranges of a binary32's bits: below 0.5, above 127.0, and between.
 -- `omega` takes no number of more than 38 digits, so each range is shown over variables first. Assumes nothing.
-use Rattle.std.proofs.Common.{◌≡◌, refl, sym, ◌∙◌, ap, ap₂, ℕ, zero, suc, ◌+◌, ◌-◌, ◌*◌, ◌/◌, ◌%◌, ◌^◌, ◌<◌, ◌≤◌, min, le-div_iff_mul-le, mul-le-mul_left, mul-le-mul_right, le_trans, mul_comm, mod-eq_of_lt, arith, Bool, true, false, ltb, lit<, lit≤, pow-add, pow_mono}
+use Rattle.std.proofs.Common.{◌≡◌, refl, sym, ◌∙◌, ap, ap₂, ℕ, zero, suc, ◌+◌, ◌-◌, ◌*◌, ◌/◌, ◌%◌, ◌^◌, ◌<◌, ◌≤◌, min, le-div_iff_mul-le, mul-le-mul_left, mul-le-mul_right, le_trans, mul_comm, mod-eq_of_lt, arith, Bool, true, false, ltb, ltb-true, ltb-false, lit<, lit≤, pow-add, pow_mono}
 use Rattle.std.proofs.Math.Nat.{min-eq_right, min-eq_left, div-eq_of_lt, mul-div-mul_right}
-use borrow.Author.Tests.{ltb-true, ltb-false}
 use Rattle.quantise.specs.Soft.{nearest}
 use Rattle.quantise.specs.Bits.{units_at, size_of}
 

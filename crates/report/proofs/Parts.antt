@@ -3,15 +3,12 @@ use Rattle.std.proofs.Common.{◌≡◌, sym, ap, ◌∙◌, subst, Option, List
 use Rattle.std.proofs.lemmas.List.{take-append-le}
 use Rattle.std.proofs.Math.Seq.{take-append-add}
 use Rattle.std.specs.Io.KnownBytes.{Consumes}
-use Rattle.std.proofs.KnownBytes.{Consumes-nil, Consumes-trans}
+use Rattle.std.proofs.KnownBytes.{Consumes-trans}
 
 -- the first `size` bytes of the buffer were read from a, and b is left
 pub record ReadInto (a b : Option (List ℕ)) (buf : List ℕ) (size : ℕ) : Type 0 where
   pub room : size ≤ length buf
   pub taken : Consumes a b (take size buf)
-
-pub read_start : (a : Option (List ℕ)) (buf : List ℕ) → ReadInto a a buf 0
-read_start a buf = record { room = omega arith; taken = Consumes-nil a }
 
 -- one part more
 pub read_more : {a b c : Option (List ℕ)} {buf : List ℕ} {size end more : ℕ} (part : List ℕ) → ReadInto a b buf size → size < end → end ≤ length buf → length part ≡ end - size → more ≤ length part → Consumes b c (take more part)

@@ -2,6 +2,7 @@
 #![tactic(auto)]
 
 ghost use Rattle.std.specs.Prelude.{◌≡◌, ◌≤◌, ◌<◌, length, take, IfOk, IfSome};
+ghost use Rattle.std.specs.Io.KnownBytes.{IsAtEnd};
 ghost use Rattle.report_text.specs.Cut.{Answered};
 
 use report_lines::Lines;
@@ -19,9 +20,11 @@ fn part_end(start: usize, end: usize) -> usize
 
 // Reads until the buffer is full, the input ends or a read fails, also one that a signal ends before it moves a byte: how many bytes stand
 // at the start of the buffer, the input's first.
+#[tactic(auto, using(crate::proofs::Parts::read_more))]
 fn read_input<R: Read>(input: &mut R, buf: &mut [u8]) -> io::Result<usize>
     ensures bound { IfOk result (λ size. size ≤ length buf.old) }
     ensures bytes { IfOk result (λ size. IfSome (R.remaining input.old) (λ all. take size buf.new ≡ take (length buf.old) all)) }
+    ensures full { IfOk result (λ size. size < length buf.old → IsAtEnd (R.remaining input.new)) }
 {
     let mut size = 0;
     // No `for`: how many bytes a read brings differs.

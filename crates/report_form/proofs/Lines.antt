@@ -70,9 +70,6 @@ pub pair_found : {position : ℕ} {value : ℤ} {t u v : List ℕ} → Found wid
 pair_found p z =
     via_found (seq wides (lead 9 smalls) (λ _ _ _ _. refl)) pair_fields (λ x h. λ i. pair_from (h.0 i) (h.1 i)) (seq_found wides (lead 9 smalls) (λ _ _ _ _. refl) p z)
 
-pub no_position : {t : List ℕ} → Missing wides t → Missing pair_form t
-no_position m = via_missing (seq wides (lead 9 smalls) (λ _ _ _ _. refl)) pair_fields (seq_none wides (lead 9 smalls) (λ _ _ _ _. refl) m)
-
 pub no_value : {S : ℕ → Type 0} {t u : List ℕ} → Found wides S t u → Missing (lead 9 smalls) u → Missing pair_form t
 no_value f m = via_missing (seq wides (lead 9 smalls) (λ _ _ _ _. refl)) pair_fields (seq_missing wides (lead 9 smalls) (λ _ _ _ _. refl) f m)
 
@@ -85,10 +82,6 @@ head_found h n e =
 
 pub no_head_letter : {t : List ℕ} → Missing (byte 78) t → Missing head_form t
 no_head_letter m = lead_none 78 (seq (lead 9 (numbers 1122)) (byte 10) (λ _ _ _ _. refl)) m
-
-pub no_size : {t u : List ℕ} → Found (byte 78) (λ _. Unit) t u → Missing (lead 9 (numbers 1122)) u → Missing head_form t
-no_size h m =
-    lead_missing 78 (seq (lead 9 (numbers 1122)) (byte 10) (λ _ _ _ _. refl)) h (seq_none (lead 9 (numbers 1122)) (byte 10) (λ _ _ _ _. refl) m)
 
 pub no_head_end : {S : ℕ → Type 0} {t u v : List ℕ} → Found (byte 78) (λ _. Unit) t u → Found (lead 9 (numbers 1122)) S u v → Missing (byte 10) v → Missing head_form t
 no_head_end h n m =

@@ -1,7 +1,7 @@
 -- A word's pairs, read one by one and stored in the word.
 use Rattle.std.proofs.Common.{◌≡◌, refl, sym, ap, ap₂, ◌∙◌, ◌⊎◌, inl, inr, List, [], ◌∷◌, ◌++◌, ℕ, suc, ◌+◌, ◌≤◌, ◌<◌, ℤ, length, get_or, set, zero-add, add-one, arith}
 use Rattle.report_form.specs.Description.{Pair, Small, Ascending, stored}
-use Rattle.report_form.specs.Form.{Found, Missing, byte, found_as, Ongoing, Hopeless, going_start, going_more, going_missing, going_wrong, chain_found, chain_none, chain_ends}
+use Rattle.report_form.specs.Form.{Found, Missing, byte, found_as, Ongoing, going_more, going_missing, going_wrong, chain_found, chain_none, chain_ends}
 use Rattle.report_form.specs.Forms.{pair_form, pair_from, pairs, PairsWithin, pairs_within, pairs_apart, pair_chain}
 use Rattle.report_form.proofs.Lists.{list_ends, length_snoc}
 
@@ -35,14 +35,6 @@ pub record PairsSo (word : List ℤ) (least count : ℕ) (word' : List ℤ) (ps 
 module _ (n : ℕ) where
   abbrev pub PairsSoFar : List ℤ → ℕ → ℕ → List ℤ → List ℕ → List ℕ → Type 0
   PairsSoFar word least count word' t now = Ongoing pairs (PairsWithin n) (pairs_within n) (PairsSo word least count word') t now
-
-  abbrev pub NoPairs : List ℕ → Type 0
-  NoPairs t = Hopeless pairs (PairsWithin n) (pairs_within n) t
-
-  pub pairs_start : (word : List ℤ) (t : List ℕ) → n ≤ 1122 → PairsSoFar word 0 0 word t t
-  pairs_start word t h =
-      going_start pairs (PairsWithin n) (pairs_within n) (PairsSo word 0 0 word) t (record { rising = tt; few = omega arith; short = h })
-      (record { least_is = refl; count_is = refl; stores = refl })
 
   pub pairs_again : {word word' : List ℤ} {least count position : ℕ} {value z : ℤ} {t now next : List ℕ} → PairsSoFar word least count word' t now
       → Found pair_form (λ p. p ≡ pair_from position value) now next → z ≡ value → count < 64 → least ≤ position → position < n

@@ -3,7 +3,7 @@ use Rattle.std.proofs.Common.{◌≡◌, refl, sym, ap, ap₂, ◌∙◌, ◌⊎
 use Rattle.std.proofs.lemmas.List.{map-append, length-map}
 use Rattle.report_form.specs.Description.{RowWithin, flat}
 use Rattle.report_form.specs.Accepted.{flat_few}
-use Rattle.report_form.specs.Form.{Found, Missing, byte, lead, lead_found, lead_none, lead_missing, via_found, via_missing, Ongoing, Hopeless, ListEnds, going_start, going_more, going_missing, chain_found, chain_none, chain_ends}
+use Rattle.report_form.specs.Form.{Found, Missing, byte, lead, lead_none, lead_missing, via_missing, Ongoing, Hopeless, ListEnds, going_start, going_more, going_missing, chain_none, chain_ends}
 use Rattle.report_form.specs.Forms.{row_fields, numbers, addresses, newline_apart, row_chain, row_form, rows, RowsWithin, rows_within, RowsSo}
 use Rattle.report_form.proofs.Lists.{list_ends, length_snoc, all_snoc}
 
@@ -56,12 +56,6 @@ row_unended {now = now} h o e m =
     via_missing (lead 82 row_chain) row_fields
     (lead_missing 82 row_chain h (chain_ends addresses RowWithin (λ xs w. w.addresses) (byte 10) (λ b r _ _. newline_apart r) o (row_ends now e) m))
 
-pub row_found : {before places : List ℕ} {count : ℕ} {t u now v : List ℕ} → Found (byte 82) (λ _. Unit) t u → RowSoFar before count places u now → Found (byte 10) (λ _. Unit) now v
-    → Found row_form (λ row. (length row ≡ count) × (places ≡ before ++ row)) t v
-row_found h o g =
-    via_found (lead 82 row_chain) row_fields (λ x s. (s.0.count_is, s.0.places_are))
-    (lead_found 82 row_chain h (chain_found addresses RowWithin (λ xs w. w.addresses) (byte 10) (λ b r _ _. newline_apart r) o g))
-
 -- ---- the rows
 
 flat_snoc : (rs : List (List ℕ)) (r : List ℕ) → flat (rs ++ r ∷ []) ≡ flat rs ++ r
@@ -70,10 +64,6 @@ flat_snoc (q ∷ rs) r = ap (λ (l : List ℕ). q ++ l) (flat_snoc rs r) ∙ sym
 
 abbrev pub RowsSoFar : List ℕ → List ℕ → List ℕ → List ℕ → Type 0
 RowsSoFar lengths places t now = Ongoing rows RowsWithin rows_within (RowsSo lengths places) t now
-
-pub rows_start : (t : List ℕ) → RowsSoFar [] [] t t
-rows_start t =
-    going_start rows RowsWithin rows_within (RowsSo [] []) t (record { all = tt; three = omega arith }) (record { lengths_are = refl; places_are = refl })
 
 rows_count : {lengths places : List ℕ} {rs : List (List ℕ)} → RowsSo lengths places rs → length rs ≡ length lengths
 rows_count {rs = rs} s = sym (ap length s.lengths_are ∙ length-map rs length)
@@ -98,6 +88,3 @@ rows_again {lengths} {places} {places'} {size} {t} {now} {next} o f c =
 
 pub rows_none : {lengths places : List ℕ} {t now : List ℕ} → RowsSoFar lengths places t now → get_or now 0 0 ≡ 82 → Missing row_form now → Hopeless rows RowsWithin rows_within t
 rows_none {lengths} {places} {t} {now} o e m = going_missing rows RowsWithin rows_within (RowsSo lengths places) t now o e m
-
-pub rows_end : {lengths places : List ℕ} (now : List ℕ) → (3 ≤ length lengths) ⊎ (get_or now 0 0 ≡ 82 → ⊥) → ListEnds rows RowsWithin rows_within (RowsSo lengths places) now
-rows_end {lengths} {places} now e = list_ends rows RowsWithin rows_within (RowsSo lengths places) 3 (length lengths) (λ _ w. w.three) (λ _ s. rows_count s) now e

@@ -1,5 +1,5 @@
 -- Digits read one by one: the number that they spell so far.
-use Rattle.std.proofs.Common.{◌≡◌, refl, sym, ap, ◌∙◌, subst, Bool, ◌&&◌, true, T, List, ◌∷◌, [], ◌++◌, append_assoc, ℕ, ◌+◌, ◌*◌, ◌≤◌, ◌<◌, get_or, leb, le-leb, arith}
+use Rattle.std.proofs.Common.{◌≡◌, refl, sym, ap, ◌∙◌, subst, Bool, ◌&&◌, true, T, List, ◌∷◌, [], ◌++◌, append_assoc, ℕ, ◌+◌, ◌*◌, ◌<◌, get_or, leb, le-leb, arith}
 use Rattle.laws.specs.Decimal.{digit, Stops, decimal_small, decimal_snoc, decimal_digits, decimal_prefix, decimal_leads, span_prefix}
 use Rattle.laws.specs.Definitions.{decimal}
 use Rattle.report_form.specs.Form.{Found, Missing}
@@ -28,9 +28,6 @@ spelled_over {value = value} {now} most s l =
           let (more, p, q) = span_prefix (decimal value) (decimal x) now r (decimal_digits value) f (sym s.here ∙ e) in
           omega (arith, decimal_prefix x value more p);
     }
-
-pub spelled_end : {t : List ℕ} {value : ℕ} {now : List ℕ} (most : ℕ) → Spelled t value now → value ≤ most → Stops now → Found (numbers most) (λ x. x ≡ value) t now
-spelled_end {value = value} most s l h = record { it = value; says = refl; within = l; here = s.here; after = h }
 
 -- a digit at the front is a number's first one
 pub spelled_first : {t : List ℕ} {d : ℕ} {after : List ℕ} → d < 10 → t ≡ (48 + d) ∷ after → t ≡ decimal d ++ after

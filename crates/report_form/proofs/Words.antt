@@ -5,7 +5,7 @@ use Rattle.std.proofs.lemmas.List.Edits.{sets, sets-eq}
 use Rattle.laws.specs.Stores.{sets_append}
 use Rattle.report_form.specs.Accepted.{soft_words_length}
 use Rattle.report_form.specs.Description.{Word, WordWithin, stored, soft_word, soft_words}
-use Rattle.report_form.specs.Form.{Found, Missing, byte, found_as, lead, lead_found, lead_none, lead_missing, seq_found, seq_none, seq_missing, via_found, via_missing, end, Ongoing, going_start, going_more, going_missing, chain_found, chain_none, chain_ends}
+use Rattle.report_form.specs.Form.{Found, Missing, byte, found_as, lead, lead_found, lead_none, lead_missing, seq_found, seq_none, seq_missing, via_found, via_missing, end, Ongoing, going_more, going_missing, chain_found, chain_none, chain_ends}
 use Rattle.report_form.specs.Forms.{smalls, pair_chain, pairs_stop, word_fields, word_fields_stand, word_form, words, WordsWithin, words_within, end_apart, words_form}
 use Rattle.report_form.proofs.Lists.{list_ends, length_snoc, all_snoc}
 
@@ -67,11 +67,6 @@ soft_words_snoc n (v ∷ ws) w = ap (λ (l : List ℤ). soft_word n v ++ l) (sof
 module _ (n : ℕ) where
   abbrev pub WordsSoFar : List ℤ → ℕ → ℕ → List ℤ → List ℕ → List ℕ → Type 0
   WordsSoFar soft count start soft' t now = Ongoing (words n) (WordsWithin n) (words_within n) (WordsSo n soft count start soft') t now
-
-  pub words_start : (soft : List ℤ) (t : List ℕ) → n ≤ 1122 → WordsSoFar soft 0 0 soft t t
-  words_start soft t h =
-      going_start (words n) (WordsWithin n) (words_within n) (WordsSo n soft 0 0 soft) t (record { all = tt; sixteen = omega arith; short = h })
-      (record { count_is = refl; start_is = omega arith; stores = refl })
 
   pub words_again : {soft soft' soft'' word' : List ℤ} {count start k : ℕ} {t now next : List ℕ} → WordsSoFar soft count start soft' t now → k ≡ n
       → Found (word_form k) (λ w. word' ≡ soft_word k w) now next → soft'' ≡ sets soft' start word' → count < 16 → WordsSoFar soft (count + 1) (start + n) soft'' t next

@@ -60,6 +60,7 @@ fn read_digits(first: u32, text: &[u8], most: u32) -> Option<(u32, &[u8])>
 {
     let mut value = first;
     let mut rest = text;
+    // No `for`: the text behind the digits is answered too.
     while let Some((digit, after)) = read_digit(rest) {
         value = value.checked_mul(10)?.checked_add(digit)?;
         rest = after;
@@ -72,6 +73,7 @@ fn read_digits(first: u32, text: &[u8], most: u32) -> Option<(u32, &[u8])>
 }
 
 // A number of at most `most`, in decimal without a leading zero; no digit follows.
+#[tactic(auto, using(crate::proofs::Spell::spelled_first, crate::proofs::Spell::zero_found, crate::proofs::Spell::digit_missing))]
 pub fn read_number(text: &[u8], most: u32) -> Option<(u32, &[u8])>
     ensures { Reads (numbers most) (λ v x. x ≡ v) text.now result }
 {
@@ -85,7 +87,9 @@ pub fn read_number(text: &[u8], most: u32) -> Option<(u32, &[u8])>
     }
 }
 
-// A tab and a number of at most `most`.
+// A tab and a number of at most `most`. (This and the other two behind a tab stay three: one over the reader would be lent a closure at each
+// field, and each closure would need these clauses.)
+#[tactic(auto, using(crate::specs::Form::lead_none))]
 fn read_field(text: &[u8], most: u32) -> Option<(u32, &[u8])>
     ensures { Reads (lead 9 (numbers most)) (λ v x. x ≡ v) text.now result }
 {
@@ -93,15 +97,8 @@ fn read_field(text: &[u8], most: u32) -> Option<(u32, &[u8])>
     read_number(text, most)
 }
 
-// The number below 0 that many. In the reader itself it would be three casts.
-fn minus(value: u32) -> i8
-    requires { (0 < value) × (value ≤ 128) }
-    ensures { result ≡ negsuc (value - 1) }
-{
-    (0 - (value as i32)) as i8
-}
-
 // A number of 8 bits with its sign.
+#[tactic(auto, using(crate::proofs::Smalls::plus_found, crate::proofs::Smalls::plus_missing, crate::proofs::Smalls::minus_missing, crate::proofs::Smalls::minus_zero))]
 fn read_small(text: &[u8]) -> Option<(i8, &[u8])>
     ensures { Reads smalls (λ v x. x ≡ v) text.now result }
 {
@@ -115,12 +112,13 @@ fn read_small(text: &[u8]) -> Option<(i8, &[u8])>
             if value == 0 {
                 return None;
             }
-            Some((minus(value), rest))
+            Some((-(value as i16) as i8, rest))
         }
     }
 }
 
 // A tab and a number of 8 bits with its sign.
+#[tactic(auto, using(crate::specs::Form::lead_none))]
 fn read_small_field(text: &[u8]) -> Option<(i8, &[u8])>
     ensures { Reads (lead 9 smalls) (λ v x. x ≡ v) text.now result }
 {
@@ -129,6 +127,7 @@ fn read_small_field(text: &[u8]) -> Option<(i8, &[u8])>
 }
 
 // `S` or a step.
+#[tactic(auto, using(crate::proofs::Schedules::step_missing))]
 fn read_schedule(text: &[u8]) -> Option<(Schedule, &[u8])>
     ensures { Reads schedules (λ v x. x ≡ schedule_of v) text.now result }
 {
@@ -145,6 +144,7 @@ fn read_schedule(text: &[u8]) -> Option<(Schedule, &[u8])>
 }
 
 // A tab and `S` or a step.
+#[tactic(auto, using(crate::specs::Form::lead_none))]
 fn read_schedule_field(text: &[u8]) -> Option<(Schedule, &[u8])>
     ensures { Reads (lead 9 schedules) (λ v x. x ≡ schedule_of v) text.now result }
 {
@@ -176,6 +176,7 @@ fn read_settings(text: &[u8]) -> Option<(Settings, &[u8])>
 }
 
 // A pair of position and value, each behind a tab.
+#[tactic(auto, using(crate::proofs::Lines::pair_found, crate::proofs::Lines::no_value))]
 fn read_pair(text: &[u8]) -> Option<((u32, i8), &[u8])>
     ensures { Reads pair_form (λ v x. x ≡ pair_from v.0 v.1) text.now result }
 {
@@ -204,6 +205,7 @@ fn read_pairs<'a>(text: &'a [u8], word: &mut [i8]) -> Option<&'a [u8]>
     let mut rest = text;
     let mut least: u32 = 0;
     let mut count: u32 = 0;
+    // No `for`: `goes_on` says why.
     while goes_on(rest, b'\t', count, 64) {
         let ((position, value), after) = read_pair(rest)?;
         if position < least {
@@ -222,6 +224,7 @@ fn read_pairs<'a>(text: &'a [u8], word: &mut [i8]) -> Option<&'a [u8]>
 }
 
 // A word's line: its soft values.
+#[tactic(auto, using(crate::proofs::Words::no_word_letter, crate::proofs::Words::no_default))]
 fn read_word<'a>(text: &'a [u8], word: &mut [i8]) -> Option<&'a [u8]>
     requires { length word.old ≤ 1122 }
     ensures { Passes (word_form (length word.old)) (λ w. word.new ≡ soft_word (length word.old) w) text.now result }
@@ -241,6 +244,7 @@ fn read_words(text: &[u8], n: usize, soft: &mut [i8]) -> Option<u32>
     let mut rest = text;
     let mut start: usize = 0;
     let mut count: u32 = 0;
+    // No `for`: `goes_on` says why.
     while goes_on(rest, b'W', count, 16) {
         rest = read_word(rest, &mut soft[start..start + n])?;
         start += n;
@@ -250,12 +254,14 @@ fn read_words(text: &[u8], n: usize, soft: &mut [i8]) -> Option<u32>
 }
 
 // A row's line: its addresses go behind those of the rows before, and their number is answered.
+#[tactic(auto, using(crate::proofs::RowLists::row_again, crate::proofs::RowLists::no_row_letter, crate::proofs::Lists::goes_yes))]
 fn read_row<'a>(text: &'a [u8], addresses: &mut ArrayVec<u16, 12>) -> Option<(u32, &'a [u8])>
     requires { array_vec_len addresses.old ≤ 8 }
     ensures { Reads row_form (λ count row. (length row ≡ count) × (addresses.new.items ≡ addresses.old.items ++ row)) text.now result }
 {
     let mut rest = expect(text, b'R')?;
     let mut count: u32 = 0;
+    // No `for`: `goes_on` says why.
     while goes_on(rest, b'\t', count, 4) {
         let (address, after) = read_field(rest, 65535)?;
         addresses.push(address as u16);
@@ -267,12 +273,14 @@ fn read_row<'a>(text: &'a [u8], addresses: &mut ArrayVec<u16, 12>) -> Option<(u3
 }
 
 // The rows' lines, as many as there are.
+#[tactic(auto, using(crate::proofs::RowLists::rows_again, crate::proofs::Lists::goes_yes))]
 fn read_rows(text: &[u8]) -> Option<(Rows, &[u8])>
     ensures { Listed rows RowsWithin rows_within (λ r. RowsSo r.lengths.items r.addresses.items) text.now result }
 {
     let mut lengths = ArrayVec::new();
     let mut addresses = ArrayVec::new();
     let mut rest = text;
+    // No `for`: `goes_on` says why.
     while goes_on(rest, b'R', lengths.len() as u32, 3) {
         let (length, after) = read_row(rest, &mut addresses)?;
         lengths.push(length);
@@ -282,6 +290,7 @@ fn read_rows(text: &[u8]) -> Option<(Rows, &[u8])>
 }
 
 // The first line: the code's n.
+#[tactic(auto, using(crate::proofs::Lines::head_found, crate::proofs::Lines::no_head_letter, crate::proofs::Lines::no_head_end))]
 fn read_head(text: &[u8]) -> Option<(u32, &[u8])>
     ensures { Reads head_form (λ n x. x.0 ≡ n) text.now result }
 {
@@ -292,6 +301,7 @@ fn read_head(text: &[u8]) -> Option<(u32, &[u8])>
 }
 
 // A whole text: what it asks for, and the words' soft values at the start of the slice.
+#[tactic(auto, using(crate::proofs::Whole::no_head, crate::proofs::Whole::no_settings))]
 fn read_text(text: &[u8], soft: &mut [i8]) -> Option<Reading>
     requires { 17952 ≤ length soft.old }
     ensures { MatchOption result (NoText text.now) (λ r. OneDescription text.now soft.old r soft.new) }
@@ -309,6 +319,7 @@ fn read_text(text: &[u8], soft: &mut [i8]) -> Option<Reading>
 }
 
 // Reads a whole text. The words' soft values go to the start of the lent slice, one word after another; a refusal changes nothing.
+#[tactic(auto, using(crate::proofs::Whole::written_over))]
 pub fn read(text: &[u8], words: &mut [i8]) -> Result<Reading, Refusal>
     requires { 17952 ≤ length words.old }
     ensures { RightReading text.now words.old result words.new }

@@ -1,5 +1,5 @@
 -- The library prints a number as the definition does.
-use Rattle.std.proofs.Common.{◌≡◌, sym, ap, ◌∙◌, List, [], ◌∷◌, ◌++◌, ℕ, ◌+◌, ◌/◌, ◌%◌, ◌^◌, ◌≤◌, ◌<◌, arith}
+use Rattle.std.proofs.Common.{◌≡◌, sym, ap, ◌∙◌, List, [], ◌∷◌, ◌++◌, ℕ, ◌+◌, ◌%◌, ◌^◌, ◌<◌}
 use Rattle.std.specs.Fmt as printed
 use Rattle.std.proofs.lemmas.Fmt.{decimal_by_steps}
 use Rattle.laws.specs.Decimal.{decimal_small, decimal_more}

@@ -25,14 +25,24 @@ pub struct WordResult {
     pub changed: u32,
 }
 
+// A text, and the byte behind it.
+fn put<const N: usize>(out: &mut ArrayString<N>, text: &str, behind: char)
+    requires { (array_string_len out.old + length text.now + 1 ≤ N) × (behind < 128) }
+    ensures bytes { out.new.bytes ≡ out.old.bytes ++ (text.now ++ behind ∷ []) }
+    ensures room { array_string_len out.new ≡ array_string_len out.old + length text.now + 1 }
+{
+    out.push_str(text);
+    out.push(behind);
+}
+
 // A number in decimal, and the byte behind it.
-fn put_number(out: &mut Lines, value: u32, behind: char)
-    requires { (array_string_len out.old + 11 ≤ 1028) × (behind < 128) }
+#[tactic(auto, using(crate::proofs::Numbers::printed_decimal, crate::specs::Sizes::number_length))]
+fn put_number<const N: usize>(out: &mut ArrayString<N>, value: u32, behind: char)
+    requires { (array_string_len out.old + 11 ≤ N) × (behind < 128) }
     ensures bytes { out.new.bytes ≡ out.old.bytes ++ (decimal value ++ behind ∷ []) }
     ensures room { array_string_len out.new ≤ array_string_len out.old + 11 }
 {
-    out.push_str(Buffer::new().format(value));
-    out.push(behind);
+    put(out, Buffer::new().format(value), behind);
 }
 
 // The ending.
@@ -46,7 +56,7 @@ fn ending_text(ending: Ending) -> &'static str
     }
 }
 
-// A word's state, by its number.
+// A word's state, by its number (as in `WordResult`).
 fn state_text(state: u32) -> &'static str
     ensures text { result.now ≡ state_text state }
     ensures short { length result.now ≤ 7 }
@@ -60,37 +70,35 @@ fn state_text(state: u32) -> &'static str
 }
 
 // The BCH result, and a tab.
-fn put_bch(out: &mut Lines, corrected: Option<u32>)
-    requires { array_string_len out.old + 11 ≤ 1028 }
+fn put_bch<const N: usize>(out: &mut ArrayString<N>, corrected: Option<u32>)
+    requires { array_string_len out.old + 11 ≤ N }
     ensures bytes { out.new.bytes ≡ out.old.bytes ++ (bch_text corrected ++ 9 ∷ []) }
     ensures room { array_string_len out.new ≤ array_string_len out.old + 11 }
 {
     match corrected {
-        None => out.push_str("-\t"),
+        None => put(out, "-", '\t'),
         Some(corrected) => put_number(out, corrected, '\t'),
     }
 }
 
 // The first line of an accepted run: at most 20 bytes.
-pub fn write_first(out: &mut Lines, ending: Ending, rounds: u32)
-    requires { array_string_len out.old + 20 ≤ 1028 }
+pub fn write_first<const N: usize>(out: &mut ArrayString<N>, ending: Ending, rounds: u32)
+    requires { array_string_len out.old + 20 ≤ N }
     ensures bytes { out.new.bytes ≡ out.old.bytes ++ first_line ending rounds }
     ensures room { array_string_len out.new ≤ array_string_len out.old + 20 }
 {
-    out.push_str(ending_text(ending));
-    out.push('\t');
+    put(out, ending_text(ending), '\t');
     put_number(out, rounds, '\n');
 }
 
 // A word's line: at most 63 bytes.
-pub fn write_word(out: &mut Lines, word: u32, r: WordResult)
-    requires { array_string_len out.old + 63 ≤ 1028 }
+pub fn write_word<const N: usize>(out: &mut ArrayString<N>, word: u32, r: WordResult)
+    requires { array_string_len out.old + 63 ≤ N }
     ensures bytes { out.new.bytes ≡ out.old.bytes ++ result_line word r }
     ensures room { array_string_len out.new ≤ array_string_len out.old + 63 }
 {
     put_number(out, word, '\t');
-    out.push_str(state_text(r.state));
-    out.push('\t');
+    put(out, state_text(r.state), '\t');
     put_number(out, r.iterations, '\t');
     put_number(out, r.unsatisfied, '\t');
     put_bch(out, r.corrected);
@@ -98,10 +106,10 @@ pub fn write_word(out: &mut Lines, word: u32, r: WordResult)
 }
 
 // The line of a refusal: at most 19 bytes.
-pub fn write_refused(out: &mut Lines, number: u32)
-    requires { array_string_len out.old + 19 ≤ 1028 }
+pub fn write_refused<const N: usize>(out: &mut ArrayString<N>, number: u32)
+    requires { array_string_len out.old + 19 ≤ N }
     ensures { out.new.bytes ≡ out.old.bytes ++ refused_line number }
 {
-    out.push_str("refused\t");
+    put(out, "refused", '\t');
     put_number(out, number, '\n');
 }

@@ -4,7 +4,7 @@ use Rattle.std.proofs.Math.Path.{◌≡◌, refl, sym, ap, ap₂, subst}
 use Rattle.std.proofs.Common.{◌∙◌, add-one, List, [], ◌∷◌, map, ℕ, zero, suc, ◌+◌, ◌-◌, ◌≤◌, ◌<◌, arith, ltb-true, lt-ltb}
 use Rattle.std.specs.Prelude.{◌≢◌, Bool, true, not, ◌||◌, ltb, length, get_or, replicate}
 use Rattle.std.proofs.Math.Bool.{false, cond}
-use borrow.Author.Tests.{not-true, not-false, eqb-false}
+use Rattle.std.proofs.lemmas.Bool.{not-true, not-false, eqb-false}
 use Rattle.std.proofs.Math.Dec.{eqb}
 use Rattle.std.proofs.Math.ListN.{drop}
 use Rattle.std.proofs.lemmas.List.{length-replicate, get_or-replicate}

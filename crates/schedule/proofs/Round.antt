@@ -113,10 +113,10 @@ module _ {X M : Type 0} (R : Setup X M) where
     holds_it : H ≢ 0 → get_or ls l empty ≡ holds (H - 1) (col l) (suc I)
     holds_it n = here ∙ lane_held H (col l) (suc I) n
 
-    touched : (k : ℕ) → l + 1 ≤ k → (held' : List ℕ) → get_or held' k 0 ≡ get_or held k 0 → (get_or held' k 0 ≡ get_or held₀ k 0) × (get_or (set iters l (I + 1)) k 0 ≡ get_or iters₀ k 0)
-    touched k g held' e =
+    touched : (k : ℕ) → l + 1 ≤ k → (held' : List ℕ) (i : ℕ) → get_or held' k 0 ≡ get_or held k 0 → (get_or held' k 0 ≡ get_or held₀ k 0) × (get_or (set iters l i) k 0 ≡ get_or iters₀ k 0)
+    touched k g held' i e =
         let n : k ≢ l = λ e. omega arith in
-        (e ∙ (a.untouched k (omega arith)).0, get_or-set_other iters l k (I + 1) 0 n ∙ (a.untouched k (omega arith)).1)
+        (e ∙ (a.untouched k (omega arith)).0, get_or-set_other iters l k i 0 n ∙ (a.untouched k (omega arith)).1)
 
     -- a word that stays
     pub leaving_stay : H ≢ 0 → over R.words (col l) (I + 1) ≡ false → Leaving R held₀ iters₀ memory₀ (l + 1) held (set iters l (I + 1)) col memory
@@ -124,7 +124,7 @@ module _ {X M : Type 0} (R : Setup X M) where
     leaving_stay n o =
         record {
           sized = record { held_fit = a.sized.held_fit; iters_fit = length-set iters l (I + 1) ∙ a.sized.iters_fit };
-          untouched = λ k g. touched k g held refl;
+          untouched = λ k g. touched k g held (I + 1) refl;
           same = λ q d m.
               let x = a.same q d m in (
                 x.0,
@@ -148,14 +148,14 @@ module _ {X M : Type 0} (R : Setup X M) where
             ∙ sym (mixed_from l held iters col k (omega arith) ∙ ap (λ k. lane_of (get_or held k 0) (col k) (suc (get_or iters k 0))) d)
         at k (no n) = mixed_other l held iters held (set iters l (I + 1)) col k n refl (get_or-set_other iters l k (I + 1) 0 n)
 
-    -- a word that leaves: memory says so
+    -- a word that leaves: memory says so; whatever `iters` keeps for its lane
     pub leaving_leave : (memory' : ℕ → M) → H ≢ 0 → over R.words (col l) (I + 1) ≡ true → memory' (H - 1) ≡ R.after (H - 1) (col l) (I + 1)
-        → ((v : ℕ) → v ≢ H - 1 → memory' v ≡ memory v) → Leaving R held₀ iters₀ memory₀ (l + 1) (set held l 0) (set iters l (I + 1)) col memory'
+        → ((v : ℕ) → v ≢ H - 1 → memory' v ≡ memory v) → (i : ℕ) → Leaving R held₀ iters₀ memory₀ (l + 1) (set held l 0) (set iters l i) col memory'
     unfolding leave lane_of
-    leaving_leave memory' n o new others =
+    leaving_leave memory' n o new others i =
         record {
-          sized = record { held_fit = length-set held l 0 ∙ a.sized.held_fit; iters_fit = length-set iters l (I + 1) ∙ a.sized.iters_fit };
-          untouched = λ k g. let n : k ≢ l = λ e. omega arith in touched k g (set held l 0) (get_or-set_other held l k 0 0 n);
+          sized = record { held_fit = length-set held l 0 ∙ a.sized.held_fit; iters_fit = length-set iters l i ∙ a.sized.iters_fit };
+          untouched = λ k g. let n : k ≢ l = λ e. omega arith in touched k g (set held l 0) i (get_or-set_other held l k 0 0 n);
           same = λ q d m.
               let x = a.same q d m in (
                 logged R.words (H - 1) (col l) (suc I) x.0,
@@ -171,12 +171,12 @@ module _ {X M : Type 0} (R : Setup X M) where
             ∙ ap (λ b. cond b (empty, record { queue = q; log = logged R.words (H - 1) (col l) (suc I) d }) (holds (H - 1) (col l) (suc I), record { queue = q; log = d }))
             (ap (over R.words (col l)) (sym (add-one I)) ∙ o)
 
-        lanes_are : table (mixed (l + 1) (set held l 0) (set iters l (I + 1)) col) 0 R.lanes ≡ set ls l empty
+        lanes_are : table (mixed (l + 1) (set held l 0) (set iters l i) col) 0 R.lanes ≡ set ls l empty
         lanes_are =
-            table_set (mixed l held iters col) (mixed (l + 1) (set held l 0) (set iters l (I + 1)) col) R.lanes l empty h
-            (mixed_below (l + 1) (set held l 0) (set iters l (I + 1)) col l (omega arith)
-            ∙ ap (λ h. lane_of h (col l) (get_or (set iters l (I + 1)) l 0)) (get_or-set_same held l 0 0 (omega (arith, a.sized.held_fit))))
-            (λ k e n. mixed_other l held iters (set held l 0) (set iters l (I + 1)) col k n (get_or-set_other held l k 0 0 n) (get_or-set_other iters l k (I + 1) 0 n))
+            table_set (mixed l held iters col) (mixed (l + 1) (set held l 0) (set iters l i) col) R.lanes l empty h
+            (mixed_below (l + 1) (set held l 0) (set iters l i) col l (omega arith)
+            ∙ ap (λ h. lane_of h (col l) (get_or (set iters l i) l 0)) (get_or-set_same held l 0 0 (omega (arith, a.sized.held_fit))))
+            (λ k e n. mixed_other l held iters (set held l 0) (set iters l i) col k n (get_or-set_other held l k 0 0 n) (get_or-set_other iters l k i 0 n))
 
   -- every lane has had its turn
   pub leaving_end : (held₀ iters₀ : List ℕ) (memory₀ : ℕ → M) (l : ℕ) (held iters : List ℕ) (col : ℕ → X) (memory : ℕ → M)

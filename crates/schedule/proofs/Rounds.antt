@@ -5,7 +5,7 @@ use Rattle.std.proofs.Math.Path.{◌≡◌, refl, sym, ap, subst}
 use Rattle.std.proofs.Common.{◌∙◌, not-suc-le-zero, List, [], ◌∷◌, ◌++◌, map, append_assoc, ℕ, zero, suc, ◌+◌, ◌*◌, ◌≤◌, ◌<◌, arith, eqb-true, ltb-false}
 use Rattle.std.specs.Prelude.{true, false, eqb, ltb}
 use Rattle.std.proofs.Math.Nat.{mul-le-mul_left}
-use borrow.Author.Tests.{eqb-false}
+use Rattle.std.proofs.lemmas.Bool.{eqb-false}
 use Rattle.std.proofs.Math.ListN.{length-replicate, length-map}
 use Rattle.laws.specs.Choice.{by_cond}
 use Rattle.schedule.specs.Run.{Words, Lane, empty, holds, Stock, State, finished, each, held, over, fill, iterated, leave, refill, round, go, start, run}

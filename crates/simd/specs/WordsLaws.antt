@@ -1,7 +1,7 @@
 -- A row written, and the word of its column; a check on a column is the check of its word; the column laws of the code.
 use Rattle.std.specs.Prelude.{◌≡◌, Bool, true, false, cond, List, eqb, length, ℤ, ◌+ℤ◌, ◌-ℤ◌, ℕ, zero, suc, ◌+◌, ◌%◌, ◌≤◌, ◌<◌}
 use Rattle.std.proofs.Common.{◌∙◌, arith, eqb-true, eq-eqb, ne_eqb}
-use Rattle.std.proofs.Math.Path.{refl, sym, ap}
+use Rattle.std.proofs.Math.Path.{refl, sym, ap, subst}
 use Rattle.std.proofs.lemmas.Bool.{eqb-false}
 use Rattle.laws.specs.Put.{put_other}
 use Rattle.laws.specs.Definitions.{put}
@@ -13,7 +13,7 @@ use Rattle.iteration.specs.CheckLaws.{message_same, wrote_same, within_put, with
 use Rattle.lane16.specs.Lanes.{Decided}
 use Rattle.lane16.specs.ColumnLaws.{Mapped}
 use Rattle.lane16.specs.Column.{column}
-use Rattle.lane16.specs.Memory.{CheckMemory}
+use Rattle.lane16.specs.Memory.{CheckRows}
 use Rattle.iteration.specs.Lists.{var}
 use Rattle.simd.specs.Pass.{t_at, written, check_column, Signs}
 use Rattle.simd.specs.Words.{word_of, word, CheckNode, SignParity}
@@ -106,24 +106,28 @@ negatives_same v s zero f g h = refl
 negatives_same v s (suc d) f g h = λ i. negatives_same v s d f g (λ k q. h k (omega arith)) i + hard (h d (omega arith) i)
 
 -- ---- the laws of the code's columns
-module _ {rows : List ℕ} {s d n lanes : ℕ} {a : List ℤ} (r : CheckMemory rows s d n lanes a) where
+module _ {rows : List ℕ} {s d n lanes : ℕ} (r : CheckRows rows s d n lanes) where
   pub inside : ((k : ℕ) → k < d → var rows (s + k) < n) × (s + d ≤ length rows)
   inside = (λ k q. r.variables (s + k) (omega (arith, r.edges)), r.edges)
 
-  pub check_node : {o : ℤ} {a' : List ℤ} → Mapped (check_column o (var rows) s d n) lanes a a' → CheckNode rows s d n lanes o a a'
-  check_node {o} {a'} h =
+  pub check_node : {o : ℤ} {a a' : List ℤ} → Mapped (check_column o (var rows) s d n) lanes a a' → CheckNode rows s d n lanes o a a'
+  check_node {o} {a} {a'} h =
       record {
         words = λ i q. ap (word_of n (length rows)) (h i q) ∙ check_is n (length rows) (var rows) s o (column lanes a i) d inside;
         rest = λ i q u p. ap (λ (f : ℕ → ℤ). f u) (h i q) ∙ check_rest n (length rows) (var rows) s o (column lanes a i) d inside u p;
       }
 
   -- a lane's sign is its word's
-  pub sign_parity : (i : ℕ) → unsatisfied (var rows) s d (column lanes a i) ≡ unsatisfied (var rows) s d (word n (length rows) lanes a i).L
+  pub sign_parity : (a : List ℤ) (i : ℕ) → unsatisfied (var rows) s d (column lanes a i) ≡ unsatisfied (var rows) s d (word n (length rows) lanes a i).L
   unfolding unsatisfied word_of
-  sign_parity i = ap (λ (m : ℕ). m % 2) (negatives_same (var rows) s d (column lanes a i) (word n (length rows) lanes a i).L (λ k q. value_is k q))
+  sign_parity a i = ap (λ (m : ℕ). m % 2) (negatives_same (var rows) s d (column lanes a i) (word n (length rows) lanes a i).L (λ k q. value_is k q))
     where
       value_is : (k : ℕ) → k < d → column lanes a i (var rows (s + k)) ≡ (word n (length rows) lanes a i).L (var rows (s + k))
       value_is k q = sym (within_at n (column lanes a i) (var rows (s + k)) (inside.0 k q))
+
+-- an offset as it was passed
+pub node_to : {rows : List ℕ} {s d n lanes : ℕ} {o o' : ℤ} {a a' : List ℤ} → o ≡ o' → CheckNode rows s d n lanes o a a' → CheckNode rows s d n lanes o' a a'
+node_to {rows} {s} {d} {n} {lanes} {o} {o'} {a} {a'} e h = subst (λ (z : ℤ). CheckNode rows s d n lanes z a a') e h
 
 -- the hard decisions of the signs
 pub sign_parities : {rows : List ℕ} {s d lanes at : ℕ} {a g : List ℤ} {b : List ℕ} → Signs (var rows) s lanes at a d g → Decided g b → SignParity rows s d lanes at a b

@@ -3,29 +3,38 @@
 // it.
 #![tactic(auto)]
 
-ghost use Rattle.std.specs.Prelude.{◌≡◌, ◌+◌, ◌*◌, ◌<◌, ◌≤◌, length};
+ghost use Rattle.std.specs.Prelude.{◌≡◌, ◌*◌, ◌<◌, ◌≤◌, length};
 
 use bch::Decoded;
 use refusal::Refusal;
 use std::io::{self, Read, Stdin};
 
-// Numbers in a vector, lowest byte first.
-fn two(bytes: &[u8], at: usize) -> u16
-    requires { at + 2 ≤ length bytes.now }
-{
-    u16::from_le_bytes([bytes[at], bytes[at + 1]])
+// What a word's bytes are besides their low bits.
+#[derive(Clone, Copy)]
+enum HighBits {
+    Set,
+    Clear,
 }
 
-fn four(bytes: &[u8], at: usize) -> u32
-    requires { at + 4 ≤ length bytes.now }
-{
-    u32::from_le_bytes([bytes[at], bytes[at + 1], bytes[at + 2], bytes[at + 3]])
-}
-
-fn eight(bytes: &[u8], at: usize) -> u64
-    requires { at + 8 ≤ length bytes.now }
-{
-    u64::from(four(bytes, at)) | u64::from(four(bytes, at + 4)) << 32
+// A vector: how to make a word, and what the Rust's `encode` and `decode` made of it.
+#[derive(Clone, Copy)]
+struct Vector<'a> {
+    n: usize,
+    seed: u32,
+    high: HighBits,
+    // How many of the places are flipped.
+    errors: usize,
+    // Bits corrected, or 255 for uncorrectable.
+    answer: u8,
+    // Sums of the codeword and of the word after decoding.
+    encoded: u64,
+    decoded: u64,
+    // The pattern, bit i the coefficient of x^i, is added times x^shift.
+    shift: u32,
+    places: &'a [[u8; 2]],
+    pattern: [u8; 24],
+    // The low bits of the first 256 bytes after decoding.
+    front: [u8; 32],
 }
 
 fn bit(bytes: &[u8], i: usize) -> u8
@@ -43,55 +52,6 @@ fn sum(bytes: &[u8]) -> u64 {
     h
 }
 
-// The bytes of a message from its seed: of each state the highest byte, whole or its low bit alone.
-fn make(message: &mut [u8], seed: u32, whole: bool) {
-    let mut state = seed;
-    for byte in message {
-        state = state.wrapping_mul(1664525).wrapping_add(1013904223);
-        let high = (state >> 24) as u8;
-        *byte = if whole { high } else { high & 1 };
-    }
-}
-
-// From the codeword to the word that is decoded: the listed errors, the pattern times x^shift, and high bits for the parity bytes.
-fn damage(word: &mut [u8], vector: &[u8], whole: bool)
-    requires { (length vector.now ≡ 148) × (192 ≤ length word.old) }
-{
-    let n = word.len();
-    for i in 0..(vector[9] % 31) as usize {
-        let at = two(vector, 32 + 2 * i) as usize;
-        if at < n {
-            word[at] ^= 1;
-        }
-    }
-    let shift = four(vector, 28) as usize;
-    for i in 0..192 {
-        if shift + i < n {
-            word[n - 1 - (shift + i)] ^= bit(&vector[92..116], i);
-        }
-    }
-    if whole {
-        for i in n - 192..n {
-            word[i] = word[i] % 2 + (i % 128 * 2) as u8;
-        }
-    }
-}
-
-// Whether the word after decoding is the vector's: its sum, and the low bits of its first 256 bytes.
-fn agrees(word: &[u8], vector: &[u8]) -> bool
-    requires { length vector.now ≡ 148 }
-{
-    if sum(word) != eight(vector, 20) {
-        return false;
-    }
-    for (i, byte) in word.iter().take(256).enumerate() {
-        if byte % 2 != bit(&vector[116..], i) {
-            return false;
-        }
-    }
-    true
-}
-
 // The answer as the vector has it.
 fn number(answer: Result<Decoded, Refusal>) -> u32 {
     match answer {
@@ -101,21 +61,100 @@ fn number(answer: Result<Decoded, Refusal>) -> u32 {
     }
 }
 
-// Whether a word is encoded and decoded as the Rust did, in the front of the two buffers.
-fn replay(vector: &[u8; 148], message: &mut [u8; 65343], word: &mut [u8; 65535]) -> bool {
-    let n = four(vector, 0) as usize;
-    if !(193..=65535).contains(&n) {
-        return false;
+impl<'a> Vector<'a> {
+    // The vector that these bytes are. Numbers of several bytes stand lowest byte first.
+    fn read(bytes: &'a [u8; 148]) -> Option<Vector<'a>> {
+        let (n, rest) = bytes.split_first_chunk()?;
+        let (seed, rest) = rest.split_first_chunk()?;
+        let ([high, errors, answer, _], rest) = rest.split_first_chunk::<4>()?;
+        let (encoded, rest) = rest.split_first_chunk()?;
+        let (decoded, rest) = rest.split_first_chunk()?;
+        let (shift, rest) = rest.split_first_chunk()?;
+        let (places, rest) = rest.split_at_checked(60)?;
+        let (pattern, rest) = rest.split_first_chunk()?;
+        Some(Vector {
+            n: u32::from_le_bytes(*n) as usize,
+            seed: u32::from_le_bytes(*seed),
+            high: if *high == 1 {
+                HighBits::Set
+            } else {
+                HighBits::Clear
+            },
+            errors: usize::from(*errors),
+            answer: *answer,
+            encoded: u64::from_le_bytes(*encoded),
+            decoded: u64::from_le_bytes(*decoded),
+            shift: u32::from_le_bytes(*shift),
+            places: places.as_chunks().0,
+            pattern: *pattern,
+            front: *rest.first_chunk()?,
+        })
     }
-    let message = &mut message[..n - 192];
-    let word = &mut word[..n];
-    let whole = vector[8] == 1;
-    make(message, four(vector, 4), whole);
-    if bch::encode(message, word).is_err() || sum(word) != eight(vector, 12) {
-        return false;
+
+    // The bytes of the message from its seed: of each state the highest byte, whole or its low bit alone.
+    fn make(self, message: &mut [u8]) {
+        let mut state = self.seed;
+        for byte in message {
+            state = state.wrapping_mul(1664525).wrapping_add(1013904223);
+            let top = (state >> 24) as u8;
+            *byte = match self.high {
+                HighBits::Set => top,
+                HighBits::Clear => top & 1,
+            };
+        }
     }
-    damage(word, vector, whole);
-    number(bch::decode(word)) == u32::from(vector[10]) && agrees(word, vector)
+
+    // From the codeword to the word that is decoded: the listed errors, the pattern times x^shift, and high bits for the parity bytes.
+    fn damage(self, word: &mut [u8])
+        requires { 192 ≤ length word.old }
+    {
+        let n = word.len();
+        for place in self.places.iter().take(self.errors % 31) {
+            let at = usize::from(u16::from_le_bytes(*place));
+            if at < n {
+                word[at] ^= 1;
+            }
+        }
+        let shift = self.shift as usize;
+        for i in 0..192 {
+            if shift + i < n {
+                word[n - 1 - (shift + i)] ^= bit(&self.pattern, i);
+            }
+        }
+        if let HighBits::Set = self.high {
+            for i in n - 192..n {
+                word[i] = word[i] % 2 + (i % 128 * 2) as u8;
+            }
+        }
+    }
+
+    // Whether the word after decoding is the vector's: its sum, and the low bits of its first 256 bytes.
+    fn agrees(self, word: &[u8]) -> bool {
+        if sum(word) != self.decoded {
+            return false;
+        }
+        for (i, byte) in word.iter().take(256).enumerate() {
+            if byte % 2 != bit(&self.front, i) {
+                return false;
+            }
+        }
+        true
+    }
+
+    // Whether a word is encoded and decoded as the Rust did, in the front of the two buffers.
+    fn replay(self, message: &mut [u8; 65343], word: &mut [u8; 65535]) -> bool {
+        if !(193..=65535).contains(&self.n) {
+            return false;
+        }
+        let message = &mut message[..self.n - 192];
+        let word = &mut word[..self.n];
+        self.make(message);
+        if bch::encode(message, word).is_err() || sum(word) != self.encoded {
+            return false;
+        }
+        self.damage(word);
+        number(bch::decode(word)) == u32::from(self.answer) && self.agrees(word)
+    }
 }
 
 // Every vector of the input, at most 10,000. The first that differs is named.
@@ -129,7 +168,7 @@ fn replay_all(rt: &impl Print, input: &mut Stdin) -> io::Result<()> {
         if input.read_exact(&mut vector).is_err() {
             break;
         }
-        if !replay(&vector, &mut message, &mut word) {
+        if !Vector::read(&vector).is_some_and(|v| v.replay(&mut message, &mut word)) {
             if differ == 0 {
                 println!(rt; "first at vector {compared}")?;
             }

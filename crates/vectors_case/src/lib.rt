@@ -1,7 +1,10 @@
 // A case of vectors_run's input (compare/oracle/src/bin/run.rs): its numbers and its code, and the soft words that are made from its recipes.
 #![tactic(auto)]
 
-ghost use Rattle.std.specs.Prelude.{◌<◌, ◌≤◌, ◌*◌, IfSome, length};
+ghost use Rattle.std.specs.Prelude.{◌≡◌, ℕ, pos, ◌-ℤ◌, ◌+◌, ◌<◌, ◌≤◌, ◌*◌, ◌/◌, ◌%◌, ◌↔◌, ◌++◌, IfSome, IsSome, MatchOption, IsTrue, drop, length, slice_index};
+ghost use Rattle.std.specs.Int.{bit_at};
+ghost use Rattle.std.specs.List.{concat};
+ghost use Rattle.vectors_case.specs.Format.{number, size_of, schedule_of, Reads};
 
 use decoder_plan::{Limits, Part, Schedule, Settings};
 
@@ -26,10 +29,20 @@ pub struct Case<'a> {
     pub maps: &'a [u8],
 }
 
+// The twenty numbers of a head.
+fn numbers(head: &[u8; 80]) -> [u32; 20]
+    ensures { (i : ℕ) → i < 20 → slice_index result i ≡ number head.now i }
+{
+    let (chunks, _) = head.as_chunks();
+    let chunks = chunks.first_chunk::<20>().unwrap();
+    chunks.map(u32::from_le_bytes)
+}
+
 // So many parts of N bytes in front of the input, and what follows them.
 fn part<const N: usize>(input: &[u8], count: u32) -> Option<(&[[u8; N]], &[u8])>
     requires { (0 < N) × (N ≤ 12) }
-    ensures { IfSome result (λ r. length r.1.now ≤ length input.now) }
+    ensures { MatchOption result (length input.now < count * N)
+        (λ r. (length r.0.now ≡ count) × (input.now ≡ concat r.0.now ++ r.1.now) × (length r.1.now + count * N ≡ length input.now)) }
 {
     let size = (count as usize).checked_mul(N)?;
     let (front, rest) = input.split_at_checked(size)?;
@@ -40,11 +53,11 @@ fn part<const N: usize>(input: &[u8], count: u32) -> Option<(&[[u8; N]], &[u8])>
 impl<'a> Case<'a> {
     // The case in front of the input, and the input behind it.
     pub fn read(input: &'a [u8]) -> Option<(Case<'a>, &'a [u8])>
-        ensures { IfSome result (λ r. length r.1.now < length input.now) }
+        ensures shorter { IfSome result (λ r. length r.1.now < length input.now) }
+        ensures reads { IfSome result (λ r. Reads input.now r.0 r.1.now) }
+        ensures complete { size_of input.now ≤ length input.now → IsSome result }
     {
         let (head, rest) = input.split_first_chunk::<80>()?;
-        let (numbers, _) = head.as_chunks();
-        let numbers = *numbers.first_chunk::<20>()?;
         let [
             n,
             rows,
@@ -66,23 +79,18 @@ impl<'a> Case<'a> {
             recipes,
             maps,
             checks,
-        ] = numbers.map(|b| u32::from_le_bytes(b));
+        ] = numbers(head);
         let (lens, rest) = part(rest, rows)?;
         let (addrs, rest) = part(rest, total)?;
         let (bases, rest) = rest.split_at_checked(bases as usize)?;
         let (recipes, rest) = part(rest, recipes)?;
         let (maps, rest) = rest.split_at_checked(maps as usize)?;
-        let schedule = if layered == 1 {
-            Schedule::Layered(step)
-        } else {
-            Schedule::Sequential
-        };
         let case = Case {
             n,
             set: Settings {
                 lanes,
                 limits: Limits { iterations, rounds },
-                schedule,
+                schedule: schedule(layered, step),
                 offset: below_zero((offset % 256) as u8),
                 part: Part { first, length },
             },
@@ -102,13 +110,28 @@ impl<'a> Case<'a> {
     }
 }
 
+// Layered by 1, or sequential.
+fn schedule(layered: u32, step: u32) -> Schedule
+    ensures { result ≡ schedule_of layered step }
+{
+    if layered == 1 {
+        Schedule::Layered(step)
+    } else {
+        Schedule::Sequential
+    }
+}
+
 // 128 less.
-fn below_zero(x: u8) -> i8 {
+fn below_zero(x: u8) -> i8
+    ensures { result ≡ pos x -ℤ pos 128 }
+{
     (i16::from(x) - 128) as i8
 }
 
-// Bit i.
-pub fn bit(s: &[u8], i: usize) -> bool {
+// Bit i, the lowest of a byte first; none behind the end is set.
+pub fn bit(s: &[u8], i: usize) -> bool
+    ensures { IsTrue result ↔ (bit_at (slice_index s.now (i / 8)) (i % 8) ≡ 1) }
+{
     s.get(i / 8).is_some_and(|b| (*b >> (i % 8)) % 2 == 1)
 }
 
@@ -195,11 +218,15 @@ fn make_word(word: &mut [i8], bases: &[u8], r: &Recipe, w: usize) {
 
 impl<'a> Case<'a> {
     // Every word of n soft values; what is left over stays.
-    pub fn make_words(&self, soft: &mut [i8]) {
-        if self.n == 0 || self.recipes.is_empty() {
+    pub fn make_words(&self, soft: &mut [i8])
+        ensures { let whole = length soft.old / self.now.n * self.now.n in drop whole soft.new ≡ drop whole soft.old }
+    {
+        let n = self.n as usize;
+        if n == 0 || self.recipes.is_empty() {
             return;
         }
-        for (w, word) in soft.chunks_exact_mut(self.n as usize).enumerate() {
+        let whole = soft.len() / n * n;
+        for (w, word) in soft[..whole].chunks_exact_mut(n).enumerate() {
             let r = Recipe::new(&self.recipes[w % self.recipes.len()]);
             make_word(word, self.bases, &r, w);
         }

@@ -66,9 +66,9 @@ fn address(x: u64, before: u16, p: u16, q: u16) -> u16 {
         2 => before.wrapping_add(p),
         3 => before.wrapping_add(q),
         _ => {
-            let low = draw(next(x), 256);
-            let high = draw(next(next(x)), 256);
-            (high * 256 + low) as u16
+            let low = draw(next(x), 256) as u8;
+            let high = draw(next(next(x)), 256) as u8;
+            u16::from_be_bytes([high, low])
         }
     }
 }
@@ -211,7 +211,7 @@ fn replay(
 }
 
 // The t-th code: the first six have no rows, the next 62 have some and n up to 2,244, the last two n 44,880.
-fn one(rt: &(impl Print + AllocGlobal), t: u32) -> io::Result<()>
+fn replay_nth(rt: &(impl Print + AllocGlobal), t: u32) -> io::Result<()>
     requires { t < 70 }
 {
     let seed = u64::from(t);
@@ -231,7 +231,7 @@ fn one(rt: &(impl Print + AllocGlobal), t: u32) -> io::Result<()>
 
 fn print_all(rt: &(impl Print + AllocGlobal)) -> io::Result<()> {
     for t in 0..70 {
-        one(rt, t)?;
+        replay_nth(rt, t)?;
     }
     Ok(())
 }

@@ -4,8 +4,7 @@
 // over the last finished records.
 #![tactic(auto)]
 
-ghost use Rattle.std.specs.Prelude.{◌<◌, ◌≤◌};
-
+use arrayvec::ArrayVec;
 use window::{Record, Window};
 
 // Numbers of a window that was altered.
@@ -28,7 +27,57 @@ const ALTERED: [u64; 16] = [
     18446744073709551615,
 ];
 
-// What a block does, by its number: it goes on with the series before, begins one, begins with a window that was altered, or goes on with that.
+// The BCH result of a lost word, written out and not `outcome::LOST`: the sums made afresh ask the code under test nothing.
+const LOST: u32 = 4294967295;
+
+// Whether a record is of a finished word. The request's numbers, and not `outcome::is_finished`, for the same reason.
+fn is_finished(of: Record) -> bool {
+    matches!(of.state, 2 | 3)
+}
+
+// A step of the generator.
+fn mixed(x: u32) -> u32 {
+    let a = x.wrapping_mul(2654435761).wrapping_add(1013904223);
+    a ^ (a >> 15)
+}
+
+// A number that `x` makes.
+fn stir(x: u32) -> u32 {
+    mixed(mixed(mixed(x)))
+}
+
+// What a byte of a palette stands for.
+fn value(code: u8, any: u32) -> u32 {
+    match code {
+        0..=251 => u32::from(code),
+        252 => any % 65536,
+        253 => u32::MAX - 1,
+        254 => u32::MAX,
+        255 => any,
+    }
+}
+
+// One of the eight values that a palette has for a field.
+fn drawn(codes: [u8; 8], x: u32) -> u32 {
+    let v = stir(x);
+    value(codes[(v % 8) as usize], stir(v))
+}
+
+// What a ring holds at first: a third of it lost words and states of finished ones.
+fn garbage(x: u32) -> u32 {
+    let v = stir(x);
+    match v % 6 {
+        0 => LOST,
+        1 => 2 + v / 6 % 2,
+        _ => v,
+    }
+}
+
+fn any_altered(x: u32) -> u64 {
+    ALTERED[(stir(x) % 16) as usize]
+}
+
+// What a block does: it goes on with the series before, begins one, begins with a window that was altered, or goes on with that.
 #[derive(Clone, Copy, Debug, PartialEq, Eq)]
 enum Kind {
     Further,
@@ -38,7 +87,8 @@ enum Kind {
 }
 
 impl Kind {
-    fn of_number(number: u64) -> Kind {
+    // By the number that the input has.
+    fn of_number(number: u32) -> Kind {
         match number {
             0 => Kind::Further,
             1 => Kind::Series,
@@ -52,23 +102,136 @@ impl Kind {
     }
 }
 
+// A block of records, which its index and a palette make: codes of the states, of the iterations and of the BCH results.
 #[derive(Clone, Copy)]
-struct Block {
-    number: u64,
+struct Block<'a> {
+    index: u32,
     kind: Kind,
-    palette: usize,
-    records: u64,
+    palette: &'a [[u8; 8]; 3],
+    records: u32,
     width: u32,
     room: usize,
-    sum: u64,
+    sum: Checksum,
 }
 
+impl<'a> Block<'a> {
+    // Sixteen bytes: width, ring, kind and palette and records, checksum.
+    fn read(index: usize, bytes: &[u8; 16], palettes: &'a [[[u8; 8]; 3]]) -> Option<Block<'a>> {
+        let (numbers, _) = bytes.as_chunks();
+        let [width, room, form, sum] = numbers.first_chunk::<4>()?.map(u32::from_le_bytes);
+        Some(Block {
+            index: (index % 65536) as u32,
+            kind: Kind::of_number(form % 4),
+            palette: palettes.get((form / 4 % 16) as usize)?,
+            records: form / 64,
+            width,
+            room: room as usize,
+            sum: Checksum(sum),
+        })
+    }
+
+    // Record i.
+    fn record(&self, i: u32) -> Record {
+        let [states, iterations, results] = *self.palette;
+        let x = self.index % 65536 * 4096 + i % 1024 * 4;
+        Record {
+            state: drawn(states, x),
+            iterations: drawn(iterations, x + 1),
+            bch: drawn(results, x + 2),
+        }
+    }
+
+    // The window of a block that begins with an altered one.
+    fn altered(&self) -> Window {
+        let x = self.index % 65536 * 4096;
+        Window {
+            at: any_altered(x + 3),
+            words: any_altered(x + 7),
+            lost: any_altered(x + 11),
+            iterations: any_altered(x + 15),
+            corrected: any_altered(x + 19),
+        }
+    }
+
+    fn fill(&self, ring: &mut [u32]) {
+        let x = 2147483648 + self.index % 65536 * 16384;
+        for (j, place) in ring.iter_mut().enumerate() {
+            *place = garbage(x + (j % 16384) as u32);
+        }
+    }
+}
+
+// What a window shows.
 #[derive(Clone, Copy, Debug, PartialEq, Eq, Default)]
 struct Figures {
     words: u64,
     lost: u64,
     iterations: u64,
     corrected: u64,
+}
+
+impl From<Window> for Figures {
+    fn from(of: Window) -> Figures {
+        let Window {
+            words,
+            lost,
+            iterations,
+            corrected,
+            ..
+        } = of;
+        Figures {
+            words,
+            lost,
+            iterations,
+            corrected,
+        }
+    }
+}
+
+impl Figures {
+    // Those with one record more.
+    fn with(self, of: &Record) -> Figures {
+        let lost = of.bch == LOST;
+        let corrected = if lost { 0 } else { of.bch };
+        Figures {
+            words: self.words.wrapping_add(1),
+            lost: self.lost.wrapping_add(u64::from(lost)),
+            iterations: self.iterations.wrapping_add(u64::from(of.iterations)),
+            corrected: self.corrected.wrapping_add(u64::from(corrected)),
+        }
+    }
+}
+
+#[derive(Clone, Copy, Debug, PartialEq, Eq, Default)]
+struct Checksum(u32);
+
+impl Checksum {
+    // That with one number more.
+    fn with(self, v: u32) -> Checksum {
+        let sum = u64::from(self.0) * 31 + u64::from(v) + 1;
+        Checksum((sum % 4294967291) as u32)
+    }
+
+    // That with the two halves of a number, the lower first.
+    fn with_wide(self, v: u64) -> Checksum {
+        self.with((v % 4294967296) as u32).with((v >> 32) as u32)
+    }
+
+    fn with_figures(self, of: Figures) -> Checksum {
+        let sum = self.with_wide(of.words).with_wide(of.lost);
+        sum.with_wide(of.iterations).with_wide(of.corrected)
+    }
+
+    // That with the ring from a place on.
+    fn with_ring(self, ring: &[u32], from: usize) -> Checksum {
+        ring.iter().skip(from).fold(self, |sum, &v| sum.with(v))
+    }
+}
+
+// Through `io`, as vectors_run: `print!` would assume more of the C library.
+fn show(x: u64, unit: &[u8]) {
+    io::print_decimal(1, x);
+    io::write_all(1, unit);
 }
 
 // How many were compared, and how many of them differ.
@@ -78,345 +241,151 @@ struct Compared {
     differ: u64,
 }
 
-// The window, the finished records since a series began, and the checksum since a block began.
-#[derive(Clone, Copy, Debug, PartialEq, Eq, Default)]
+impl Compared {
+    // One comparison more; the first difference is shown.
+    fn count(&mut self, right: bool, block: u32, record: u32) {
+        self.all = self.all.wrapping_add(1);
+        if right {
+            return;
+        }
+        if self.differ == 0 {
+            io::write_all(1, b"first difference in block, record ");
+            show(u64::from(block), b", ");
+            show(u64::from(record), b"\n");
+        }
+        self.differ = self.differ.wrapping_add(1);
+    }
+
+    fn show(&self, what: &[u8]) {
+        show(self.all, what);
+        show(self.differ, b" differ\n");
+    }
+}
+
+// The window, the finished records since a series began, the checksum since a block began, and what was compared.
+#[derive(Drop)]
 struct Progress {
-    now: Window,
-    done: usize,
-    sum: u64,
+    window: Window,
+    finished: ArrayVec<Record, 24000>,
+    sum: Checksum,
     records: Compared,
     blocks: Compared,
 }
 
-// A step of the generator.
-fn mixed(x: u32) -> u32 {
-    let a = ((x as u64 * 2654435761 + 1013904223) % 4294967296) as u32;
-    a ^ a / 32768
-}
+impl Progress {
+    fn new() -> Progress {
+        Progress {
+            window: Window::default(),
+            finished: ArrayVec::new(),
+            sum: Checksum::default(),
+            records: Compared::default(),
+            blocks: Compared::default(),
+        }
+    }
 
-// A number that `x` makes.
-fn stir(x: u64) -> u32 {
-    mixed(mixed(mixed((x % 4294967296) as u32)))
-}
-
-// The byte at a place, 0 behind the end.
-fn byte(s: &[u8], at: usize) -> u64
-    ensures { result < 256 }
-{
-    if at < s.len() { s[at] as u64 } else { 0 }
-}
-
-fn four(s: &[u8], at: usize) -> u64
-    ensures { result < 4294967296 }
-{
-    let i = at % 1000000;
-    byte(s, i) + 256 * byte(s, i + 1) + 65536 * byte(s, i + 2) + 16777216 * byte(s, i + 3)
-}
-
-// Behind the palettes, 256 bytes, a block has 16: width, ring, kind and palette and records, checksum.
-fn block_at(input: &[u8], number: u64) -> Block {
-    let head = 256 + (number % 65536 * 16) as usize;
-    let form = four(input, head + 8);
-    Block {
-        number,
-        kind: Kind::of_number(form % 4),
-        palette: (form / 4 % 16 * 24) as usize,
-        records: form / 64,
-        width: four(input, head) as u32,
-        room: four(input, head + 4) as usize,
-        sum: four(input, head + 12),
+    // The figures over the last `width` finished records.
+    fn afresh(&self, width: usize) -> Figures {
+        let finished = self.finished.as_slice();
+        let from = finished.len().saturating_sub(width);
+        finished[from..]
+            .iter()
+            .fold(Figures::default(), |figures, of| figures.with(of))
     }
 }
 
-// What a byte of a palette stands for.
-fn value(code: u64, any: u32) -> u32
-    requires { code < 256 }
-{
-    match code {
-        252 => any % 65536,
-        255 => any,
-        _ if code < 252 => code as u32,
-        _ => 4294967041 + code as u32,
+// A block, its ring, and what was before it.
+#[derive(Drop)]
+struct Replay<'a> {
+    of: Block<'a>,
+    ring: &'a mut [u32],
+    at: &'a mut Progress,
+}
+
+impl Replay<'_> {
+    // What the block begins with, unless it goes on with what the one before left.
+    fn begin(&mut self) {
+        self.at.window = match self.of.kind {
+            Kind::Further | Kind::AlteredFurther => return,
+            Kind::Series => Window::default(),
+            Kind::Altered => self.of.altered(),
+        };
+        self.of.fill(self.ring);
+        self.at.finished.clear();
+    }
+
+    // Record i, pushed and compared.
+    fn push(&mut self, i: u32) {
+        let new = self.of.record(i);
+        let refused = match window::push(self.of.width, self.at.window, new, self.ring) {
+            Ok(window) => {
+                self.at.window = window;
+                0
+            }
+            Err(refusal) => refusal.number(),
+        };
+        if is_finished(new) {
+            let _ = self.at.finished.try_push(new);
+        }
+        let shown = Figures::from(self.at.window);
+        self.at.sum = self.at.sum.with(refused).with_figures(shown);
+        if self.of.kind.in_series() {
+            let right = shown == self.at.afresh(self.of.width as usize);
+            self.at.records.count(right, self.of.index, i);
+        }
+    }
+
+    // The checksum: in a series the ring's tail is in it, else all of the ring and the window's place.
+    fn end(&mut self) {
+        let tail = 3 * self.of.width as usize;
+        let sum = if self.of.kind.in_series() {
+            self.at.sum.with_ring(self.ring, tail)
+        } else {
+            self.at
+                .sum
+                .with_wide(self.at.window.at)
+                .with_ring(self.ring, 0)
+        };
+        self.at
+            .blocks
+            .count(sum == self.of.sum, self.of.index, self.of.records);
+        self.at.sum = Checksum::default();
+    }
+
+    fn run(&mut self) {
+        self.begin();
+        for i in 0..self.of.records {
+            self.push(i);
+        }
+        self.end();
     }
 }
 
-// One of the eight values that a palette has from a place on.
-fn drawn(input: &[u8], at: usize, x: u64) -> u32 {
-    let v = stir(x);
-    value(byte(input, at % 1000000 + (v % 8) as usize), stir(v as u64))
-}
-
-fn record(input: &[u8], of: Block, i: u64) -> Record {
-    let at = of.palette % 1000000;
-    let x = of.number % 65536 * 4096 + i % 1024 * 4;
-    Record {
-        state: drawn(input, at, x),
-        iterations: drawn(input, at + 8, x + 1),
-        bch: drawn(input, at + 16, x + 2),
+// Every block whose ring there is room for. Palettes of 24 bytes stand in front, in 256 bytes.
+fn replay_all(input: &[u8], ring: &mut [u32], at: &mut Progress) {
+    let Some((head, rest)) = input.split_first_chunk::<256>() else {
+        return;
+    };
+    let (rows, _) = head.as_chunks::<8>();
+    let (palettes, _) = rows.as_chunks::<3>();
+    let (blocks, _) = rest.as_chunks::<16>();
+    for (index, bytes) in blocks.iter().enumerate() {
+        let Some(of) = Block::read(index, bytes, palettes) else {
+            continue;
+        };
+        if of.room <= ring.len() {
+            let ring = &mut ring[..of.room];
+            Replay { of, ring, at }.run();
+        }
     }
-}
-
-fn finished(state: u32) -> bool {
-    state == 2 || state == 3
-}
-
-// What a ring holds at first: a third of it lost words and states of finished ones.
-fn garbage(x: u64) -> u32 {
-    let v = stir(x);
-    match v % 6 {
-        0 => 4294967295,
-        1 => 2 + v / 6 % 2,
-        _ => v,
-    }
-}
-
-fn fill(number: u64, ring: &mut [u32]) {
-    for j in 0..ring.len() {
-        ring[j] = garbage(2147483648 + number % 65536 * 16384 + (j % 16384) as u64);
-    }
-}
-
-fn any_altered(x: u64) -> u64 {
-    ALTERED[(stir(x) % 16) as usize]
-}
-
-// The window that a block begins with.
-fn first_window(of: Block) -> Window {
-    let x = of.number % 65536 * 4096;
-    if of.kind == Kind::Series {
-        return Window::default();
-    }
-    Window {
-        at: any_altered(x + 3),
-        words: any_altered(x + 7),
-        lost: any_altered(x + 11),
-        iterations: any_altered(x + 15),
-        corrected: any_altered(x + 19),
-    }
-}
-
-// What a push leaves: 0 or its refusal's number, and the window.
-fn push(width: u32, was: Window, new: Record, ring: &mut [u32]) -> (u32, Window) {
-    match window::push(width, was, new, ring) {
-        Ok(now) => (0, now),
-        Err(refusal) => (refusal.number(), was),
-    }
-}
-
-// A finished record is put behind those before it, both numbers in one.
-fn keep(of: Record, done: usize, history: &mut [u64]) -> usize {
-    if !finished(of.state) {
-        return done;
-    }
-    if done < history.len() {
-        history[done] = of.iterations as u64 * 4294967296 + of.bch as u64;
-        return done + 1;
-    }
-    done
-}
-
-fn plus(was: Figures, x: u64) -> Figures {
-    let bch = x % 4294967296;
-    let lost = bch == 4294967295;
-    Figures {
-        words: was.words.wrapping_add(1),
-        lost: was.lost.wrapping_add(lost as u64),
-        iterations: was.iterations.wrapping_add(x / 4294967296),
-        corrected: was.corrected.wrapping_add(if lost { 0 } else { bch }),
-    }
-}
-
-fn figures_of(s: &[u64]) -> Figures {
-    let mut f = Figures::default();
-    for &x in s {
-        f = plus(f, x);
-    }
-    f
-}
-
-// The figures over the last `width` of the first `done` finished records.
-fn afresh(width: usize, done: usize, history: &[u64]) -> Figures {
-    if history.len() < done {
-        return figures_of(history);
-    }
-    figures_of(&history[done.saturating_sub(width)..done])
-}
-
-// The figures that a window shows.
-fn shown(now: Window) -> Figures {
-    Figures {
-        words: now.words,
-        lost: now.lost,
-        iterations: now.iterations,
-        corrected: now.corrected,
-    }
-}
-
-// The checksum with one number more.
-fn mix(h: u64, v: u32) -> u64 {
-    (h % 4294967296 * 31 + v as u64 + 1) % 4294967291
-}
-
-fn mix_wide(h: u64, v: u64) -> u64 {
-    mix(mix(h, (v % 4294967296) as u32), (v / 4294967296) as u32)
-}
-
-fn mix_step(h: u64, number: u32, now: Window) -> u64 {
-    let a = mix_wide(mix_wide(mix(h, number), now.words), now.lost);
-    mix_wide(mix_wide(a, now.iterations), now.corrected)
-}
-
-fn mix_ring(h: u64, ring: &[u32], from: usize) -> u64 {
-    ring.iter().skip(from).fold(h, |r, &v| mix(r, v))
-}
-
-fn show(x: u64, unit: &[u8]) {
-    io::print_decimal(1, x);
-    io::write_all(1, unit);
-}
-
-// One comparison more; the first difference is shown.
-fn count(was: Compared, right: bool, number: u64, i: u64) -> Compared {
-    let all = was.all.wrapping_add(1);
-    if right {
-        return Compared { all, ..was };
-    }
-    if was.differ == 0 {
-        io::write_all(1, b"first difference in block, record ");
-        show(number, b", ");
-        show(i, b"\n");
-    }
-    Compared {
-        all,
-        differ: was.differ.wrapping_add(1),
-    }
-}
-
-fn compare(
-    of: Block,
-    i: u64,
-    now: Window,
-    done: usize,
-    history: &[u64],
-    was: Compared,
-) -> Compared {
-    if of.kind.in_series() {
-        let want = afresh(of.width as usize, done, history);
-        return count(was, shown(now) == want, of.number, i);
-    }
-    was
-}
-
-// One record.
-fn one(
-    input: &[u8],
-    of: Block,
-    i: u64,
-    was: Progress,
-    ring: &mut [u32],
-    history: &mut [u64],
-) -> Progress {
-    let new = record(input, of, i);
-    let (number, now) = push(of.width, was.now, new, ring);
-    let done = keep(new, was.done, history);
-    Progress {
-        now,
-        done,
-        sum: mix_step(was.sum, number, now),
-        records: compare(of, i, now, done, history, was.records),
-        ..was
-    }
-}
-
-fn ones(input: &[u8], of: Block, was: Progress, ring: &mut [u32], history: &mut [u64]) -> Progress {
-    let mut at = was;
-    for i in 0..of.records {
-        at = one(input, of, i, at, ring, history);
-    }
-    at
-}
-
-// What a block begins with; if that is not what the one before left, its ring is filled.
-fn begun(of: Block, was: Progress, ring: &mut [u32]) -> Progress {
-    if matches!(of.kind, Kind::Further | Kind::AlteredFurther) {
-        return was;
-    }
-    fill(of.number, ring);
-    Progress {
-        now: first_window(of),
-        done: 0,
-        sum: 0,
-        ..was
-    }
-}
-
-// The checksum of a block: in a series the ring's tail is in it, else all of the ring and its place.
-fn sum_of(of: Block, at: Progress, ring: &[u32]) -> u64 {
-    if of.kind.in_series() {
-        return mix_ring(at.sum, ring, 3 * (of.width % 65536) as usize);
-    }
-    mix_ring(mix_wide(at.sum, at.now.at), ring, 0)
-}
-
-fn ended(of: Block, at: Progress, ring: &[u32]) -> Progress {
-    let sum = sum_of(of, at, ring);
-    Progress {
-        sum: 0,
-        blocks: count(at.blocks, sum == of.sum, of.number, of.records),
-        ..at
-    }
-}
-
-fn replay(
-    input: &[u8],
-    of: Block,
-    was: Progress,
-    ring: &mut [u32],
-    history: &mut [u64],
-) -> Progress {
-    let start = begun(of, was, ring);
-    let at = ones(input, of, start, ring, history);
-    ended(of, at, ring)
-}
-
-// A block with the ring cut to the length that it says.
-fn cut(
-    input: &[u8],
-    number: u64,
-    was: Progress,
-    ring: &mut [u32],
-    history: &mut [u64],
-) -> Progress {
-    let of = block_at(input, number);
-    if ring.len() < of.room {
-        return was;
-    }
-    replay(input, of, was, &mut ring[..of.room], history)
-}
-
-fn blocks_in(length: usize) -> u64 {
-    length.saturating_sub(256) as u64 / 16
-}
-
-fn all(input: &[u8], ring: &mut [u32], history: &mut [u64]) -> Progress {
-    let mut at = Progress::default();
-    for number in 0..blocks_in(input.len()) {
-        at = cut(input, number, at, ring, history);
-    }
-    at
-}
-
-fn show_compared(of: Compared, what: &[u8]) {
-    show(of.all, what);
-    show(of.differ, b" differ\n");
 }
 
 fn main() {
     let mut input = io::large_buffer();
-    let mut ring = [0u32; 12304];
-    let mut history = [0u64; 24000];
+    let mut ring = [0; 12304];
+    let mut at = Progress::new();
     let n = io::read_full(0, &mut input);
-    let at = all(&input[..n], &mut ring, &mut history);
-    show_compared(at.records, b" records compared with sums made afresh, ");
-    show_compared(at.blocks, b" blocks compared with the second model, ");
+    replay_all(&input[..n], &mut ring, &mut at);
+    at.records
+        .show(b" records compared with sums made afresh, ");
+    at.blocks.show(b" blocks compared with the second model, ");
 }

@@ -1,6 +1,6 @@
 -- The ways through `push`: refused, passed over, taken.
-use Rattle.std.specs.Prelude.{◌≡◌, ℕ, ◌*◌, ◌<◌, ◌≤◌, Bool, true, false, cond, ◌≢◌, ◌⊎◌, List, [], ◌∷◌, ◌++◌, length, nat_eq, nat_lt, refl, Result, Ok, Err}
-use Rattle.std.proofs.Common.{sym, ap, ap₂, subst, ◌∙◌, inl, inr, arith}
+use Rattle.std.specs.Prelude.{◌≡◌, ℕ, ◌*◌, ◌<◌, ◌≤◌, Bool, true, false, cond, ◌≢◌, List, [], ◌∷◌, ◌++◌, length, nat_eq, nat_lt, refl, Result, Ok, Err}
+use Rattle.std.proofs.Common.{sym, ap, ap₂, subst, ◌∙◌, arith}
 use Rattle.std.proofs.Math.Decide.{ℕ_discrete, dec_lt}
 use Rattle.std.proofs.lemmas.Bool.{lt-ltb, le-ltb, eq-eqb, ne_eqb}
 use Rattle.refusal.specs.Number.{number, number_of, refusal_of}
@@ -22,17 +22,9 @@ great_width : (w room : ℕ) → w ≢ 0 → 4096 < w → push_refusal w room �
 unfolding push_refusal
 great_width w room ne h = simp (ne_eqb w 0 ne, lt-ltb 4096 w h)
 
-pub bad_width : (w room : ℕ) → (w ≡ 0) ⊎ ((w ≢ 0) × (4096 < w)) → push_refusal w room ≡ 14
-bad_width w room (inl e) = zero_width w room e
-bad_width w room (inr h) = great_width w room h.0 h.1
-
-pub short_ring : (w room : ℕ) → w ≢ 0 → w ≤ 4096 → room < 3 * w → push_refusal w room ≡ 13
+short_ring : (w room : ℕ) → w ≢ 0 → w ≤ 4096 → room < 3 * w → push_refusal w room ≡ 13
 unfolding push_refusal
 short_ring w room ne h g = simp (ne_eqb w 0 ne, le-ltb 4096 w h, lt-ltb room (3 * w) g)
-
-pub fair : (w room : ℕ) → w ≢ 0 → w ≤ 4096 → 3 * w ≤ room → push_refusal w room ≡ 0
-unfolding push_refusal
-fair w room ne h g = simp (ne_eqb w 0 ne, le-ltb 4096 w h, le-ltb room (3 * w) g)
 
 cond_le : (b : Bool) (x y m : ℕ) → x ≤ m → y ≤ m → cond b x y ≤ m
 cond_le true x y m h g = h

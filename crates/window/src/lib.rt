@@ -7,6 +7,7 @@ ghost use Rattle.refusal.specs.Number.{number_of};
 ghost use Rattle.window.specs.Figures.{corrected_by};
 ghost use Rattle.window.specs.Push.{push_refusal, slot_of, next_at, next_words, slid, leaving, written, moved, Pushes};
 
+use decoder_words::Noted;
 use refusal::Refusal;
 
 // What a window reads of a word's record, and the ring holds of it.
@@ -17,6 +18,18 @@ pub struct Record {
     pub iterations: u32,
     // 4,294,967,295 for a lost word.
     pub bch: u32,
+}
+
+impl From<Noted> for Record {
+    ghost from_gives = { λ noted of. of ≡ record { state = noted.state; iterations = noted.iterations; bch = noted.bch } };
+
+    fn from(noted: Noted) -> Record {
+        Record {
+            state: noted.state,
+            iterations: noted.iterations,
+            bch: noted.bch,
+        }
+    }
 }
 
 // The slot of the ring that the next record takes, how many records the window covers, and its figures over them. Zeros: an empty window.
@@ -30,6 +43,7 @@ pub struct Window {
 }
 
 // Refused by 14, a width of 0 or above 4,096, then by 13, a shorter ring.
+#[tactic(auto, unfolding(crate::specs::Push::push_refusal))]
 fn accept(width: u32, room: usize) -> Result<(), Refusal>
     ensures { number_of result ≡ push_refusal width room }
 {
@@ -43,6 +57,7 @@ fn accept(width: u32, room: usize) -> Result<(), Refusal>
 }
 
 // What a record adds to the corrected bits.
+#[tactic(auto, unfolding(crate::specs::Figures::corrected_by, outcome::specs::Outcome::is_lost, outcome::specs::Outcome::lost))]
 fn corrected_by(of: Record) -> u32
     ensures { result ≡ corrected_by of }
 {
@@ -50,18 +65,21 @@ fn corrected_by(of: Record) -> u32
 }
 
 // A sum with one number more and one less.
+#[tactic(auto, unfolding(crate::specs::Push::slid))]
 fn slide(sum: u64, more: u32, less: u32) -> u64
     ensures { result ≡ slid sum more less }
 {
     sum.wrapping_add(more as u64).wrapping_sub(less as u64)
 }
 
+#[tactic(auto, unfolding(crate::specs::Push::slot_of))]
 fn slot_of(width: u64, at: u64) -> u64
     ensures { result ≡ slot_of width at }
 {
     if at < width { at } else { 0 }
 }
 
+#[tactic(auto, unfolding(crate::specs::Push::next_at))]
 fn next_at(width: u64, slot: u64) -> u64
     requires { slot < width }
     ensures { result ≡ next_at width slot }
@@ -69,6 +87,7 @@ fn next_at(width: u64, slot: u64) -> u64
     if slot + 1 == width { 0 } else { slot + 1 }
 }
 
+#[tactic(auto, unfolding(crate::specs::Push::next_words))]
 fn next_words(width: u64, words: u64) -> u64
     ensures { result ≡ next_words width words }
 {
@@ -76,6 +95,7 @@ fn next_words(width: u64, words: u64) -> u64
 }
 
 // The record that leaves: a full window's oldest, whose slot it is; else zeros.
+#[tactic(auto, unfolding(crate::specs::Push::leaving, crate::specs::Push::record_in))]
 fn oldest(width: u64, words: u64, ring: &[u32], slot: usize) -> Record
     requires { 3 * slot + 3 ≤ length ring.now }
     ensures { result ≡ leaving width words ring.now slot }
@@ -91,6 +111,7 @@ fn oldest(width: u64, words: u64, ring: &[u32], slot: usize) -> Record
     }
 }
 
+#[tactic(auto, unfolding(crate::specs::Push::written))]
 fn put(ring: &mut [u32], slot: usize, of: Record)
     requires { 3 * slot + 3 ≤ length ring.old }
     ensures { ring.new ≡ written ring.old slot of }
@@ -101,6 +122,7 @@ fn put(ring: &mut [u32], slot: usize, of: Record)
 }
 
 // The window with `new` in its slot, which `old` leaves.
+#[tactic(auto, unfolding(crate::specs::Push::moved, crate::specs::Figures::lost_by, crate::specs::Figures::iterations_by))]
 fn advance(width: u64, was: Window, slot: u64, old: Record, new: Record) -> Window
     requires { slot < width }
     ensures { result ≡ moved width was slot old new }
@@ -118,6 +140,7 @@ fn advance(width: u64, was: Window, slot: u64, old: Record, new: Record) -> Wind
 
 // One record more. `ring` has 3 numbers for each of the `width` records: the window's own, handed on with it.
 // Refused by 14 (a width of 0 or above 4,096), then 13 (a shorter ring).
+#[tactic(auto, using(crate::proofs::PushLaws::accepted, crate::specs::Ring::slot_below))]
 pub fn push(width: u32, was: Window, new: Record, ring: &mut [u32]) -> Result<Window, Refusal>
     ensures { Pushes width was new ring.old ring.new result }
 {

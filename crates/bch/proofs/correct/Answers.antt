@@ -10,22 +10,16 @@ pub returns-in_default : goal.returns-in_default
 returns-in_default c =
     too_long c.args.word.now c.syndromes.result _ 13 (λ j h. c.syndromes.ensures.at j h ∙ of_remainder c.args.word.now (value_of c.args.r) j c.requires.2 h) c.in_default.ensures (omega arith)
 
-pub chien-found-requires : goal.chien-found-requires
-chien-found-requires c = (c.in-Some.ensures.1, omega (arith, c.requires.1), (c.in-Some.ensures.0.gen c.in-Some.ensures.1).head)
-
-pub flip-requires : goal.flip-requires
-flip-requires c = rw c.as_slice.ensures.value c.chien-found.ensures.inside
-
-pub returns-then-len : goal.returns-then-len
-returns-then-len c =
+pub returns-then-len-register : goal.returns-then-len-register
+returns-then-len-register c =
     located_to _ _ (rw c.as_slice.ensures.value at c.flip.ensures)
     (all_found c.args.word.now c.syndromes.result c.in-Some.register.c c.in-Some.register.len
     (λ j h. c.syndromes.ensures.at j h ∙ of_remainder c.args.word.now (value_of c.args.r) j c.requires.2 h)
     c.in-Some.ensures.0 c.in-Some.ensures.1 c.chien-found.result.items c.chien-found.ensures (omega arith))
 
-pub returns-else-len : goal.returns-else-len
-returns-else-len c =
+pub returns-else-len-register : goal.returns-else-len-register
+returns-else-len-register c =
     located_to _ _ (rw c.as_slice.ensures.value at c.flip.ensures)
     (some_missing c.args.word.now c.syndromes.result c.in-Some.register.c c.in-Some.register.len
     (λ j h. c.syndromes.ensures.at j h ∙ of_remainder c.args.word.now (value_of c.args.r) j c.requires.2 h)
-    c.in-Some.ensures.0 c.in-Some.ensures.1 c.chien-found.result.items c.chien-found.ensures (λ e. c.if-len.false (omega arith)))
+    c.in-Some.ensures.0 c.in-Some.ensures.1 c.chien-found.result.items c.chien-found.ensures (λ e. c.if-len-register.false (omega arith)))

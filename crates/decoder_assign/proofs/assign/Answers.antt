@@ -1,21 +1,30 @@
-use Rattle.std.proofs.Common.{◌∙◌, arith}
-use Rattle.decoder_assign.proofs.Held.{some_of}
-use Rattle.decoder_assign.proofs.Filling.{filling_start, filling_quick, filling_hold, filling_end}
+use Rattle.std.proofs.Common.{not, ap, ◌∙◌, arith, refl}
+use Rattle.decoder_assign.specs.Taken.{held_length, iters_length, held_none, held_some, held_set, iters_set}
+use Rattle.decoder_assign.proofs.Filling.{filling_start, filling_next, filling_quick, filling_hold, filling_end}
 use Rattle.decoder_assign.proofs.assign.Goals as goal
+use Rattle.decoder_assign.proofs.assign.Goals.{then-loop-word-test+else-next-order, else-loop-word-test}
 
 pub loop-l-init : goal.loop-l-init
-loop-l-init c = filling_start _ _ _ _ _ _ _ _ c.requires.lanes.0
+loop-l-init c = filling_start _ _ _ _ _ _ _ _ c.requires.order.1
 
-pub loop-held-preserved-then-at_once : goal.loop-held-preserved-then-at_once
-loop-held-preserved-then-at_once c =
-    filling_quick _ _ _ _ c.loop-held.invariant c.loop-l-test.true c.loop-held-test.true c.if-next-order.true _ c.at_once.ensures _ c.if-at_once.true
-    (c.requires.given.1 c.loop-held.next c.if-next-order.true) c.finish_soft.ensures.only c.finish_soft.ensures.over
+pub loop-word-preserved-then-at_once : goal.loop-word-preserved-then-at_once
+loop-word-preserved-then-at_once c =
+    filling_quick _ _ _ _ c.loop-word.invariant c.loop-l-test.true (held_none c.loop-word.taken c.loop-l.l (c.is_none.ensures ∙ ap not c.loop-word-test.true)) c.if-next-order.true _ c.at_once.ensures _ c.if-at_once.true
+    (c.requires.order.0 c.loop-word.next c.if-next-order.true) c.finish_soft.ensures.only c.finish_soft.ensures.over
 
-pub loop-held-preserved : goal.loop-held-preserved
-loop-held-preserved c =
-    filling_hold _ _ _ _ c.loop-held.invariant c.loop-l-test.true c.loop-held-test.true c.if-next-order.true _ c.at_once.ensures c.if-at_once.false
-    (omega (arith, c.requires.given.0.fair.few_lanes, c.requires.lanes.1.held_fit, c.loop-held.invariant.takes.held_fit))
-    (omega (arith, c.requires.given.0.fair.few_lanes, c.requires.lanes.1.iters_fit, c.loop-held.invariant.takes.iters_fit))
+pub loop-word-preserved : goal.loop-word-preserved
+loop-word-preserved c =
+    let taken = c.loop-word.taken in
+    rw (held_set, iters_set)
+    (filling_hold _ _ _ _ c.loop-word.invariant c.loop-l-test.true (held_none taken c.loop-l.l (c.is_none.ensures ∙ ap not c.loop-word-test.true)) c.if-next-order.true _ c.at_once.ensures c.if-at_once.false
+    (omega (arith, c.args.run.given.fair.few_lanes, held_length taken, held_length c.args.at.taken)) (omega (arith, c.args.run.given.fair.few_lanes, iters_length taken, iters_length c.args.at.taken)))
+
+pub loop-l-preserved : goal.loop-l-preserved
+loop-l-preserved c =
+    filling_next _ _ _ _ c.loop-word.invariant (elim c.loop-word-test.branch [
+      | then-loop-word-test+else-next-order w ↦ λ _. omega arith
+      | else-loop-word-test w ↦ λ e. absurd (held_some c.loop-word.taken c.loop-l.l (c.is_none.ensures ∙ ap not w.loop-word-test.false) e)
+    ])
 
 pub returns : goal.returns
-returns c = filling_end _ _ _ _ c.loop-l.invariant _ (omega arith) (c.some_held-busy.ensures ∙ some_of c.loop-l.held c.args.plan.lanes (omega (arith, c.requires.given.0.fair.few_lanes, c.requires.lanes.1.held_fit, c.loop-l.invariant.takes.held_fit)))
+returns c = filling_end _ _ _ _ c.loop-l.invariant _ (omega arith) refl

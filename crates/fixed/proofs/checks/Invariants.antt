@@ -8,4 +8,4 @@ invariant-loop-x l =
     (length l.work ≡ length l.initial.work)
     × (length l.t ≡ length l.initial.t)
     × (length l.u ≡ length l.initial.u)
-    × InTurn l.n l.p l.lanes l.offset l.lists l.first l.q l.initial.work l.x l.work
+    × InTurn l.turns.code.n l.turns.code.p l.turns.lanes l.turns.offset l.turns.code.lists.now l.turns.first l.turns.q l.initial.work l.x l.work

@@ -9,4 +9,8 @@ loop-j-init c = (refl, filled_start false (VerdictIn c.args.n c.args.p c.args.la
 
 pub loop-j-preserved : goal.loop-j-preserved
 loop-j-preserved c =
-    (omega (arith, c.judge.ensures.long), filled_again c.loop-j.j c.loop-j.invariant.1 c.judge.ensures (verdicts_in c.unheld-first.ensures c.met_rows.ensures))
+    let code = c.new-code.ensures in (
+      omega (arith, c.judge.ensures.long),
+      filled_again c.loop-j.j c.loop-j.invariant.1 c.judge.ensures
+          (verdicts_in c.unheld.ensures (rw (code.lists, code.sizes.0, code.sizes.1) at c.met_rows.ensures)),
+    )

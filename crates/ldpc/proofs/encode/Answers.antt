@@ -1,38 +1,43 @@
 -- `ldpc::encode` meets its contract. Assumes nothing.
+use Rattle.std.proofs.Common.{◌≡◌, Err, rules, refl, ap, ◌∙◌, length}
 use Rattle.ldpc_shape.specs.declared.Sizes.{Sizes}
-use Rattle.ldpc.proofs.Exits.{encode_refused, encode_other, encode_short, encode_done}
-use Rattle.std.proofs.Common.{◌≡◌, Err, rules, sym, ap, ◌∙◌}
+use Rattle.ldpc_shape.specs.Shape.{k_of, code_refusal}
 use Rattle.refusal.specs.Number.{number_of}
+use Rattle.ldpc_edges.specs.Code.{encode}
+use Rattle.ldpc.specs.Answers.{other_of, encode_refusal, encode_answer, encode_into}
 use Rattle.ldpc.specs.AnswersLaws.{encode_number}
+use Rattle.ldpc.proofs.Exits.{two_first, out_refused, out_short, out_done, lent}
 use Rattle.ldpc.proofs.encode.Goals as goal
 
-pub returns-in_err-sizes : goal.returns-in_err-sizes
-returns-in_err-sizes c =
-    let f : c.from_residual.result ≡ Err c.in_err-sizes.field-0.0 = search rules in
-    let e = encode_refused c.args.n c.args.lens.now c.args.addrs.now c.args.info.now c.args.out.now _ c.in_err-sizes.ensures.number in
-    record { answer = (f ∙ e.0, e.1); number = ap number_of (f ∙ e.0) ∙ encode_number _ _ _ _ _ }
-
-pub returns-then-info-sizes : goal.returns-then-info-sizes
-returns-then-info-sizes c =
+pub returns-in_err-of : goal.returns-in_err-of
+unfolding encode_answer encode_refusal encode_into
+returns-in_err-of c =
+    let f : c.from_residual.result ≡ Err c.in_err-of.field-0.0 = search rules in
     let e =
-    encode_other c.args.n c.args.lens.now c.args.addrs.now c.args.info.now c.args.out.now (sym c.in_ok-sizes.ensures.number) _
-    (ap (λ (z : Sizes). z.k) c.in_ok-sizes.ensures.sizes) c.if-info-sizes.true
+    out_refused (tt {0}) (encode c.args.n c.args.lens.now c.args.addrs.now c.args.info.now) c.args.out.now _ c.args.n _
+    (two_first (code_refusal c.args.n c.args.lens.now c.args.addrs.now) (other_of (length c.args.info.now) (k_of c.args.lens.now)) _) _ _ f c.in_err-of.ensures.number
     in
-    record { answer = e; number = ap number_of e.0 ∙ encode_number _ _ _ _ _ }
+    record { answer = e; number = ap number_of e.0 ∙ encode_number c.args.n c.args.lens.now c.args.addrs.now _ _ }
 
-pub returns-then-out-size : goal.returns-then-out-size
-returns-then-out-size c =
+pub returns-in_err-out : goal.returns-in_err-out
+unfolding encode_answer encode_refusal encode_into
+returns-in_err-out c =
+    let f : c.from_residual-in_err-out.result ≡ Err c.in_err-out.field-0.0 = search rules in
     let e =
-    encode_short c.args.n c.args.lens.now c.args.addrs.now c.args.info.now c.args.out.now (sym c.in_ok-sizes.ensures.number) _
-    (ap (λ (z : Sizes). z.k) c.in_ok-sizes.ensures.sizes) c.if-info-sizes.false _ (ap (λ (z : Sizes). z.n) c.in_ok-sizes.ensures.sizes) c.if-out-size.true
+    out_short (tt {0}) (encode c.args.n c.args.lens.now c.args.addrs.now c.args.info.now) c.args.out.now _ c.args.n _
+    (two_first (code_refusal c.args.n c.args.lens.now c.args.addrs.now) (other_of (length c.args.info.now) (k_of c.args.lens.now)) _)
+    c.in_ok-of.ensures.number _ (ap (λ (z : Sizes). z.n) c.in_ok-of.ensures.table.0) _ c.split_at_mut_checked.ensures.cases _ _ f c.in_err-out.ensures.value
     in
-    record { answer = e; number = ap number_of e.0 ∙ encode_number _ _ _ _ _ }
+    record { answer = e; number = ap number_of e.0 ∙ encode_number c.args.n c.args.lens.now c.args.addrs.now _ _ }
 
 pub returns : goal.returns
+unfolding encode_answer encode_refusal encode_into
 returns c =
+    let t = c.in_ok-of.ensures.table in
     let e =
-    encode_done c.args.n c.args.lens.now c.args.addrs.now c.args.info.now c.args.out.now (sym c.in_ok-sizes.ensures.number) _
-    (ap (λ (z : Sizes). z.k) c.in_ok-sizes.ensures.sizes) c.if-info-sizes.false _ (ap (λ (z : Sizes). z.n) c.in_ok-sizes.ensures.sizes) c.if-out-size.false _
-    c.encode_of.ensures
+    out_done (tt {0}) (encode c.args.n c.args.lens.now c.args.addrs.now c.args.info.now) c.args.out.now _ c.args.n _
+    (two_first (code_refusal c.args.n c.args.lens.now c.args.addrs.now) (other_of (length c.args.info.now) (k_of c.args.lens.now)) _)
+    c.in_ok-of.ensures.number _ (ap (λ (z : Sizes). z.n) t.0) _ c.split_at_mut_checked.ensures.cases (c.in_ok-out.front, c.in_ok-out.field-0-1) c.in_ok-out.ensures.value (tt {0}) _ c.encode_of.auto.out refl
+    (c.encode_of.ensures ∙ lent c.in_ok-of.of c.args.n c.args.lens.now c.args.addrs.now t.0 t.1 t.2 (λ n lens addrs. encode n lens addrs c.args.info.now))
     in
-    record { answer = e; number = ap number_of e.0 ∙ encode_number _ _ _ _ _ }
+    record { answer = e; number = ap number_of e.0 ∙ encode_number c.args.n c.args.lens.now c.args.addrs.now _ _ }

@@ -21,7 +21,7 @@ overflow_add-e-in-loop-i c =
 
 pub loop-i-preserved : goal.loop-i-preserved
 loop-i-preserved c =
-    let fact : c.args.checks < length c.loop-i.lists = omega (arith, c.loop-i.auto.lists, c.requires.3) in record {
+    let fact : c.args.checks < length c.loop-i.starts = omega (arith, c.loop-i.auto.starts, c.requires.3) in record {
       sum = ending_next c.args.counts.now c.args.q c.loop-i.i c.loop-i.e _ c.stair.ensures.0 c.loop-i.invariant.sum;
-      set = ends_again c.args.counts.now c.args.q c.loop-i.lists c.loop-i.i c.loop-i.e _ (omega arith) c.stair.ensures.0 c.loop-i.invariant.sum c.loop-i.invariant.set;
+      set = ends_again c.args.counts.now c.args.q c.loop-i.starts c.loop-i.i c.loop-i.e _ (omega arith) c.stair.ensures.0 c.loop-i.invariant.sum c.loop-i.invariant.set;
     }

@@ -1,8 +1,8 @@
 -- The core's run over the program's own numbers, its records written, and the tally.
-use Rattle.std.proofs.Common.{refl, ap, ◌∙◌, ◌*◌, Err, arith, set}
+use Rattle.std.proofs.Common.{refl, ◌∙◌, ◌*◌, Err, arith}
 use Rattle.std.proofs.lemmas.Result.{err_from_is_err_and}
 use Rattle.decoder_words.specs.Fields.{fields}
-use Rattle.meter.specs.Laws.{min_room, recorded_so, records_again}
+use Rattle.meter.specs.Laws.{min_room, recorded_so}
 use Rattle.meter.proofs.Metering.{metered, metered_stored}
 use Rattle.meter.proofs.run.Goals as goal
 
@@ -13,12 +13,8 @@ returns-in_err-ran c =
     (metered (Err c.in_err-ran.field-0.0)
     (recorded_so _ c.min-size.result (4096 * fields) _ c.core.new.records (c.min-size.ensures ∙ min_room _) refl c.core.auto.records c.in_err-ran.ensures) refl refl)
 
-pub loop-w-preserved : goal.loop-w-preserved
-loop-w-preserved c =
-    ap (λ x. set c.loop-w.records c.loop-w.w x) c.read.ensures ∙ records_again _ c.loop-w.w _ c.loop-w.records c.loop-w.invariant
-
 pub returns : goal.returns
 returns c =
-    metered_stored c.args.tally.now c.in_ok-ran.ran
+    metered_stored c.in_ok-ran.ran
     (recorded_so _ c.min-size.result (4096 * fields) _ c.core.new.records (c.min-size.ensures ∙ min_room _) refl c.core.auto.records c.in_ok-ran.ensures)
-    c.loop-w.w c.loop-w.invariant (omega arith)
+    c.loop-w.w c.loop-w.invariant (omega arith) c.from.ensures

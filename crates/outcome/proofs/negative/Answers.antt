@@ -1,23 +1,22 @@
-use Rattle.std.proofs.Common.{refl, ap, ◌∙◌, ◌+◌, arith}
-use borrow.Author.Rules.{sfits_of}
-use Rattle.laws.specs.Signed.{plain}
+use Rattle.std.proofs.Common.{◌≡◌, refl, sym, ap, ◌∙◌, ◌+◌, zero-add, arith, rules}
 use Rattle.iteration.specs.Lists.{var}
 use Rattle.iteration.specs.Iteration.{negatives, hard}
 use Rattle.outcome.specs.Soft.{values, negatives_le, negatives_again}
 use Rattle.outcome.proofs.negative.Goals as goal
+use Rattle.outcome.proofs.negative.Goals.{After-from-count}
 
-pub loop-k-init : goal.loop-k-init
+more : (c : After-from-count) → c.loop-v.count + c.from-count.result ≡ negatives (var c.args.rows.now) 0 (c.loop-v.v-index + 1) (values c.args.soft.now)
+more c =
+    negatives_again (var c.args.rows.now) 0 c.loop-v.v-index (values c.args.soft.now) c.loop-v.count c.from-count.result c.loop-v.invariant
+    (let e : c.bit.result ≡ hard (values c.args.soft.now (var c.args.rows.now c.loop-v.v-index)) = search rules in
+    c.from-count.ensures ∙ e ∙ ap (λ k. hard (values c.args.soft.now (var c.args.rows.now k))) (sym (zero-add c.loop-v.v-index)))
+
+pub loop-v-init : goal.loop-v-init
 unfolding negatives
-loop-k-init c = refl
+loop-v-init c = refl
 
 pub overflow_add-count : goal.overflow_add-count
-overflow_add-count c =
-    omega (
-      arith,
-      negatives_again (var c.args.rows.now) c.args.s c.loop-k.k (values c.args.soft.now) c.loop-k.count c.from-count.result c.loop-k.invariant (c.from-count.ensures ∙ c.bit.ensures ∙ ap hard (plain _ (sfits_of c.bit-arg-1.given) ∙ ap (values c.args.soft.now) c.variable-v.ensures)),
-      negatives_le (var c.args.rows.now) c.args.s (c.loop-k.k + 1) (values c.args.soft.now),
-      c.ranges.d,
-    )
+overflow_add-count c = omega (arith, more c, negatives_le (var c.args.rows.now) 0 (c.loop-v.v-index + 1) (values c.args.soft.now))
 
-pub loop-k-preserved : goal.loop-k-preserved
-loop-k-preserved c = negatives_again (var c.args.rows.now) c.args.s c.loop-k.k (values c.args.soft.now) c.loop-k.count c.from-count.result c.loop-k.invariant (c.from-count.ensures ∙ c.bit.ensures ∙ ap hard (plain _ (sfits_of c.bit-arg-1.given) ∙ ap (values c.args.soft.now) c.variable-v.ensures))
+pub loop-v-preserved : goal.loop-v-preserved
+loop-v-preserved c = more c

@@ -5,5 +5,5 @@ use Rattle.iteration.specs.Iteration.{negatives}
 use Rattle.outcome.specs.Soft.{values}
 use Rattle.outcome.proofs.negative.Given as goal
 
-abbrev pub invariant-loop-k : goal.invariant-loop-k
-invariant-loop-k l = l.count ≡ negatives (var l.rows) l.s l.k (values l.soft)
+abbrev pub invariant-loop-v : goal.invariant-loop-v
+invariant-loop-v l = l.count ≡ negatives (var l.rows) 0 l.v-index (values l.soft)

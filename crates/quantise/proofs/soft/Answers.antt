@@ -1,16 +1,13 @@
 use Rattle.std.proofs.Common.{◌≡◌, true, false, sym, ◌∙◌, ap₂, le-leb}
 use Rattle.std.proofs.lemmas.Bool.{lt-leb}
-use lib.Ieee.{binary32, mul}
-use lib.Ieee.Fits.{mul-fits}
+use Rattle.std.specs.Float.Ieee.{binary32, mul}
+use Rattle.std.specs.Float.Ieee.Fits.{mul-fits}
 use Rattle.quantise.specs.Soft.{signed, soft_value}
-use Rattle.quantise.proofs.Floats.{bits_soft, not_nan, nan_soft, read_back, neg_fits, neg_back}
+use Rattle.quantise.proofs.Floats.{bits_soft, not_nan, nan_soft, read_back, neg_back}
 use Rattle.quantise.proofs.soft.Goals as goal
 
 pub returns-then-is_nan : goal.returns-then-is_nan
 returns-then-is_nan c = nan_soft (mul binary32 c.args.x c.args.scale) (sym c.is_nan.ensures.value ∙ c.if-is_nan.true)
-
-pub overflow_sub-result : goal.overflow_sub-result
-overflow_sub-result c = neg_fits c.magnitude-n.result c.magnitude-n.ensures.1
 
 pub returns-then-bits-lt2147483648 : goal.returns-then-bits-lt2147483648
 returns-then-bits-lt2147483648 c =

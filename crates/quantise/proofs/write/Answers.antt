@@ -1,7 +1,6 @@
-use Rattle.std.proofs.Common.{◌∙◌}
+use Rattle.std.proofs.Common.{◌∙◌, w8}
 use Rattle.std.specs.Float.{nan}
-use mir.Syntax.{w8}
-use mir.ValLaws.{to_z-of_z}
+use Rattle.std.proofs.lemmas.Int.{to_z-of_z}
 use Rattle.quantise.specs.Soft.{soft_of}
 use Rattle.quantise.proofs.Writes.{upto_again}
 use Rattle.quantise.proofs.write.Goals as goal

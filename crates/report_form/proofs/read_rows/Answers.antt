@@ -1,6 +1,6 @@
-use Rattle.std.proofs.Common.{sym, subst, List, ℕ, ◌<◌, arith}
+use Rattle.std.proofs.Common.{◌<◌, arith}
 use Rattle.report_form.proofs.Lists.{goes_yes}
-use Rattle.report_form.proofs.RowLists.{RowsSoFar, rows_room, rows_again, rows_none}
+use Rattle.report_form.proofs.RowLists.{rows_room, rows_none}
 use Rattle.report_form.proofs.read_rows.Goals as goal
 
 pub read_row-requires : goal.read_row-requires
@@ -12,10 +12,3 @@ pub returns-in_err-length : goal.returns-in_err-length
 returns-in_err-length c =
     rw c.from_residual.ensures
     (rows_none c.loop-addresses.invariant (goes_yes c.goes_on.ensures c.loop-addresses-test.true).1 c.in_err-length.ensures)
-
-pub loop-addresses-preserved : goal.loop-addresses-preserved
-loop-addresses-preserved c =
-    let room : c.len.result < 3 = (goes_yes c.goes_on.ensures c.loop-addresses-test.true).0 in
-    subst (λ (l : List ℕ). RowsSoFar l c.read_row.new.addresses.items c.args.text.now c.in_ok-length.after.now) (sym c.push.ensures.items)
-    (rows_again c.loop-addresses.invariant c.in_ok-length.ensures
-    (omega (arith, c.len.ensures.value, room)))

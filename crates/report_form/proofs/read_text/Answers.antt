@@ -1,14 +1,8 @@
-use Rattle.report_form.proofs.Whole.{head_bound, no_head, no_rows, no_settings, no_words, one_description}
+use Rattle.report_form.proofs.Whole.{no_rows, no_words, one_description}
 use Rattle.report_form.proofs.read_text.Goals as goal
-
-pub returns-in_err-n : goal.returns-in_err-n
-returns-in_err-n c = rw c.from_residual.ensures (no_head c.in_err-n.ensures)
 
 pub returns-in_err-rows : goal.returns-in_err-rows
 returns-in_err-rows c = rw c.from_residual-in_err-rows.ensures (no_rows c.in_ok-n.ensures c.in_err-rows.ensures)
-
-pub returns-in_err-settings : goal.returns-in_err-settings
-returns-in_err-settings c = rw c.from_residual-in_err-settings.ensures (no_settings c.in_ok-n.ensures c.in_ok-rows.ensures c.in_err-settings.ensures)
 
 pub returns-in_err-words : goal.returns-in_err-words
 returns-in_err-words c =

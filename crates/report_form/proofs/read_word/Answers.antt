@@ -2,14 +2,8 @@ use Rattle.std.proofs.Common.{ap, ◌∙◌, length, replicate, rules}
 use mir.Syntax.{w8}
 use mir.ValLaws.{to_z-of_z}
 use Rattle.report_form.specs.Form.{match_both}
-use Rattle.report_form.proofs.Words.{no_word_letter, no_default, no_pairs, word_found}
+use Rattle.report_form.proofs.Words.{no_pairs, word_found}
 use Rattle.report_form.proofs.read_word.Goals as goal
-
-pub returns-in_err-rest : goal.returns-in_err-rest
-returns-in_err-rest c = rw c.from_residual.ensures (no_word_letter (length c.args.word.now) c.in_err-rest.ensures)
-
-pub returns-in_err-value : goal.returns-in_err-value
-returns-in_err-value c = rw c.from_residual-in_err-value.ensures (no_default (length c.args.word.now) c.in_ok-rest.ensures c.in_err-value.ensures)
 
 pub returns : goal.returns
 returns c =

@@ -1,10 +1,7 @@
 use Rattle.std.proofs.Common.{inr, Ok, Err}
 use Rattle.report_text.specs.Report.{lines_of}
-use Rattle.report_text.specs.Room.{run_so, run_writable}
+use Rattle.report_text.specs.Room.{run_so}
 use Rattle.report_text.proofs.report.Goals as goal
-
-pub accepted-requires : goal.accepted-requires
-accepted-requires c = run_writable c.in-Ok.ensures c.in-Ok-run.ensures
 
 pub returns-in-Ok-run : goal.returns-in-Ok-run
 returns-in-Ok-run c =

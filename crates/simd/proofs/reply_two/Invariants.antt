@@ -5,4 +5,4 @@ use Rattle.simd.proofs.reply_two.Given as goal
 
 abbrev pub invariant-loop-k : goal.invariant-loop-k
 invariant-loop-k l =
-    (length l.work ≡ length l.initial.work) × AnsweringTwo l.rows l.check l.at l.t l.one l.u l.two l.initial.work l.k l.work
+    (length l.work ≡ length l.initial.work) × AnsweringTwo l.check l.at l.t l.one l.u l.two l.initial.work l.k l.work

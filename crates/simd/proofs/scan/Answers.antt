@@ -8,7 +8,7 @@ pub loop-k-init : goal.loop-k-init
 loop-k-init c =
     let check = c.args.check in (
       refl,
-      start (var c.args.rows.now) check.s check.n check.lanes c.args.at c.args.work.now c.args.t.now,
+      start (var check.rows.now) check.s check.n check.lanes c.args.at c.args.work.now c.args.t.now,
     )
 
 pub loop-k-preserved : goal.loop-k-preserved

@@ -4,4 +4,4 @@ use Rattle.simd.specs.Memory.{Scanning}
 use Rattle.simd.proofs.scan.Given as goal
 
 abbrev pub invariant-loop-k : goal.invariant-loop-k
-invariant-loop-k l = (length l.t ≡ length l.initial.t) × Scanning l.rows l.check l.at l.work l.k l.t l.st
+invariant-loop-k l = (length l.t ≡ length l.initial.t) × Scanning l.check l.at l.work l.k l.t l.st

@@ -9,14 +9,14 @@ pub loop-at-preserved : goal.loop-at-preserved
 loop-at-preserved c = (
   omega (arith, c.chunk-at.ensures.0.1),
   omega (arith, c.loop-at.invariant.1),
-  omega (arith, c.loop-at.invariant.2),
-  upto_again c.loop-at.invariant.3 c.chunk-at.ensures.1,
+  upto_again c.loop-at.invariant.2 c.chunk-at.ensures.1,
 )
 
 pub returns : goal.returns
 returns c =
+    let check = c.args.check in
     subst
-    (λ (o : ℤ). Checked (shared_in c.args.flags.now) c.args.rows.now c.args.s c.args.d c.args.n c.args.lanes c.args.place o
+    (λ (o : ℤ). Checked (shared_in c.args.flags.now) check.rows.now check.s check.d check.n check.lanes c.args.place o
     c.args.work.now c.loop-at.work) (plain c.args.offset c.ranges.offset)
-    (checked c.requires.check_memory.0 c.requires.in_bounds.1.1
-    (upto_end (omega (arith, c.loop-at-test.false)) c.loop-at.invariant.3))
+    (checked check.in_rows c.requires.in_bounds.1
+    (upto_end (omega (arith, c.loop-at-test.false)) c.loop-at.invariant.2))

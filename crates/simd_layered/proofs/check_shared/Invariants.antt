@@ -8,11 +8,10 @@ use Rattle.simd_layered.proofs.check_shared.Given as goal
 
 abbrev pub invariant-loop-at : goal.invariant-loop-at
 invariant-loop-at l =
-    (l.at ≤ l.lanes)
+    (l.at ≤ l.check.lanes)
     × (length l.work ≡ length l.initial.work)
-    × (length l.t ≡ length l.initial.t)
-    × Upto (run_column (shared_in l.flags) l.offset (var l.rows) l.s l.d l.n (length l.rows) l.place) l.lanes l.at
+    × Upto (run_column (shared_in l.flags) l.offset (var l.check.rows.now) l.check.s l.check.d l.check.n (length l.check.rows.now) l.place) l.check.lanes l.at
     l.initial.work l.work
 
 abbrev pub decreases-loop-at : goal.decreases-loop-at
-decreases-loop-at l = l.lanes - l.at
+decreases-loop-at l = l.check.lanes - l.at

@@ -1,6 +1,6 @@
 use Rattle.std.proofs.Common.{sym, ◌∙◌, subst, Bool, not, ◌%◌, T, le-ltb}
-use lib.Ieee.{binary32}
-use lib.Ieee.Bits.{nan_bits_above}
+use Rattle.std.specs.Float.Ieee.{binary32}
+use Rattle.std.specs.Float.Ieee.Bits.{nan_bits_above}
 use Rattle.vectors_quantise.proofs.float.Goals as goal
 
 pub float_from_bits-result : goal.float_from_bits-result

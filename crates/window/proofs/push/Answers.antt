@@ -1,10 +1,9 @@
-use Rattle.std.proofs.Common.{◌≡◌, length, sym, ◌∙◌, subst, arith, rules, Result, Err}
+use Rattle.std.proofs.Common.{◌≡◌, sym, ◌∙◌, subst, rules, Result, Err}
 use Rattle.refusal.specs.declared.Refusal.{Refusal}
 use Rattle.window.specs.declared.Window.{Window}
 use Rattle.window.specs.Push.{Pushes}
-use Rattle.window.specs.Ring.{slot_below}
 use Rattle.window.specs.Series.{passed_over}
-use Rattle.window.proofs.PushLaws.{accepted, refuses, accepts, takes}
+use Rattle.window.proofs.PushLaws.{refuses, accepts, takes}
 use Rattle.window.proofs.push.Goals as goal
 
 pub returns-in_err-accept : goal.returns-in_err-accept
@@ -17,24 +16,6 @@ pub returns-then-not-is_finished : goal.returns-then-not-is_finished
 returns-then-not-is_finished c =
     accepts c.args.width c.args.was c.args.new c.args.ring.now (sym c.in_ok-accept.ensures) _
     (sym (passed_over c.args.width (record { window = c.args.was; ring = c.args.ring.now }) c.args.new (sym c.is_finished.ensures ∙ c.if-not-is_finished.true)))
-
-pub oldest-old-requires : goal.oldest-old-requires
-oldest-old-requires c =
-    let k = accepted c.args.width (length c.args.ring.now) (sym c.in_ok-accept.ensures) in
-    let s = slot_below c.args.width c.args.was.at (λ z. omega (arith, z, k.some)) in
-    omega (arith, c.slot_of-slot.ensures, s, k.long)
-
-pub put-requires : goal.put-requires
-put-requires c =
-    let k = accepted c.args.width (length c.args.ring.now) (sym c.in_ok-accept.ensures) in
-    let s = slot_below c.args.width c.args.was.at (λ z. omega (arith, z, k.some)) in
-    omega (arith, c.slot_of-slot.ensures, s, k.long)
-
-pub advance-requires : goal.advance-requires
-advance-requires c =
-    let k = accepted c.args.width (length c.args.ring.now) (sym c.in_ok-accept.ensures) in
-    let s = slot_below c.args.width c.args.was.at (λ z. omega (arith, z, k.some)) in
-    omega (arith, c.slot_of-slot.ensures, s)
 
 pub returns : goal.returns
 returns c =

@@ -22,5 +22,5 @@ loop-k-2-preserved c = (c.loop-k-2.invariant.0, block_again c.loop-k-2.invariant
 
 pub returns : goal.returns
 returns c =
-    let e : min (c.args.self.p - c.args.from) 120 ≡ c.loop-k-2.k = omega arith in
+    let e : min (c.args.self.code.p - c.args.from) 120 ≡ c.loop-k-2.k = omega arith in
     rw e c.loop-k-2.invariant.1

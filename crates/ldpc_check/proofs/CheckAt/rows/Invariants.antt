@@ -7,6 +7,6 @@ use Rattle.ldpc_check.proofs.CheckAt.rows.Given as goal
 abbrev pub invariant-loop-row : goal.invariant-loop-row
 invariant-loop-row l = record {
   below : l.n ≤ length l.out;
-  all : all_of l.self.q l.self.c l.lens l.addrs ≡ take l.n l.out ++ rest_of l.self.q l.self.c l.row-iterator;
+  all : all_of l.self.q l.self.c l.of.lens.now l.of.addrs.now ≡ take l.n l.out ++ rest_of l.self.q l.self.c l.row-iterator;
   kept : drop l.n l.out ≡ drop l.n l.initial.out;
 }

@@ -7,8 +7,8 @@ returns-in_err-len-clause-steps c =
     let e = no_rows c.args.self.now.first c.args.self.now.lens.now c.args.self.now.addrs.now c.in_err-len.ensures.cases in
     rw c.from_residual.ensures (e, e)
 
-pub overflow_sub-self : goal.overflow_sub-self
-overflow_sub-self c = omega (arith, last_total _ _ _ c.in_ok-len.ensures.cases.0, c.args.self.now.whole)
+pub overflow_sub-addrs : goal.overflow_sub-addrs
+overflow_sub-addrs c = omega (arith, last_total _ _ _ c.in_ok-len.ensures.cases.0, c.args.self.now.whole)
 
 pub invariant_of-self : goal.invariant_of-self
 invariant_of-self c = record {

@@ -1,6 +1,0 @@
--- `fixed_lanes::clear_part` meets its contract. Assumes nothing.
-use Rattle.fixed_lanes.specs.Part.{PartMasked}
-use Rattle.fixed_lanes.proofs.clear_part.Given as goal
-
-abbrev pub invariant-loop-k : goal.invariant-loop-k
-invariant-loop-k l = PartMasked l.u l.lanes l.at l.w l.q l.initial.work l.k l.work
