@@ -89,7 +89,7 @@ impl Class {
     }
 }
 
-// The low bits of the sums to the checks of a class. Not its method: as one the loop isn't vectorised, and parity takes a tenth more instructions.
+// The low bits of the sums to the checks of a class.
 fn scatter(out: &mut [u8], x: &[u8; GROUP], q: usize, l: usize)
     requires { (length out.old ≡ 374 * q) × (l < q) × (q ≤ 120) }
     ensures { Scattered 374 q l x.now out.old out.new }
