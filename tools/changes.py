@@ -33,19 +33,28 @@ def files(root, crate, part):
             yield os.path.join(d, f)
 
 
+def closing(t, k):
+    """Behind the parenthesis that closes the one at k."""
+    deep = 0
+    for j in range(k, len(t)):
+        deep += {"(": 1, ")": -1}.get(t[j], 0)
+        if deep == 0:
+            return j + 1
+    return len(t)
+
+
 def items(root):
-    """Public functions and types, by crate and name."""
+    """Public functions and types, by crate and name, and what an impl of a trait promises."""
     found = {}
     for c in crates(root):
         for path in files(root, c, "src"):
             t = bare(read(path), "//")
             owner = [(m.start(), m.group(1)) for m in re.finditer(r"^impl(?:<[^>]*>)? (?:[\w<>:]+ for )?(\w+)[^\n]*\{", t, re.M)]
             for m in re.finditer(r"^( *)pub (?:extern \"C\" )?fn (\w+)", t, re.M):
-                body = re.compile(r"^ *\{ *$|[^=]\{ *\n|\{[^}\n]*\}\n", re.M)
-                k = m.end()
+                k = closing(t, t.index("(", m.end()))
+                plain = re.match(r"\s*(?:->[^{\n]*)?\{", t[k:])
                 stop = re.compile(r"^" + m.group(1) + r"\{", re.M).search(t, k)
-                line = t.index("\n", k)
-                head = t[m.start():stop.start()] if stop and "{" not in t[k:line] else t[m.start():line]
+                head = t[m.start():k + plain.end()] if plain else t[m.start():stop.start()]
                 own = [n for s, n in owner if s < m.start()] if m.group(1) else []
                 found[c, (own[-1] + "::" if own else "") + m.group(2)] = folded(head.rstrip(" {"))
             for m in re.finditer(r"((?:^#\[derive[^\n]*\n)?)^pub (struct|enum|trait) (\w+)[^{;\n]*(\{.*?^\}|;)", t, re.M | re.S):
@@ -53,7 +62,25 @@ def items(root):
             for m in re.finditer(r"^( *)pub (?:const|static) (\w+): .*?;$", t, re.M | re.S):
                 own = [n for s, n in owner if s < m.start()] if m.group(1) else []
                 found[c, "const " + (own[-1] + "::" if own else "") + m.group(2)] = folded(m.group(0))[:400]
+            for m in re.finditer(r"^pub type (\w+) = .*?;$", t, re.M | re.S):
+                found[c, "type " + m.group(1)] = folded(m.group(0))
+            for m in re.finditer(r"^impl(?:<[^>\n]*>)? ([^{\n]* for [^{\n]*) \{(.*?)^\}", t, re.M | re.S):
+                for g in re.finditer(r"^    ghost (\w+) = .*?;$", m.group(2), re.M | re.S):
+                    found[c, f"{m.group(1)}: {g.group(1)}"] = folded(g.group(0))
     return found
+
+
+def blocks(t, over=""):
+    """The top-level blocks of a text, and those of its modules, which go by the modules' parameters."""
+    for block in re.split(r"\n(?=[^\s)}\]|])", t):
+        if re.match(r"module\b", block):
+            head, _, body = block.partition(" where")
+            first = re.search(r"\n( +)\S", body)
+            if first:
+                inner = re.sub(r"^" + first.group(1), "", body.lstrip("\n"), flags=re.M)
+                yield from blocks(inner, folded(over + " " + head.replace("module _", "").replace("module", "")))
+        else:
+            yield over, block
 
 
 def declarations(root):
@@ -65,9 +92,9 @@ def declarations(root):
             if not path.endswith(".antt") or path.endswith("/Lib.antt"):
                 continue
             t = bare(read(path), "--")
-            for block in re.split(r"\n(?=[^\s)}\]|])", t):
+            for over, block in blocks(t):
                 m = re.match(r"((?:abbrev |unfoldable |pub |record |data )*)(\S+)", block)
-                if not m or block.startswith(("use ", "pub use", "unfolding", "module", "mutual", "ruleset")):
+                if not m or block.startswith(("use ", "pub use", "unfolding", "mutual", "ruleset")):
                     continue
                 whole = re.search(r"abbrev|unfoldable|record|data", m.group(1))
                 name = m.group(2)
@@ -77,7 +104,7 @@ def declarations(root):
                     continue
                 if "pub" not in m.group(1) and not whole:
                     continue
-                found[c, name] = (bool(whole), folded(block))
+                found[c, name] = (bool(whole), folded(block) + (" , over " + over if over else ""))
     return found
 
 

@@ -16,7 +16,7 @@ for proof in "$here"/bench_lanes/*.antt.txt; do
     mkdir -p "$copy/crates/bench_lanes/proofs/$name"
     cp "$proof" "$copy/crates/bench_lanes/proofs/$name/Answers.antt"
 done
-echo "bench_lanes staticlib: laws ldpc_shape ldpc_edges iteration fixed_code lane_math lane16 simd simd_layered fixed fixed_lanes fixed_conflicts fixed_layered fixed_syndrome" >> "$copy/crates.txt"
+echo "bench_lanes staticlib: laws refusal ldpc_shape ldpc_edges iteration fixed_code lane_math lane16 simd simd_layered fixed fixed_lanes fixed_conflicts fixed_layered fixed_syndrome" >> "$copy/crates.txt"
 (cd "$copy/crates/bench_lanes" && rt lib)
 mkdir -p "$top/target/staticlib"
 cp "$copy/crates/bench_lanes/out/libbench_lanes.a" "$top/target/staticlib/"

@@ -1,5 +1,5 @@
 -- What `decode` promises can be had of every word (`decodes`), by each way through it; and a word keeps its length.
-use Rattle.std.specs.Prelude.{◌≡◌, refl, ◌≢◌, ◌⊎◌, List, [], ◌∷◌, ℕ, suc, ◌≤◌, ◌<◌, length, Result, Ok, Err, IfOk}
+use Rattle.std.specs.Prelude.{◌≡◌, refl, ◌≢◌, ◌⊎◌, List, [], ◌∷◌, ℕ, suc, ◌≤◌, ◌<◌, length, Option, Some, Result, Ok, Err, IfOk}
 use Rattle.std.proofs.Math.Path.{sym}
 use Rattle.std.proofs.Common.{ap, ◌∙◌, subst, inl, inr, arith}
 use Rattle.std.proofs.Math.Logic.{if_neg}
@@ -16,8 +16,6 @@ use Rattle.bch.specs.DecodeLaws.{located_by, located_only}
 use Rattle.bch.specs.Exact.{Exact}
 use Rattle.bch.specs.ExactLaws.{exact, codeword_kept}
 use Rattle.bch.specs.Answers.{word_refusal, out_if, decoded_of, word_out, Decodes}
-use Rattle.bch.specs.declared.Decoded.{Decoded}
-use Rattle.bch.specs.declared.Decoded.TheVariants.{Corrected}
 use Rattle.bch.specs.AnswersLaws.{changed, word_refused, short_word, long_word, fair_word}
 
 -- a word that is no codeword, by every shortest register
@@ -25,7 +23,7 @@ located : (w : List ℕ) → remainder_of w ≢ 0 → Located w (left_of w) (ans
 unfolding answer_of left_of
 located w n =
     located_by w _ _ (register w).0 (register w).1 (register w).2
-    (if_neg (ℕ_discrete (remainder_of w) 0) n (Corrected 0) (answer_by (register w).0 (register w).1 w))
+    (if_neg (ℕ_discrete (remainder_of w) 0) n (Some 0) (answer_by (register w).0 (register w).1 w))
     (if_neg (ℕ_discrete (remainder_of w) 0) n w (left_by (register w).0 (register w).1 w))
 
 -- an accepted length, at most 65,535
@@ -61,23 +59,23 @@ module _ (w : List ℕ) where
       least (no n) = omega (arith, word_refused (length w) n)
 
   -- the two functions taken for others that are equal
-  of_both : (P : List ℕ → Result Decoded Refusal → Type 0) (z : word_refusal (length w) ≡ 0) → P (left_of w) (Ok (answer_of w)) → P (word_out w) (decoded_of w)
-  of_both P z p = subst (λ (x : List ℕ). P x (decoded_of w)) (sym (taken z).1) (subst (λ (d : Result Decoded Refusal). P (left_of w) d) (sym (taken z).0) p)
+  of_both : (P : List ℕ → Result (Option ℕ) Refusal → Type 0) (z : word_refusal (length w) ≡ 0) → P (left_of w) (Ok (answer_of w)) → P (word_out w) (decoded_of w)
+  of_both P z p = subst (λ (x : List ℕ). P x (decoded_of w)) (sym (taken z).1) (subst (λ (d : Result (Option ℕ) Refusal). P (left_of w) d) (sym (taken z).0) p)
 
   -- what holds of an answer, where there is one
-  if_taken : (P : List ℕ → Decoded → Type 0) → (word_refusal (length w) ≡ 0 → P (left_of w) (answer_of w)) → IfOk (decoded_of w) (P (word_out w))
+  if_taken : (P : List ℕ → Option ℕ → Type 0) → (word_refusal (length w) ≡ 0 → P (left_of w) (answer_of w)) → IfOk (decoded_of w) (P (word_out w))
   if_taken P p = pick (ℕ_discrete (word_refusal (length w)) 0)
     where
       pick : Dec (word_refusal (length w) ≡ 0) → IfOk (decoded_of w) (P (word_out w))
       pick (yes z) = of_both (λ x r. IfOk r (P x)) z (p z)
-      pick (no n) = subst (λ (r : Result Decoded Refusal). IfOk r (P (word_out w))) (sym (turned_away n).0) tt
+      pick (no n) = subst (λ (r : Result (Option ℕ) Refusal). IfOk r (P (word_out w))) (sym (turned_away n).0) tt
 
   pub decodes : Decodes w (word_out w) (decoded_of w)
   decodes =
       record {
         refused = turned_away;
         number = numbered;
-        codeword = λ z C. of_both (λ x d. (d ≡ Ok (Corrected 0)) × (x ≡ w)) z (let k = codeword_kept w C in (ap Ok k.0, k.1));
+        codeword = λ z C. of_both (λ x d. (d ≡ Ok (Some 0)) × (x ≡ w)) z (let k = codeword_kept w C in (ap Ok k.0, k.1));
         located = λ n. if_taken (Located w) (λ z. located w (λ e. n (remainder_codeword w e)));
         exact = if_taken (Exact w) (λ z. exact w (fair_size (length w) z));
         answer = refl;
@@ -92,8 +90,8 @@ module _ (w : List ℕ) where
       pick (yes z) = ap length (taken z).1 ∙ sym (high_length (left_of w)) ∙ ap length (exact w (fair_size (length w) z)).rest ∙ high_length w
       pick (no n) = ap length (turned_away n).1
 
-  decodes_so : (w' : List ℕ) (r : Result Decoded Refusal) → r ≡ decoded_of w → w' ≡ word_out w → Decodes w w' r
-  decodes_so w' r e f = subst (λ (x : List ℕ). Decodes w x r) (sym f) (subst (λ (d : Result Decoded Refusal). Decodes w (word_out w) d) (sym e) decodes)
+  decodes_so : (w' : List ℕ) (r : Result (Option ℕ) Refusal) → r ≡ decoded_of w → w' ≡ word_out w → Decodes w w' r
+  decodes_so w' r e f = subst (λ (x : List ℕ). Decodes w x r) (sym f) (subst (λ (d : Result (Option ℕ) Refusal). Decodes w (word_out w) d) (sym e) decodes)
 
   -- ---- by the ways through `decode`: refused, a codeword, or by a shortest register
   pub decodes_refused : (length w < 193) ⊎ ((193 ≤ length w) × (65535 < length w)) → Decodes w w (Err Bch)
@@ -104,11 +102,11 @@ module _ (w : List ℕ) where
       by (inr h) z = omega (arith, long_word (length w) h.0 h.1)
 
   module _ (least : 193 ≤ length w) (most : length w ≤ 65535) where
-    answered : (w' : List ℕ) (d : Decoded) → d ≡ answer_of w → w' ≡ left_of w → Decodes w w' (Ok d)
+    answered : (w' : List ℕ) (d : Option ℕ) → d ≡ answer_of w → w' ≡ left_of w → Decodes w w' (Ok d)
     answered w' d e f = let t = taken (fair_word (length w) least most) in decodes_so w' (Ok d) (ap Ok e ∙ sym t.0) (f ∙ sym t.1)
 
-    pub decodes_clean : remainder_of w ≡ 0 → Decodes w w (Ok (Corrected 0))
-    decodes_clean z = let k = codeword_kept w (remainder_codeword w z) in answered w (Corrected 0) (sym k.0) (sym k.1)
+    pub decodes_clean : remainder_of w ≡ 0 → Decodes w w (Ok (Some 0))
+    decodes_clean z = let k = codeword_kept w (remainder_codeword w z) in answered w (Some 0) (sym k.0) (sym k.1)
 
-    pub decodes_located : remainder_of w ≢ 0 → (w' : List ℕ) (d : Decoded) → Located w w' d → Decodes w w' (Ok d)
+    pub decodes_located : remainder_of w ≢ 0 → (w' : List ℕ) (d : Option ℕ) → Located w w' d → Decodes w w' (Ok d)
     decodes_located n w' d L = let o = located_only w w' (left_of w) d (answer_of w) L (located w n) in answered w' d o.0 o.1

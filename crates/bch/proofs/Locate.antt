@@ -1,5 +1,5 @@
 -- The register and the places that the code finds are those of the definition.
-use Rattle.std.proofs.Common.{◌≡◌, ◌≢◌, sym, ap, ◌∙◌, List, ℕ, ◌+◌, ◌≤◌, ◌<◌, arith, length, get_or}
+use Rattle.std.proofs.Common.{◌≡◌, ◌≢◌, sym, ap, ◌∙◌, List, ℕ, ◌+◌, ◌≤◌, ◌<◌, arith, length, get_or, Option, Some, None}
 use Rattle.std.proofs.Math.Logic.{ite, if_pos, if_neg}
 use Rattle.std.proofs.Math.Decide.{ℕ_discrete, dec_le}
 use Rattle.algebra.specs.Series.{pow, ev}
@@ -17,8 +17,6 @@ use Rattle.bch.specs.Decode.{syndrome, flipped, flips, answer_by, left_by, Locat
 use Rattle.bch.specs.DecodeLaws.{located_by}
 use Rattle.bch.specs.Places.{flip_all}
 use Rattle.bch.proofs.FlipLoop.{flip_all_flipped}
-use Rattle.bch.specs.declared.Decoded.{Decoded}
-use Rattle.bch.specs.declared.Decoded.TheVariants.{Corrected, Uncorrectable}
 
 -- the syndromes of a remainder are the word's
 pub of_remainder : (w : List ℕ) (v j : ℕ) → v ≡ remainder_of w → j < 24 → ev R16 192 v (pow R16 α (j + 1)) ≡ syndrome w j
@@ -27,11 +25,11 @@ of_remainder w v j e h = ap (λ (r : ℕ). ev R16 192 r (pow R16 α (j + 1))) e 
 
 module _ (w s c : List ℕ) (l : ℕ) (syn : (j : ℕ) → j < 24 → poly s j ≡ syndrome w j) (R : RegisterOf s c l) where
   -- every register is of length over 12: uncorrectable, word unchanged
-  pub too_long : 12 < l → Located w w Uncorrectable
+  pub too_long : 12 < l → Located w w None
   unfolding answer_by left_by
   too_long h =
       record {
-        answer = λ c' l' S. sym (if_neg (dec_le l' 12) (long c' l' S) _ Uncorrectable);
+        answer = λ c' l' S. sym (if_neg (dec_le l' 12) (long c' l' S) _ None);
         word = λ c' l' S. sym (if_neg (dec_le l' 12) (long c' l' S) (flipped c' l' w) w);
       }
     where
@@ -42,11 +40,11 @@ module _ (w s c : List ℕ) (l : ℕ) (syn : (j : ℕ) → j < 24 → poly s j �
 
   module _ (fit : l ≤ 12) (at : List ℕ) (P : PlacesOf at c l (length w)) where
     -- the register that was found is a shortest one, and answers so
-    found : (r : Decoded) → r ≡ ite (ℕ_discrete (flips (poly c) l (length w)) l) (Corrected l) Uncorrectable → Located w (flip_all w (λ i. get_or at i 0) (length at)) r
+    found : (r : Option ℕ) → r ≡ ite (ℕ_discrete (flips (poly c) l (length w)) l) (Some l) None → Located w (flip_all w (λ i. get_or at i 0) (length at)) r
     unfolding answer_by left_by
     found r e =
         located_by w _ r (poly c) l (shortest_ext R16 (poly s) (syndrome w) 24 (poly c) l syn (record { gen = R.gen fit; short = R.short }))
-        (e ∙ sym (if_pos (dec_le l 12) fit (ite (ℕ_discrete (flips (poly c) l (length w)) l) (Corrected l) Uncorrectable) Uncorrectable))
+        (e ∙ sym (if_pos (dec_le l 12) fit (ite (ℕ_discrete (flips (poly c) l (length w)) l) (Some l) None) None))
         (flip_all_flipped (poly c) l w (λ i. get_or at i 0) (length at) P.inside (λ i j a b e. let t = P.in_order i j a b in omega arith) P.root P.all
         ∙ sym (if_pos (dec_le l 12) fit (flipped (poly c) l w) w))
 
@@ -55,9 +53,9 @@ module _ (w s c : List ℕ) (l : ℕ) (syn : (j : ℕ) → j < 24 → poly s j �
     counted = sym P.many
 
     -- as many flips as the register is long: corrected
-    pub all_found : length at ≡ l → Located w (flip_all w (λ i. get_or at i 0) (length at)) (Corrected l)
-    all_found e = found _ (sym (if_pos (ℕ_discrete (flips (poly c) l (length w)) l) (counted ∙ e) (Corrected l) Uncorrectable))
+    pub all_found : length at ≡ l → Located w (flip_all w (λ i. get_or at i 0) (length at)) (Some l)
+    all_found e = found _ (sym (if_pos (ℕ_discrete (flips (poly c) l (length w)) l) (counted ∙ e) (Some l) None))
 
     -- fewer: uncorrectable, flips left in place
-    pub some_missing : length at ≢ l → Located w (flip_all w (λ i. get_or at i 0) (length at)) Uncorrectable
-    some_missing ne = found _ (sym (if_neg (ℕ_discrete (flips (poly c) l (length w)) l) (λ e. ne (sym counted ∙ e)) (Corrected l) Uncorrectable))
+    pub some_missing : length at ≢ l → Located w (flip_all w (λ i. get_or at i 0) (length at)) None
+    some_missing ne = found _ (sym (if_neg (ℕ_discrete (flips (poly c) l (length w)) l) (λ e. ne (sym counted ∙ e)) (Some l) None))

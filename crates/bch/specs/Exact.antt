@@ -1,9 +1,7 @@
 -- What is exact in decoding: it corrects exactly when a codeword of that length lies within 12 bits, and to the only such codeword.
-use Rattle.std.specs.Prelude.{◌≡◌, ◌↔◌, List, ℕ, ◌≤◌, length}
+use Rattle.std.specs.Prelude.{◌≡◌, ◌↔◌, List, ℕ, ◌≤◌, length, Option, Some}
 use Rattle.bch_remainder.specs.Word.{Codeword}
 use Rattle.bch.specs.Distance.{distance, low_bits, high_bits}
-use Rattle.bch.specs.declared.Decoded.{Decoded}
-use Rattle.bch.specs.declared.Decoded.TheVariants.{Corrected}
 
 -- a codeword of w's length that differs from w in at most 12 positions
 pub record Near (w v : List ℕ) : Type 0 where
@@ -12,12 +10,12 @@ pub record Near (w v : List ℕ) : Type 0 where
   pub within : distance w v ≤ 12
 
 -- the answer r to the word w, which w' is left of
-pub record Exact (w w' : List ℕ) (r : Decoded) : Type 0 where
+pub record Exact (w w' : List ℕ) (r : Option ℕ) : Type 0 where
   -- corrected exactly when some codeword of that length differs from the word in at most 12 positions;
-  pub exactly : ((k : ℕ) × (r ≡ Corrected k)) ↔ ((v : List ℕ) × Near w v)
+  pub exactly : ((k : ℕ) × (r ≡ Some k)) ↔ ((v : List ℕ) × Near w v)
   -- and then the word has exactly that codeword's bits, and the count is the number of positions changed,
-  pub to_it : (v : List ℕ) → Near w v → (low_bits w' ≡ low_bits v) × (r ≡ Corrected (distance w v))
-  pub count : (k : ℕ) → r ≡ Corrected k → Near w w' × (distance w w' ≡ k)
+  pub to_it : (v : List ℕ) → Near w v → (low_bits w' ≡ low_bits v) × (r ≡ Some (distance w v))
+  pub count : (k : ℕ) → r ≡ Some k → Near w w' × (distance w w' ≡ k)
   -- and that codeword is the only one within 12 (a fact of the code, whatever was answered: `minimum_distance`);
   pub only : (u v : List ℕ) → Near w u → Near w v → low_bits u ≡ low_bits v
   -- the other bits of its bytes are as they were

@@ -2,7 +2,7 @@
 use Rattle.std.proofs.Math.Path.{◌≡◌, refl, sym, ap}
 use Rattle.std.proofs.Common.{ap₂, ◌∙◌, arith}
 use Rattle.std.proofs.Math.Logic.{ite, if_pos}
-use Rattle.std.specs.Prelude.{List, [], ◌∷◌, ℕ, zero, suc, ◌+◌, ◌%◌, ◌≤◌, ◌<◌, length}
+use Rattle.std.specs.Prelude.{List, [], ◌∷◌, ℕ, zero, suc, ◌+◌, ◌%◌, ◌≤◌, ◌<◌, length, Some, None}
 use Rattle.std.proofs.Math.Decide.{ℕ_discrete, dec_le}
 use Rattle.algebra.specs.Series.{pow}
 use Rattle.algebra.specs.Register.{Shortest}
@@ -18,7 +18,6 @@ use Rattle.bch.specs.Difference.{difference, weight_distance, syndrome_differenc
 use Rattle.bch.specs.Flips.{flipped_length, flipped_rest}
 use Rattle.bch.specs.Within.{within_answer, within_bits}
 use Rattle.bch.specs.Corrected.{corrected_codeword, corrected_distance}
-use Rattle.bch.specs.declared.Decoded.TheVariants.{Corrected, Uncorrectable}
 use Rattle.bch.specs.Exact.{Near, Exact}
 
 pub distance_self : (w : List ℕ) → distance w w ≡ 0
@@ -39,7 +38,7 @@ module _ (w : List ℕ) (size : length w ≤ 65535) where
   unfolding c l
   S = (register w).2
 
-  near_answer : (v : List ℕ) → Near w v → answer_by c l w ≡ Corrected (distance w v)
+  near_answer : (v : List ℕ) → Near w v → answer_by c l w ≡ Some (distance w v)
   near_answer v N = within_answer w v size N.same_length N.codeword N.within c l S
 
   near_bits : (v : List ℕ) → Near w v → low_bits (left_by c l w) ≡ low_bits v
@@ -53,8 +52,8 @@ module _ (w : List ℕ) (size : length w ≤ 65535) where
   unfolding answer_of c l
   by_register = pick (ℕ_discrete (remainder_of w) 0)
     where
-      pick : (d : Dec (remainder_of w ≡ 0)) → ite d (Corrected 0) (answer_by c l w) ≡ answer_by c l w
-      pick (yes z) = ap Corrected (sym (distance_self w)) ∙ sym (near_answer w (itself (remainder_codeword w z)))
+      pick : (d : Dec (remainder_of w ≡ 0)) → ite d (Some 0) (answer_by c l w) ≡ answer_by c l w
+      pick (yes z) = ap Some (sym (distance_self w)) ∙ sym (near_answer w (itself (remainder_codeword w z)))
       pick (no z) = refl
 
   bits_by_register : low_bits (left_of w) ≡ low_bits (left_by c l w)
@@ -75,12 +74,12 @@ module _ (w : List ℕ) (size : length w ≤ 65535) where
       pick (no z) (no e) = refl
 
   -- corrected: by a clean word, or by a register with all its roots
-  counted : (k : ℕ) → answer_of w ≡ Corrected k → Near w (left_of w) × (distance w (left_of w) ≡ k)
+  counted : (k : ℕ) → answer_of w ≡ Some k → Near w (left_of w) × (distance w (left_of w) ≡ k)
   unfolding answer_of left_of answer_by left_by c l
   counted k = pick (ℕ_discrete (remainder_of w) 0) (dec_le l 12) (ℕ_discrete (flips c l (length w)) l)
     where
       pick : (d : Dec (remainder_of w ≡ 0)) (e : Dec (l ≤ 12)) (f : Dec (flips c l (length w) ≡ l))
-          → ite d (Corrected 0) (ite e (ite f (Corrected l) Uncorrectable) Uncorrectable) ≡ Corrected k
+          → ite d (Some 0) (ite e (ite f (Some l) None) None) ≡ Some k
           → Near w (ite d w (ite e (flipped c l w) w)) × (distance w (ite d w (ite e (flipped c l w) w)) ≡ k)
       pick (yes z) e f q = let t : 0 ≡ k = cc in (itself (remainder_codeword w z), distance_self w ∙ t)
       pick (no z) (yes e) (yes f) q =
@@ -102,7 +101,7 @@ module _ (w : List ℕ) (size : length w ≤ 65535) where
 
 -- ---- by themselves: every pattern of up to 12 errors on a codeword is corrected
 pub up_to_12 : (v w : List ℕ) → Codeword v → length v ≡ length w → length w ≤ 65535 → distance w v ≤ 12
-    → (answer_of w ≡ Corrected (distance w v)) × (low_bits (left_of w) ≡ low_bits v)
+    → (answer_of w ≡ Some (distance w v)) × (low_bits (left_of w) ≡ low_bits v)
 up_to_12 v w C e size near =
     let t = (exact w size).to_it v (record { same_length = e; codeword = C; within = near }) in
     (t.1, t.0)
@@ -138,8 +137,8 @@ minimum_distance u v C D e size near =
         omega (arith, weight_zero (length u))
 
 -- a codeword gives 0, and is unchanged
-pub codeword_kept : (w : List ℕ) → Codeword w → (answer_of w ≡ Corrected 0) × (left_of w ≡ w)
+pub codeword_kept : (w : List ℕ) → Codeword w → (answer_of w ≡ Some 0) × (left_of w ≡ w)
 unfolding answer_of left_of
 codeword_kept w C =
     let z = codeword_remainder w C in
-    (if_pos (ℕ_discrete (remainder_of w) 0) z (Corrected 0) _, if_pos (ℕ_discrete (remainder_of w) 0) z w _)
+    (if_pos (ℕ_discrete (remainder_of w) 0) z (Some 0) _, if_pos (ℕ_discrete (remainder_of w) 0) z w _)

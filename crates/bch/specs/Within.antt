@@ -1,5 +1,5 @@
 -- A word within 12 bits of a codeword is corrected to that codeword: every pattern of up to 12 errors.
-use Rattle.std.specs.Prelude.{◌≡◌, ◌≢◌, List, ℕ, ◌+◌, ◌≤◌, ◌<◌, length}
+use Rattle.std.specs.Prelude.{◌≡◌, ◌≢◌, List, ℕ, ◌+◌, ◌≤◌, ◌<◌, length, Some}
 use Rattle.std.proofs.Common.{sym, ◌∙◌, arith}
 use Rattle.std.proofs.Math.Path.{ap}
 use Rattle.std.proofs.Math.Logic.{if_pos}
@@ -18,7 +18,6 @@ use Rattle.bch.specs.Distance.{distance, low_bits}
 use Rattle.bch.specs.Decode.{syndrome, flipped, flips, answer_by, left_by}
 use Rattle.bch.specs.Difference.{difference, weight_distance, syndrome_difference}
 use Rattle.bch.specs.Flips.{flipped_bits}
-use Rattle.bch.specs.declared.Decoded.TheVariants.{Corrected}
 
 module _ (w v : List ℕ) (size : length w ≤ 65535) (same : length v ≡ length w) (code : Codeword v) (near : distance w v ≤ 12)
     (c : ℕ → El 15) (l : ℕ) (S : Shortest R16 (syndrome w) 24 c l) where
@@ -62,9 +61,9 @@ module _ (w v : List ℕ) (size : length w ≤ 65535) (same : length v ≡ lengt
   unfolding flips
   flips_are = found_count gf16 (length w) (pow R16 α) (λ p _. α_nz p) distinct 1 24 (syndrome w) c l S ε it
 
-  pub within_answer : answer_by c l w ≡ Corrected (distance w v)
+  pub within_answer : answer_by c l w ≡ Some (distance w v)
   unfolding answer_by
-  within_answer = if_pos (dec_le l 12) short _ _ ∙ if_pos (ℕ_discrete (flips c l (length w)) l) flips_are _ _ ∙ ap Corrected length_is
+  within_answer = if_pos (dec_le l 12) short _ _ ∙ if_pos (ℕ_discrete (flips c l (length w)) l) flips_are _ _ ∙ ap Some length_is
 
   pub within_bits : low_bits (left_by c l w) ≡ low_bits v
   unfolding left_by ε

@@ -2,7 +2,7 @@
 // One byte a bit, highest power first: the message, then 192 parity bits. Only the low bit of a byte counts.
 #![tactic(auto)]
 
-ghost use Rattle.std.specs.Prelude.{◌≡◌, ℕ, ◌+◌, ◌≤◌, ◌<◌, eqb, length, get_or};
+ghost use Rattle.std.specs.Prelude.{◌≡◌, ℕ, ◌+◌, ◌≤◌, ◌<◌, eqb, length, get_or, IfOk};
 ghost use Rattle.refusal.specs.Number.{number_of, answer};
 ghost use Rattle.bch_table.specs.Step.{value_of};
 ghost use Rattle.bch_remainder.specs.Word.{remainder_of};
@@ -14,27 +14,29 @@ use bch_locator::Register;
 use bch_table::Reg;
 use refusal::Refusal;
 
-// What `decode` finds.
-#[derive(Clone, Copy, Debug, PartialEq, Eq)]
-pub enum Decoded {
-    // The word is a codeword now; so many bits of it were changed.
-    Corrected(u32),
-    // No codeword of the word's length lies within 12 bits.
-    Uncorrectable,
+// Whether a message has at most so many bits as the code, and what is made of it its room.
+#[tactic(auto, using(crate::specs::AnswersLaws::long_message, crate::specs::AnswersLaws::short_output, crate::specs::AnswersLaws::fair_message))]
+fn fits(k: usize, need: usize, room: usize) -> Result<(), Refusal>
+    ensures number { number_of result ≡ message_refusal k need room }
+    ensures room { IfOk result (λ _. need ≤ room) }
+{
+    if 65343 < k {
+        return Err(Refusal::Bch);
+    }
+    if room < need {
+        return Err(Refusal::TooShort);
+    }
+    Ok(())
 }
 
-// The parity of a message: the remainder of x^192 m(x), 192 bytes 0 or 1.
+// The parity of a message: the remainder of x^192 m(x), 192 bytes 0 or 1. (It and `encode` stay two: shared are `fits`, `parity_register` and `write_parity`;
+// what differs is the room, and that the message goes in front.)
 pub fn parity(message: &[u8], out: &mut [u8]) -> Result<(), Refusal>
     ensures answer { result ≡ answer (message_refusal (length message.now) 192 (length out.old)) tt }
     ensures output { out.new ≡ parity_out message.now out.old }
     ensures number { number_of result ≡ message_refusal (length message.now) 192 (length out.old) }
 {
-    if 65343 < message.len() {
-        return Err(Refusal::Bch);
-    }
-    if out.len() < 192 {
-        return Err(Refusal::TooShort);
-    }
+    fits(message.len(), 192, out.len())?;
     bch_remainder::write_parity(bch_remainder::parity_register(message), out);
     Ok(())
 }
@@ -46,19 +48,15 @@ pub fn encode(message: &[u8], out: &mut [u8]) -> Result<(), Refusal>
     ensures number { number_of result ≡ message_refusal (length message.now) (length message.now + 192) (length out.old) }
 {
     let k = message.len();
-    if 65343 < k {
-        return Err(Refusal::Bch);
-    }
-    if out.len() < k + 192 {
-        return Err(Refusal::TooShort);
-    }
+    fits(k, k + 192, out.len())?;
     out[..k].copy_from_slice(message);
     bch_remainder::write_parity(bch_remainder::parity_register(message), &mut out[k..]);
     Ok(())
 }
 
-// A word is corrected in place: exactly when a codeword of its length lies within 12 bits, and to the only such codeword.
-pub fn decode(word: &mut [u8]) -> Result<Decoded, Refusal>
+// A word is corrected in place: exactly when a codeword of its length lies within 12 bits, and to the only such codeword. How many of its bits
+// were changed, or None where there is no such codeword.
+pub fn decode(word: &mut [u8]) -> Result<Option<u32>, Refusal>
     ensures { Decodes word.old word.new result }
 {
     let n = word.len();
@@ -66,32 +64,24 @@ pub fn decode(word: &mut [u8]) -> Result<Decoded, Refusal>
         return Err(Refusal::Bch);
     }
     let r = bch_remainder::remainder(word);
-    if is_zero(r) {
-        return Ok(Decoded::Corrected(0));
+    if r == Reg::ZERO {
+        return Ok(Some(0));
     }
     Ok(correct(word, r))
 }
 
-fn is_zero(r: Reg) -> bool
-    ensures { result ≡ eqb (value_of r) 0 }
-{
-    r.hi == 0 && r.mid == 0 && r.lo == 0
-}
-
 // A word that is no codeword, by its remainder: the shortest register's roots are flipped.
-fn correct(word: &mut [u8], r: Reg) -> Decoded
+fn correct(word: &mut [u8], r: Reg) -> Option<u32>
     requires { (193 ≤ length word.old) × (length word.old ≤ 65535) × (value_of r ≡ remainder_of word.old) }
     ensures { Located word.old word.new result }
 {
-    let Some(register) = Register::shortest(bch_locator::syndromes(r)) else {
-        return Decoded::Uncorrectable;
-    };
+    let register = Register::shortest(bch_locator::syndromes(r))?;
     let found = register.chien(word.len());
     flip(word, found.as_slice());
     if found.len() == register.len {
-        Decoded::Corrected(register.len as u32)
+        Some(register.len as u32)
     } else {
-        Decoded::Uncorrectable
+        None
     }
 }
 

@@ -24,9 +24,9 @@ use Rattle.laws.specs.Stores.{set_at}
 abbrev pub Plus : List ℕ → ℕ → ℕ → ℕ → Type 0
 Plus s b i v = v ≡ get_or s i 0 ⊕ b
 
-pub plus_fits : (s : List ℕ) (b i : ℕ) → Lanes s → b < 65536 → bit_xor (get_or s i 0) b < 65536
+pub plus_fits : (s : List ℕ) (b i : ℕ) → get_or s i 0 < 65536 → b < 65536 → bit_xor (get_or s i 0) b < 65536
 unfolding ◌⊕◌
-plus_fits s b i L h = ⊕-lt 16 (L.fit i) h
+plus_fits s b i g h = ⊕-lt 16 g h
 
 pub plus_is : (s : List ℕ) (b i : ℕ) → Plus s b i (bit_xor (get_or s i 0) b)
 unfolding ◌⊕◌

@@ -14,7 +14,7 @@ fn pack(bits: &[u8]) -> u64
 {
     let mut v = 0;
     for bit in bits {
-        v = v * 2 + (*bit & 1) as u64;
+        v = v * 2 + u64::from(*bit & 1);
     }
     v
 }

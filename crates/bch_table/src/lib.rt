@@ -13,9 +13,9 @@ pub const TABLE_3_4_1: [u32; 12] = [
     0x1e741, 0x18cef,
 ];
 
-// One digit more of a product: x times a, and g with it if the digit is 1.
+// One digit more of a product: x times a, and g with it if the digit is 1. (By number: of three arrays zipped a proof would have to tie the places.)
 fn next_digit(a: [u8; 193], g: [u8; 193], digit: u8) -> [u8; 193]
-    requires { (length a ≡ 193) × (length g ≡ 193) × (digit < 2) }
+    requires { digit < 2 }
     ensures { result ≡ digits_of 193 ((digit * poly_of g) ⊕ (poly_of a * 2)) }
 {
     let mut out = [0; 193];
@@ -27,9 +27,9 @@ fn next_digit(a: [u8; 193], g: [u8; 193], digit: u8) -> [u8; 193]
     out
 }
 
-// The product of g and the polynomial of a mask, highest power of the mask first.
+// The product of g and the polynomial of a mask, highest power of the mask first. (`next` in the loops here and in the crates above: the check doesn't
+// cover a call's array laid straight into a variable that holds one.)
 fn times(g: [u8; 193], mask: u32) -> [u8; 193]
-    requires { length g ≡ 193 }
     ensures { result ≡ digits_of 193 (clmul 17 mask (poly_of g)) }
 {
     let mut out = [0; 193];
@@ -53,8 +53,8 @@ pub fn generator() -> [u8; 193]
     g
 }
 
-// The 192-bit remainder, the highest word first.
-#[derive(Clone, Copy)]
+// The 192-bit remainder, the highest word first. (Three names and no array of three: each word of a step takes its low byte from the next.)
+#[derive(Clone, Copy, Debug, PartialEq, Eq)]
 pub struct Reg {
     pub hi: u64,
     pub mid: u64,
@@ -73,7 +73,7 @@ impl Reg {
     pub fn step(self, byte: u8) -> Reg
         ensures { value_of result ≡ step_of (value_of self) byte }
     {
-        let [hi, mid, lo] = TABLE[((self.hi >> 56) as u8 ^ byte) as usize];
+        let [hi, mid, lo] = TABLE[usize::from((self.hi >> 56) as u8 ^ byte)];
         Reg {
             hi: (self.hi << 8) ^ (self.mid >> 56) ^ hi,
             mid: (self.mid << 8) ^ (self.lo >> 56) ^ mid,

@@ -60,10 +60,7 @@ impl Schedule {
     pub fn is_layered(self) -> bool
         ensures { result ≡ is_layered self }
     {
-        match self {
-            Schedule::Sequential => false,
-            Schedule::Layered(_) => true,
-        }
+        matches!(self, Schedule::Layered(_))
     }
 }
 

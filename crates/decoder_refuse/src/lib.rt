@@ -9,7 +9,7 @@ ghost use Rattle.decoder_plan.specs.Plan.{plan_of};
 ghost use Rattle.decoder_refuse.specs.Refusal.{bad_lanes, bad_words, bad_step, bad_part, too_short, work_need, lists_need, first_refusal};
 
 use decoder_plan::{Part, Plan, Schedule, Settings};
-use ldpc_shape::Sizes;
+use ldpc_shape::{Sizes, Table};
 use refusal::Refusal;
 
 // How much is lent: soft values, room for the records of so many words, output, and both work slices.
@@ -22,8 +22,9 @@ pub struct Lent {
     pub lists: usize,
 }
 
+// Lanes are not 1 to 64.
 #[tactic(auto, unfolding(crate::specs::Refusal::bad_lanes))]
-fn bad_lanes(lanes: u32) -> bool
+pub fn bad_lanes(lanes: u32) -> bool
     ensures { result ≡ bad_lanes lanes }
 {
     lanes == 0 || 64 < lanes
@@ -48,10 +49,11 @@ fn bad_step(s: Schedule) -> bool
 fn bad_part(n: usize, part: Part) -> bool
     ensures { result ≡ bad_part n part }
 {
-    part.length < 193 || 65535 < part.length || n < part.first as usize + part.length as usize
+    !(193..=65535).contains(&part.length) || n < part.first as usize + part.length as usize
 }
 
-// (n + 3E) times lanes. (`Bounded` stands here and in the next two, and in no ghost field of `Sizes`: `sizes_of` makes sizes of any lists.)
+// (n + 3E) times lanes. (`Bounded` stands here and in the next two, and in no ghost field of `Sizes`: the definition `sizes_of` makes a `Sizes` of any
+// lists, also of refused ones, whose sizes have no bounds.)
 #[tactic(auto, unfolding(crate::specs::Refusal::work_need))]
 pub fn work_need(of: Sizes, lanes: usize) -> usize
     requires { Bounded of × (lanes ≤ 64) }
@@ -85,7 +87,7 @@ pub fn plan(n: u32, lens: &[u32], addrs: &[u16], set: Settings, lent: Lent) -> R
     ensures number { number_of result ≡ first_refusal n lens.now addrs.now set lent }
     ensures plan { IfOk result (λ p. p ≡ plan_of (sizes_of n lens.now addrs.now) lent.soft set) }
 {
-    let of = ldpc_shape::accept(n, lens, addrs)?;
+    let of = Table::accept(n, lens, addrs)?.sizes;
     if bad_lanes(set.lanes) {
         return Err(Refusal::Lanes);
     }

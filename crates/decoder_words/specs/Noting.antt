@@ -1,4 +1,4 @@
--- What a record's numbers are written from (Fields: what they are read as): `put`, `before_bch` and `with_results` go by it.
+-- What a record's numbers are written from (Fields: what they are read as): a record's conversion to numbers, `before_bch` and `with_results` go by it.
 use Rattle.std.specs.Prelude.{List, [], ◌∷◌, ℕ}
 use Rattle.decoder_words.specs.declared.Noted.{Noted}
 

@@ -1,5 +1,5 @@
 -- Why the starred examples of the BCH word hold: α's power is worked out, and zeros are a codeword one bit away.
-use Rattle.std.specs.Prelude.{◌≡◌, refl, List, ℕ, length, Ok, Err}
+use Rattle.std.specs.Prelude.{◌≡◌, refl, List, ℕ, length, Some, Ok, Err}
 use Rattle.std.proofs.Common.{sym, ap, ◌∙◌, arith}
 use Rattle.laws.specs.Definitions.{◌⊕◌, rem}
 use Rattle.laws.specs.Poly.{rem_zero}
@@ -15,7 +15,6 @@ use Rattle.bch.specs.Decode.{answer_of, left_of}
 use Rattle.bch.specs.ExactLaws.{up_to_12}
 use Rattle.bch.specs.Answers.{word_refusal, decoded_of, word_out}
 use Rattle.bch.specs.AnswersLaws.{short_word, fair_word, changed}
-use Rattle.bch.specs.declared.Decoded.TheVariants.{Corrected}
 use Rattle.refusal.specs.NumberLaws.{accepted, refused}
 use Rattle.refusal.specs.declared.Refusal.TheVariants as refusal
 use Rattle.examples.specs.Inputs.{zeros, first_set}
@@ -47,12 +46,12 @@ zeros_codeword = remainder_codeword (zeros 193) (ap (λ (x : ℕ). rem 192 gener
 fair : word_refusal (length first_set) ≡ 0
 fair = fair_word (length first_set) (omega (arith, size)) (omega (arith, size))
 
-near : (answer_of first_set ≡ Corrected (distance first_set (zeros 193))) × (low_bits (left_of first_set) ≡ low_bits (zeros 193))
+near : (answer_of first_set ≡ Some (distance first_set (zeros 193))) × (low_bits (left_of first_set) ≡ low_bits (zeros 193))
 near = up_to_12 (zeros 193) first_set zeros_codeword same (omega (arith, size)) (omega (arith, apart))
 
-pub corrected : decoded_of first_set ≡ Ok (Corrected 1)
+pub corrected : decoded_of first_set ≡ Ok (Some 1)
 unfolding decoded_of
-corrected = accepted (word_refusal (length first_set)) (answer_of first_set) fair ∙ ap Ok (near.0 ∙ ap Corrected apart)
+corrected = accepted (word_refusal (length first_set)) (answer_of first_set) fair ∙ ap Ok (near.0 ∙ ap Some apart)
 
 bits_of_zeros : low_bits (zeros 193) ≡ zeros 193
 unfolding low_bits zeros

@@ -1,5 +1,5 @@
 -- The scope's starred bench examples, in the scope's order and words, as one theorem about the definitions that the contracts cite.
-use Rattle.std.specs.Prelude.{◌≡◌, refl, List, [], ◌∷◌, ℕ, pos, negsuc, length, replicate, Ok, Err}
+use Rattle.std.specs.Prelude.{◌≡◌, refl, List, [], ◌∷◌, ℕ, pos, negsuc, length, replicate, Some, Ok, Err}
 use Rattle.std.proofs.Common.{sym}
 use Rattle.laws.specs.Definitions.{put}
 use Rattle.algebra.specs.Series.{pow}
@@ -15,7 +15,6 @@ use Rattle.iteration.specs.Check.{min1, min2, first, others, message, wrote, t_o
 use Rattle.iteration.specs.Iteration.{gather, settle, nothing}
 use Rattle.bch.specs.Distance.{low_bits}
 use Rattle.bch.specs.Answers.{decoded_of, word_out}
-use Rattle.bch.specs.declared.Decoded.TheVariants.{Corrected}
 use Rattle.examples.specs.Inputs.{row0, fresh, checked, three, one, zeros, first_set}
 use Rattle.examples.specs.Bch.{alpha, corrected, left, too_short}
 
@@ -29,10 +28,10 @@ pub record Starred : Type 0 where
   pub checks_as_0 : (c : ℕ) → check 748 (1 ∷ []) (374 ∷ []) c ≡ check 748 (1 ∷ []) row0 c
   pub parity_as_0 : (info : List ℕ) → parity 748 (1 ∷ []) (374 ∷ []) info ≡ parity 748 (1 ∷ []) row0 info
   -- "* n 374: no rows accepted, E 747; one row gives 3."
-  pub rows_none : new_answer 374 [] [] 1122 ≡ Ok (record { k = 0; p = 374; q = 1; e = 747 })
+  pub rows_none : new_answer 374 [] [] 1122 ≡ Ok (record { n = 374; k = 0; p = 374; q = 1; e = 747 })
   pub rows_one : (l : ℕ) (addrs : List ℕ) (size : ℕ) → new_answer 374 (l ∷ []) addrs size ≡ Err refusal.Rows
   -- "* n 44,880 accepted without rows; 45,254 and 0 give 2.", whatever the rows
-  pub long_44880 : new_answer 44880 [] [] 134640 ≡ Ok (record { k = 0; p = 44880; q = 120; e = 89759 })
+  pub long_44880 : new_answer 44880 [] [] 134640 ≡ Ok (record { n = 44880; k = 0; p = 44880; q = 120; e = 89759 })
   pub long_45254 : (lens addrs : List ℕ) (size : ℕ) → new_answer 45254 lens addrs size ≡ Err refusal.N
   pub long_0 : (lens addrs : List ℕ) (size : ℕ) → new_answer 0 lens addrs size ≡ Err refusal.N
   -- "* Zero messages, L 3, 5, −2, offset 1: messages −1, −1, 2; L 2, 4, 0."
@@ -49,7 +48,7 @@ pub record Starred : Type 0 where
   -- "* α^16 is 100B hexadecimal."
   pub alpha_16 : (pow R16 α 16).0 ≡ 0x100B
   -- "* 193 zero bits but the first: corrected, 1. 192 bits: 11."; the bits that are left are zeros
-  pub first_bit : decoded_of first_set ≡ Ok (Corrected 1)
+  pub first_bit : decoded_of first_set ≡ Ok (Some 1)
   pub first_left : low_bits (word_out first_set) ≡ zeros 193
   pub short : (w : List ℕ) → length w ≡ 192 → decoded_of w ≡ Err refusal.Bch
 

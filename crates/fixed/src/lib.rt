@@ -2,9 +2,8 @@
 // `work` has n + 3E rows with stride `lanes` (simd).
 #![tactic(auto)]
 
-ghost use Rattle.std.specs.Prelude.{ℕ, ◌+◌, ◌*◌, ◌≤◌, ◌<◌, length};
-ghost use Rattle.lane16.specs.Memory.{Memory};
-ghost use Rattle.iteration.specs.Lists.{edges_in};
+ghost use Rattle.std.specs.Prelude.{◌≡◌, ℕ, ◌+◌, ◌*◌, ◌≤◌, ◌<◌, get_or, length};
+ghost use Rattle.iteration.specs.Lists.{rows_in, edges_in};
 ghost use Rattle.fixed.specs.Sequential.{InTurn, Iterated};
 ghost use Rattle.iteration.specs.Once.{stepped};
 
@@ -24,7 +23,22 @@ pub struct Turns<'a> {
     pub ghost inside: { (x : ℕ) → x < m → stepped first q x < code.p },
 }
 
-// The checks in turn, each reading what the ones before it wrote. t and u are work of 128 times 16.
+impl<'a> Turns<'a> {
+    // Check x of them: check first + x * q of the code.
+    pub fn check(self, x: usize) -> Check<'a>
+        requires { x < self.m }
+        ensures rows { result.rows.now ≡ rows_in self.entry.code.p self.entry.code.lists.now }
+        ensures start { result.s ≡ get_or self.entry.code.lists.now (stepped self.entry.first self.entry.q x) 0 }
+        ensures ends { result.s + result.d ≡ get_or self.entry.code.lists.now (stepped self.entry.first self.entry.q x + 1) 0 }
+        ensures bits { result.n ≡ self.entry.code.n }
+        ensures lanes { result.lanes ≡ self.entry.lanes }
+    {
+        Check::of(self.code, self.lanes, self.first + x * self.q)
+    }
+}
+
+// The checks in turn, each reading what the ones before it wrote. t and u are work of 128 times 16. (`work`, with its clause, and t and u stay beside the
+// checks, as in simd.)
 pub fn checks(turns: Turns<'_>, work: &mut [i8], t: &mut [i8], u: &mut [i8])
     requires fits { (turns.code.n + 3 * edges_in turns.code.p turns.code.lists.now) * turns.lanes ≤ length work.old }
     requires in_bounds { (2048 ≤ length t.old) × (2048 ≤ length u.old) }
@@ -32,23 +46,22 @@ pub fn checks(turns: Turns<'_>, work: &mut [i8], t: &mut [i8], u: &mut [i8])
         work.old turns.entry.m work.new }
 {
     for x in 0..turns.m {
-        let check = Check::of(turns.code, turns.lanes, turns.first + x * turns.q);
-        simd::check_node(check, work, t, u, turns.offset);
+        simd::check_node(turns.check(x), work, t, u, turns.offset);
     }
 }
 
-// One sequential iteration of every lane's word. `lists` are the code's (fixed_code).
-pub fn iteration(lists: &[u32], work: &mut [i8], n: usize, p: usize, lanes: usize, offset: i8)
-    requires { Memory n p lanes lists.now work.old }
-    ensures { Iterated n p lanes offset lists.now work.old work.new }
+// One sequential iteration of every lane's word.
+pub fn iteration(code: CodeLists<'_>, work: &mut [i8], lanes: usize, offset: i8)
+    requires { ((code.n + 3 * edges_in code.p code.lists.now) * lanes ≤ length work.old) × (0 < lanes) }
+    ensures { Iterated code.entry.n code.entry.p lanes offset code.entry.lists.now work.old work.new }
 {
     let turns = Turns {
-        code: CodeLists::new(lists, n, p),
+        code,
         lanes,
         offset,
         first: 0,
         q: 1,
-        m: p,
+        m: code.p,
     };
     let mut t: [i8; 2048] = [0; 2048];
     let mut u: [i8; 2048] = [0; 2048];

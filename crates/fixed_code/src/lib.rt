@@ -30,29 +30,21 @@ impl<'a> CodeLists<'a> {
         }
     }
 
+    // Where check c's edges begin, and at c = p where the last check's end.
+    pub fn start(self, c: usize) -> usize
+        requires { c < length self.lists.now }
+        ensures { result ≡ get_or self.entry.lists.now c 0 }
+    {
+        self.lists[c] as usize
+    }
+
     // How many edges check c has.
     pub fn degree(self, c: usize) -> usize
         requires { c < self.p }
         ensures { get_or self.entry.lists.now c 0 + result ≡ get_or self.entry.lists.now (c + 1) 0 }
     {
-        degree(self.lists, self.n, self.p, c)
+        self.start(c + 1) - self.start(c)
     }
-}
-
-// Where check c's edges begin.
-pub fn start(lists: &[u32], c: usize) -> usize
-    requires { c < length lists.now }
-    ensures { result ≡ get_or lists.now c 0 }
-{
-    lists[c] as usize
-}
-
-// How many edges check c has.
-pub fn degree(lists: &[u32], n: usize, p: usize, c: usize) -> usize
-    requires { Lists n p lists.now × (c < p) }
-    ensures { get_or lists.now c 0 + result ≡ get_or lists.now (c + 1) 0 }
-{
-    start(lists, c + 1) - start(lists, c)
 }
 
 // The variable of edge e.
@@ -63,8 +55,9 @@ pub fn variable(rows: &[u32], e: usize) -> usize
     rows[e] as usize
 }
 
-// How many checks a word leaves unsatisfied, and one of them: 0 if there is none, as the C interface has it in a record.
-#[derive(Debug, Clone, Copy, PartialEq, Eq)]
+// How many checks a word leaves unsatisfied, and one of them. The check is 0 where the count is: no Option, as the count says that there is none, and the
+// C interface has both as numbers in a record.
+#[derive(Debug, Clone, Copy, PartialEq, Eq, Default)]
 pub struct Unmet {
     pub count: u32,
     pub check: u32,

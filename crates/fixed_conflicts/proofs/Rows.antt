@@ -1,5 +1,5 @@
 -- The rows that are left of a table are those from row g on.
-use Rattle.std.proofs.Common.{◌≡◌, refl, sym, ap, ◌∙◌, arith, add-one, length-drop, List, [], ◌∷◌, ℕ, zero, suc, ◌+◌, ◌-◌, ◌<◌, ◌≤◌, length, get_or, take, drop}
+use Rattle.std.proofs.Common.{◌≡◌, refl, sym, ap, ◌∙◌, arith, add-one, length-drop, List, [], ◌∷◌, ℕ, zero, suc, ◌+◌, ◌-◌, ◌<◌, length, get_or, drop}
 use Rattle.ldpc_shape.specs.Shape.{rows_of, total}
 use Rattle.ldpc_rows.specs.declared.Row.{Row}
 use Rattle.ldpc_rows.specs.declared.Rows.{Rows}
@@ -29,7 +29,7 @@ drop_head (y ∷ xs) zero x rest d e = (omega arith, cc, cc)
 drop_head (y ∷ xs) (suc g) x rest d e = let z = drop_head xs g x rest d e in (omega arith, z.1, z.2)
 
 module _ (lens addrs : List ℕ) where
-  -- before the first row; n is what `Rows::new` gave
+  -- before the first row; n is what `Rows::from` gave
   pub rows_start : (s n : Rows) → s ≡ n → n.first ≡ 0 → n.lens.now ≡ lens → n.addrs.now ≡ addrs → left s ≡ all_rows lens addrs
   rows_start s n i e f g = ap left i ∙ (λ j. numbered (e j) (rows_of (f j) (g j)))
 

@@ -1,8 +1,7 @@
 -- The table of the rows' edges in the checks, as it is made.
-use Rattle.std.specs.Prelude.{◌≡◌, refl, List, ℕ, suc, ◌+◌, ◌*◌, ◌-◌, ◌≤◌, ◌<◌, get_or, set, length, take, drop}
-use Rattle.std.proofs.Common.{sym, ap, ap₂, ◌∙◌, subst, arith, mul-le-mul_right, add-one, length-set, get_or-set_other}
+use Rattle.std.specs.Prelude.{◌≡◌, refl, List, ℕ, suc, ◌+◌, ◌*◌, ◌-◌, ◌≤◌, ◌<◌, get_or, length, take, drop}
+use Rattle.std.proofs.Common.{sym, ap, ap₂, ◌∙◌, subst, arith, mul-le-mul_right, add-one}
 use Rattle.std.proofs.Math.Decide.{ℕ_discrete}
-use Rattle.laws.specs.Stores.{grown_at}
 use Rattle.ldpc_shape.specs.Shape.{q_of, total, count_mod}
 use Rattle.ldpc_shape.specs.Counts.{CountsBelow}
 use Rattle.ldpc_shape.specs.Accepted.{Accepted, few}

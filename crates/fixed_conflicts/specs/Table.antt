@@ -1,8 +1,7 @@
 -- Which variables can have several edges in a run, and where the edges of their rows stand in its checks.
-use Rattle.std.specs.Prelude.{◌≡◌, refl, Bool, true, false, ◌||◌, List, ℕ, zero, suc, ◌+◌, ◌*◌, ◌≤◌, ◌<◌, T, eqb, ltb, get_or, set, length, replicate, Option, Some, None}
-use Rattle.std.proofs.Common.{sym, ap, ap₂, ◌∙◌, subst, arith, length-set, get_or-set_same, get_or-set_other}
-use Rattle.laws.specs.Choice.{or_left, or_right}
-use Rattle.laws.specs.Stores.{set_each, grown}
+use Rattle.std.specs.Prelude.{◌≡◌, refl, Bool, true, false, List, ℕ, zero, suc, ◌+◌, ◌*◌, ◌≤◌, ◌<◌, eqb, ltb, get_or, set, length, replicate, Option, Some, None}
+use Rattle.std.proofs.Common.{◌∙◌, subst, arith, length-set, get_or-set_same, get_or-set_other}
+use Rattle.laws.specs.Stores.{set_each}
 use Rattle.iteration.specs.Iteration.{Code, degree}
 use Rattle.iteration.specs.Once.{shared_in, Once}
 

@@ -2,13 +2,12 @@
 #![tactic(auto)]
 
 ghost use Rattle.std.specs.Prelude.{◌≡◌, ℕ, ◌<◌, ◌≤◌, ◌+◌, ◌*◌, get_or, length};
-ghost use Rattle.ldpc_shape.specs.Shape.{code_refusal, sizes_of};
 ghost use Rattle.fixed_conflicts.specs.Table.{spans_length, Flagged, flags_of, any_of};
 ghost use Rattle.fixed_conflicts.specs.Conflicts.{Spanned};
 ghost use Rattle.fixed_conflicts.specs.Marks.{NextRow};
 
 use ldpc_rows::Rows;
-use ldpc_shape::{MAX_Q, Sizes};
+use ldpc_shape::{MAX_Q, Table};
 
 // How many numbers the table has: 120 for each of 121 rows.
 pub const SPANS: usize = MAX_Q * (MAX_Q + 1);
@@ -26,10 +25,11 @@ impl RowSpans<'_> {
         requires { (g ≤ 120) × (l < 120) }
         ensures { (result ≡ get_or self.entry.table.now (g * 120 + l) 0) × (result ≤ 255) }
     {
-        self.table[g * MAX_Q + l] as usize
+        usize::from(self.table[g * MAX_Q + l])
     }
 
     // The rows of layer l whose variables can have several edges in a run, if there are any: those with two edges or more in a check; and the parity bits if q = 1.
+    // (`any` goes along, and no `contains` behind the loop: so the loop's invariant says already that no flag is set, or which one.)
     pub fn shared(self, rows: usize, q: usize, l: usize) -> Option<[bool; MAX_Q]>
         requires { (rows ≤ 119) × (l < 120) }
         ensures { Flagged self.entry.table.now rows q l rows (flags_of result) (any_of result) }
@@ -48,7 +48,8 @@ impl RowSpans<'_> {
     }
 }
 
-// The next row's edges begin where those of row g end: one for each of its addresses that is l modulo q.
+// The next row's edges begin where those of row g end: one for each of its addresses that is l modulo q. (Of the counts the first q: `ldpc_shape::counts` gives
+// the most that there can be, as there is no heap.)
 fn advance(table: &mut [u8], counts: &[u32; MAX_Q], g: usize, q: usize)
     requires sizes { ((g + 2) * 120 ≤ length table.old) × (q ≤ 120) }
     requires fits { (l : ℕ) → l < q → get_or table.old (g * 120 + l) 0 + get_or counts.now l 0 ≤ 255 }
@@ -61,16 +62,16 @@ fn advance(table: &mut [u8], counts: &[u32; MAX_Q], g: usize, q: usize)
 }
 
 // Where the rows of an accepted code begin in the checks of each layer.
-pub fn spans(of: Sizes, lens: &[u32], addrs: &[u16], table: &mut [u8])
-    requires accepted { (code_refusal of.n lens.now addrs.now ≡ 0) × (of ≡ sizes_of of.n lens.now addrs.now) }
-    requires zeros { (length table.old ≡ spans_length) × ((l : ℕ) → l < 120 → get_or table.old l 0 ≡ 0) }
-    ensures { Spanned of.n lens.now addrs.now table.new }
+pub fn spans(of: Table<'_>, table: &mut [u8])
+    requires { (length table.old ≡ spans_length) × ((l : ℕ) → l < 120 → get_or table.old l 0 ≡ 0) }
+    ensures { Spanned of.entry.sizes.n of.entry.lens.now of.entry.addrs.now table.new }
 {
-    let q = of.q as u32;
-    for (g, row) in Rows::new(lens, addrs).enumerate() {
+    let Table { sizes, lens, addrs } = of;
+    let q = sizes.q as u32;
+    for (g, row) in Rows::from(of).enumerate() {
         let counts = ldpc_shape::counts(row.addrs, q);
-        advance(table, &counts, g, of.q);
+        advance(table, &counts, g, sizes.q);
     }
     let two = [2; MAX_Q];
-    advance(table, &two, lens.len(), of.q);
+    advance(table, &two, lens.len(), sizes.q);
 }

@@ -1,9 +1,9 @@
 -- One value written: one row of one column changes, and no other column.
-use Rattle.std.specs.Prelude.{◌≡◌, refl, Bool, true, false, cond, List, ℕ, ◌+◌, ◌*◌, ◌≤◌, ◌<◌, eqb, get_or, set, length, ℤ, pos}
-use Rattle.std.proofs.Common.{sym, ap, ◌∙◌, arith, eqb-true, get_or-set_same, get_or-set_other}
+use Rattle.std.specs.Prelude.{◌≡◌, refl, Bool, true, false, cond, List, ℕ, ◌+◌, ◌*◌, ◌<◌, eqb, get_or, set, length, ℤ, pos}
+use Rattle.std.proofs.Common.{sym, ap, ◌∙◌, eqb-true, get_or-set_same, get_or-set_other}
 use Rattle.std.proofs.lemmas.Bool.{eqb-false}
 use Rattle.laws.specs.Definitions.{put}
-use Rattle.lane16.specs.ColumnLaws.{one_place, row_ends}
+use Rattle.lane16.specs.ColumnLaws.{one_place}
 use Rattle.lane16.specs.Column.{column}
 
 pub record Placed (lanes lane u : ℕ) (x : ℤ) (a a' : List ℤ) : Type 0 where

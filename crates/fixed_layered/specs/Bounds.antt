@@ -1,8 +1,7 @@
 -- A sum of 8 bit numbers takes no more than 32 bits.
 use Rattle.std.specs.Prelude.{◌≡◌, refl, Bool, true, false, cond, ℕ, zero, suc, ◌+◌, ◌-◌, ◌≤◌, ◌<◌, ℤ, pos, negsuc, neg_ℤ, nat_abs, ◌+ℤ◌, ◌-ℤ◌, ltb}
-use Rattle.std.proofs.Common.{ap, ◌∙◌, arith, SFits, to_z, of_z, ltb-true}
+use Rattle.std.proofs.Common.{arith, SFits, ltb-true}
 use Rattle.std.specs.Int.{w8, w32}
-use Rattle.std.proofs.lemmas.Int.{to_z-of_z}
 
 diff_abs : (m n : ℕ) → nat_abs (cond (ltb m n) (negsuc (n - suc m)) (pos (m - n))) ≤ m + n
 diff_abs m n = go (ltb m n) refl
@@ -32,13 +31,6 @@ abs_byte (negsuc n) f = omega (arith, f.sfits)
 fits32 : (z : ℤ) → nat_abs z < 2147483648 → SFits w32 z
 fits32 (pos n) h = record { sfits = omega (arith, h) }
 fits32 (negsuc n) h = record { sfits = omega (arith, h) }
-
-pub widen32 : {z : ℤ} → SFits w8 z → SFits w32 z
-widen32 {z} f = fits32 z (omega (arith, abs_byte z f))
-
--- an 8 bit number that was cast to 32
-pub wide32 : (z : ℤ) → SFits w8 z → to_z w32 (of_z w32 (to_z w8 (of_z w8 z))) ≡ z
-wide32 z f = ap (λ (y : ℤ). to_z w32 (of_z w32 y)) (to_z-of_z w8 z f) ∙ to_z-of_z w32 z (widen32 f)
 
 -- the two ways to gather
 module _ (x y : ℤ) (f : SFits w8 x) (g : SFits w8 y) where

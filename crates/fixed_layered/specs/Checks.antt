@@ -4,7 +4,7 @@
 -- shared variables it is the run (`run_law`).
 --
 -- Not here: the same of one word (iteration, InTurn); those values (Rows).
-use Rattle.std.specs.Prelude.{◌≡◌, refl, Bool, true, false, cond, List, ℕ, zero, suc, ◌+◌, ◌*◌, ◌-◌, ◌/◌, ◌≤◌, ◌<◌, min, ltb, get_or, ℤ, pos}
+use Rattle.std.specs.Prelude.{◌≡◌, refl, Bool, true, false, cond, List, ℕ, zero, suc, ◌+◌, ◌*◌, ◌/◌, ◌≤◌, ◌<◌, min, ltb, get_or, ℤ, pos}
 use Rattle.std.proofs.Math.Path.{sym, subst}
 use Rattle.std.proofs.Common.{ap, ◌∙◌, arith, add-zero, add-suc, add-one, ltb-true, ltb-false, le-ltb}
 use Rattle.std.proofs.Math.Decide.{dec_lt}

@@ -1,13 +1,9 @@
 -- The layered iteration over lists and table.
 use Rattle.std.specs.Prelude.{◌≡◌, List, ℕ, ◌+◌, ◌*◌, ◌≤◌, ◌<◌, ℤ}
-use Rattle.std.proofs.Common.{arith}
 use Rattle.iteration.specs.Iteration.{layered}
 use Rattle.lane16.specs.Column.{column}
 use Rattle.simd.specs.Words.{word}
-use Rattle.ldpc_shape.specs.declared.Sizes.{Sizes}
 use Rattle.iteration.specs.Lists.{edges_in, code_in}
-use Rattle.fixed_conflicts.specs.Prepared.{row_count, Prepared}
-use Rattle.fixed_layered.specs.Layers.{LayersMade, InLayers, Sharing}
 
 -- THE COLUMN LAW: every lane's word is iterated as that word alone, over the code that the lists say. What the rows of t and of old messages hold is left to
 -- the program; all behind the n + 3E rows is as it was.

@@ -4,9 +4,8 @@
 -- `RowPart`), and of the table (`Sharing`).
 --
 -- Not here: what a run is made of (Checks, Rows).
-use Rattle.std.specs.Prelude.{◌≡◌, refl, Bool, true, false, List, ℕ, ◌+◌, ◌*◌, ◌-◌, ◌/◌, ◌%◌, ◌≤◌, ◌<◌, min, get_or, length, ℤ}
+use Rattle.std.specs.Prelude.{◌≡◌, refl, Bool, true, false, List, ℕ, suc, ◌+◌, ◌*◌, ◌-◌, ◌/◌, ◌≤◌, ◌<◌, min, get_or, length, ℤ}
 use Rattle.std.proofs.Common.{sym, ap, ◌∙◌, subst, arith, mul-le-mul_right, add-one}
-use Rattle.std.proofs.lemmas.Grind.{div_ceil_times}
 use Rattle.std.proofs.Math.Nat.{add-mul-div_right, div-eq_of_lt}
 use Rattle.iteration.specs.Iteration.{Code, degree, run, in_run, runs, run_count, layers}
 use Rattle.lane16.specs.Column.{column}
@@ -23,32 +22,48 @@ pub record RunMade (n p lanes : ℕ) (o : ℤ) (lists : List ℕ) (first q m : �
   pub words : (i : ℕ) → i < lanes → word n (edges_in p lists) lanes a' i ≡ run o (code_in p lists) (stepped first q) m (word n (edges_in p lists) lanes a i)
   pub rest : (i : ℕ) → i < lanes → (u : ℕ) → n + 3 * edges_in p lists ≤ u → column lanes a' i u ≡ column lanes a i u
 
-pub run_offset : {n p lanes : ℕ} {o o' : ℤ} {lists : List ℕ} {first q m : ℕ} {a a' : List ℤ} → o ≡ o' → RunMade n p lanes o lists first q m a a' → RunMade n p lanes o' lists first q m a a'
-run_offset {n} {p} {lanes} {o} {o'} {lists} {first} {q} {m} {a} {a'} e v = subst (λ (z : ℤ). RunMade n p lanes z lists first q m a a') e v
-
 -- ---- the first j runs of layer l
 pub record RunsMade (n p lanes : ℕ) (o : ℤ) (lists : List ℕ) (q s l : ℕ) (a : List ℤ) (j : ℕ) (a' : List ℤ) : Type 0 where
   pub words : (i : ℕ) → i < lanes → word n (edges_in p lists) lanes a' i ≡ runs o (code_in p lists) q s l j (word n (edges_in p lists) lanes a i)
   pub rest : (i : ℕ) → i < lanes → (u : ℕ) → n + 3 * edges_in p lists ≤ u → column lanes a' i u ≡ column lanes a i u
 
-pub runs_start : (n p lanes : ℕ) (o : ℤ) (lists : List ℕ) (q s l : ℕ) (a : List ℤ) → RunsMade n p lanes o lists q s l a 0 a
+-- the runs that begin before `at`, where one more begins or the layer ends
+pub record RunsBefore (n p lanes : ℕ) (o : ℤ) (lists : List ℕ) (q s l : ℕ) (a : List ℤ) (at : ℕ) (a' : List ℤ) : Type 0 where
+  pub count : ℕ
+  pub begins : at ≡ count * s
+  pub near : at < 374 + s
+  pub made : RunsMade n p lanes o lists q s l a count a'
+
+pub runs_start : (n p lanes : ℕ) (o : ℤ) (lists : List ℕ) (q s l : ℕ) (a : List ℤ) → RunsBefore n p lanes o lists q s l a 0 a
 unfolding runs
-runs_start n p lanes o lists q s l a = record { words = λ i h. refl; rest = λ i h u k. refl }
+runs_start n p lanes o lists q s l a =
+    record {
+      count = 0;
+      begins = omega arith;
+      near = omega arith;
+      made = record { words = λ i h. refl; rest = λ i h u k. refl };
+    }
 
 -- the checks of run j
 pub same_checks : (q s l j at : ℕ) → at ≡ j * s → stepped (l + at * q) q ≡ in_run q s l j
 same_checks q s l j at e =
     λ i x. (let z : at * q ≡ j * s * q = ap (λ (y : ℕ). y * q) e in let k : l + at * q + x * q ≡ l + (j * s + x) * q = omega arith in k) i
 
-pub runs_again : {n p lanes : ℕ} {o : ℤ} {lists : List ℕ} {q s l : ℕ} {a a' a'' : List ℤ} {j at m : ℕ} → at ≡ j * s → m ≡ min s (374 - at) → RunsMade n p lanes o lists q s l a j a'
-    → RunMade n p lanes o lists (l + at * q) q m a' a'' → RunsMade n p lanes o lists q s l a (j + 1) a''
+pub runs_again : {n p lanes : ℕ} {o : ℤ} {lists : List ℕ} {q s l : ℕ} {a a' a'' : List ℤ} {at m : ℕ} → at < 374 → m ≡ min s (374 - at) → RunsBefore n p lanes o lists q s l a at a'
+    → RunMade n p lanes o lists (l + at * q) q m a' a'' → RunsBefore n p lanes o lists q s l a (at + s) a''
 unfolding runs
-runs_again {n} {p} {lanes} {o} {lists} {q} {s} {l} {a} {a'} {a''} {j} {at} {m} e f v k =
-    subst (λ (y : ℕ). RunsMade n p lanes o lists q s l a y a'') (sym (add-one j))
-    (record {
-      words = λ i h. k.words i h ∙ (λ y. run o (code_in p lists) (same_checks q s l j at e y) ((f ∙ ap (λ (z : ℕ). min s (374 - z)) e) y) (v.words i h y));
-      rest = λ i h u r. k.rest i h u r ∙ v.rest i h u r;
-    })
+runs_again {n} {p} {lanes} {o} {lists} {q} {s} {l} {a} {a'} {a''} {at} {m} low f v k =
+    record {
+      count = suc v.count;
+      begins = omega (arith, v.begins);
+      near = omega arith;
+      made =
+          record {
+            words =
+                λ i h. k.words i h ∙ (λ y. run o (code_in p lists) (same_checks q s l v.count at v.begins y) ((f ∙ ap (λ (z : ℕ). min s (374 - z)) v.begins) y) (v.made.words i h y));
+            rest = λ i h u r. k.rest i h u r ∙ v.made.rest i h u r;
+          };
+    }
 
 -- as many as 374 checks make
 count_is : (s j : ℕ) → 0 < s → 374 ≤ j * s → j * s < 374 + s → j ≡ run_count s
@@ -56,16 +71,10 @@ count_is s j h a b =
     let e : 373 + s ≡ (373 + s - j * s) + j * s = omega arith in
     sym (ap (λ (z : ℕ). z / s) e ∙ add-mul-div_right (373 + s - j * s) j h ∙ (let y : 373 + s - j * s < s = omega arith in let z = div-eq_of_lt y in omega arith))
 
--- run j begins before the layer's end
-pub run_begins : (s j : ℕ) → 0 < s → j < 374 / s + min 1 (374 % s) → j * s < 374
-run_begins s j h k = let m : (j + 1) * s ≤ (374 / s + min 1 (374 % s)) * s = mul-le-mul_right s (omega arith) in omega (arith, div_ceil_times 374 s h)
-
-pub runs_end : {n p lanes : ℕ} {o : ℤ} {lists : List ℕ} {q s l : ℕ} {a a' : List ℤ} {j : ℕ} → 0 < s → j ≡ 374 / s + min 1 (374 % s) → RunsMade n p lanes o lists q s l a j a'
+pub runs_end : {n p lanes : ℕ} {o : ℤ} {lists : List ℕ} {q s l : ℕ} {a a' : List ℤ} {at : ℕ} → 0 < s → 374 ≤ at → RunsBefore n p lanes o lists q s l a at a'
     → RunsMade n p lanes o lists q s l a (run_count s) a'
-runs_end {n} {p} {lanes} {o} {lists} {q} {s} {l} {a} {a'} {j} h e v =
-    let k : j * s ≡ (374 / s + min 1 (374 % s)) * s = ap (λ (z : ℕ). z * s) e in
-    let d = div_ceil_times 374 s h in
-    subst (λ (y : ℕ). RunsMade n p lanes o lists q s l a y a') (count_is s j h (omega arith) (omega arith)) v
+runs_end {n} {p} {lanes} {o} {lists} {q} {s} {l} {a} {a'} {at} h k v =
+    subst (λ (y : ℕ). RunsMade n p lanes o lists q s l a y a') (count_is s v.count h (omega (arith, v.begins)) (omega (arith, v.begins, v.near))) v.made
 
 -- ---- the first l layers
 pub record LayersMade (n p lanes : ℕ) (o : ℤ) (lists : List ℕ) (q s : ℕ) (a : List ℤ) (l : ℕ) (a' : List ℤ) : Type 0 where

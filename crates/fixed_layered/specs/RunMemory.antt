@@ -2,12 +2,10 @@
 use Rattle.std.specs.Prelude.{◌≡◌, refl, List, ℕ, ◌+◌, ◌*◌, ◌≤◌, ◌<◌, get_or, length, ℤ}
 use Rattle.std.proofs.Common.{ap, arith, add-one}
 use Rattle.iteration.specs.ListsLaws.{degree_in, order}
-use Rattle.iteration.specs.Lists.{Lists, rows_in, edges_in, code_in}
+use Rattle.iteration.specs.Lists.{Lists, edges_in, code_in}
 use Rattle.iteration.specs.Full.{place_of}
 use Rattle.iteration.specs.Once.{stepped}
 use Rattle.fixed_code.specs.declared.CodeLists.{CodeLists}
-use Rattle.simd.specs.declared.check.Check.{Check}
-use Rattle.fixed.specs.declared.Turns.{Turns}
 use Rattle.fixed_layered.specs.Order.{place_ends}
 
 -- the run's checks are checks; E is small enough for sums of 32 bits
@@ -26,14 +24,6 @@ Fits code lanes a = (code.n + 3 * edges_in code.p code.lists.now) * lanes ≤ le
 -- and every lane has 374 sums
 abbrev pub Room : CodeLists → ℕ → List ℤ → List ℤ → Type 0
 Room code lanes a sums = Fits code lanes a × (374 * lanes ≤ length sums)
-
--- check x of the run
-pub record CheckOf (t : Turns) (x : ℕ) (c : Check) : Type 0 where
-  pub rows : c.rows.now ≡ rows_in t.code.p t.code.lists.now
-  pub start : c.s ≡ get_or t.code.lists.now (stepped t.first t.q x) 0
-  pub ends : c.s + c.d ≡ get_or t.code.lists.now (stepped t.first t.q x + 1) 0
-  pub bits : c.n ≡ t.code.n
-  pub lanes : c.lanes ≡ t.lanes
 
 -- the place of the check behind
 pub place_next : (p : ℕ) (lists : List ℕ) (first q x pl s d : ℕ) → stepped first q x < p → s ≡ get_or lists (stepped first q x) 0 → s + d ≡ get_or lists (stepped first q x + 1) 0

@@ -6,7 +6,6 @@
 #![tactic(auto)]
 
 ghost use Rattle.std.specs.Prelude.{◌≡◌, cond, true, false, Bool, List, ℕ, ◌<◌, ◌≤◌, ◌+◌, ◌*◌, ◌-◌, length, nat_abs, ◌+ℤ◌, ◌-ℤ◌};
-ghost use Rattle.iteration.specs.Value.{sat_z};
 ghost use Rattle.iteration.specs.Iteration.{run_count};
 ghost use Rattle.lane16.specs.Lanes.{int_at};
 ghost use Rattle.lane16.specs.Column.{column};
@@ -18,7 +17,7 @@ ghost use Rattle.fixed_conflicts.specs.Prepared.{Prepared};
 ghost use Rattle.iteration.specs.Full.{place_of};
 ghost use Rattle.fixed_layered.specs.Sums.{RowOf, LanesGathered, LanesSettled};
 ghost use Rattle.fixed_layered.specs.Gather.{gather_at};
-ghost use Rattle.fixed_layered.specs.RunMemory.{InRun, CheckOf, Fits, Room};
+ghost use Rattle.fixed_layered.specs.RunMemory.{InRun, Fits, Room};
 ghost use Rattle.fixed_layered.specs.Rows.{InRow, Grouped, Smalls, EdgeDone, Gathers, sum_at, run_sum, CheckSettled, RowSettled, FlagWritten, Written};
 ghost use Rattle.fixed_layered.specs.Layers.{InLayers, RunMade, RunsMade, LayersMade, Sharing};
 ghost use Rattle.fixed_layered.specs.Checks.{PartMade};
@@ -72,7 +71,8 @@ struct RunRow<'a, 'b> {
     ghost grouped: { Grouped (code_in run.turns.code.p run.turns.code.lists.now) (stepped run.turns.first run.turns.q) run.turns.m base from upto },
 }
 
-// Sixteen lanes' t of the edges of a check, while it is gone through; u that of sixteen more. Two arrays and not one of two: a run with flagged rows is lent t alone.
+// Sixteen lanes' t of the edges of a check, while it is gone through; u that of sixteen more. Two arrays and not one of two: tried, taken
+// apart by `let [t, u]`, and `runs` did not close: Rattle's borrow checker does not cover t lent again to each run.
 #[derive(Drop)]
 struct Scratch {
     t: [i8; 2048],
@@ -85,12 +85,13 @@ fn gathered(seen: bool, sum: i32, t: i8, new: i8, old: i8) -> i32
     ensures { result ≡ cond seen (sum +ℤ (new -ℤ old)) (t +ℤ new) }
 {
     if seen {
-        return sum + (new as i32 - old as i32);
+        return sum + (i32::from(new) - i32::from(old));
     }
-    t as i32 + new as i32
+    i32::from(t) + i32::from(new)
 }
 
-// One edge more of a variable, with its t, its message and its old message, gathered by every lane; `seen` if there was one before.
+// One edge more of a variable, with its t, its message and its old message, gathered by every lane; `seen` if there was one before. (By number, here and in
+// `settle`: of slices zipped with `iter_mut` a proof knows the length alone.)
 fn gather(sums: &mut [i32], seen: bool, t: &[i8], new: &[i8], old: &[i8])
     requires lanes { (length t.now ≡ length sums.old) × (length new.now ≡ length sums.old) × (length old.now ≡ length sums.old) }
     requires small { seen ≡ true → (i : ℕ) → i < length sums.old → nat_abs (int_at sums.old i) ≤ 2000000000 }
@@ -101,23 +102,18 @@ fn gather(sums: &mut [i32], seen: bool, t: &[i8], new: &[i8], old: &[i8])
     }
 }
 
-fn sat(x: i32) -> i8
-    ensures { result ≡ sat_z x }
-{
-    x.clamp(-128, 127) as i8
-}
-
 // The variable's value of every lane from what the lane gathered, clamped once.
 fn settle(values: &mut [i8], sums: &[i32])
     requires { length values.old ≡ length sums.now }
     ensures { LanesSettled sums.now (length sums.now) values.new }
 {
     for (i, value) in values.iter_mut().enumerate() {
-        *value = sat(sums[i]);
+        *value = sums[i].clamp(-128, 127) as i8;
     }
 }
 
-// Row u of every lane.
+// Row u of every lane. (The range stands in full here, where a row is written, and for rows of `sums`: behind a function, as decoder_words has one for words,
+// its bounds would be shown again at each use.)
 fn row(work: &[i8], u: usize, lanes: usize) -> &[i8]
     requires { u * lanes + lanes ≤ length work.now }
     ensures { RowOf lanes u work.now result.now }
@@ -185,17 +181,19 @@ impl RunRow<'_, '_> {
         }
     }
 
-    // Every lane's sums of the row's variables over the run.
+    // Every lane's sums of the row's variables over the run. (Here and in settle_row the row's edges in a check are reckoned alike: a method for both would
+    // answer three numbers, as d is needed here too, and its contract, which says them of the lists, is longer than the two lines.)
     fn gather_row(self, work: &[i8], sums: &mut [i32])
         requires { Room self.run.turns.code self.run.turns.lanes work.now sums.old }
         ensures { let t = self.entry.run.turns in let code = code_in t.code.p t.code.lists.now in
             (seen : List Bool) × Gathers t.lanes (place_of code (stepped t.first t.q) t.m)
             (run_sum t.code.n (edges_in t.code.p t.code.lists.now) code (stepped t.first t.q) self.entry.base t.lanes work.now t.m) seen sums.new }
     {
+        // A flag for each variable beside its sums, not an Option for each sum: one flag is for all lanes, and the sums are lent memory.
         let mut seen = [false; GROUP];
         let mut place = 0;
         for x in 0..self.run.turns.m {
-            let Check { s, d, .. } = self.run.check(x);
+            let Check { s, d, .. } = self.run.turns.check(x);
             let end = self.upto.min(d);
             self.gather_check(
                 work,
@@ -210,6 +208,7 @@ impl RunRow<'_, '_> {
     }
 
     // The values of the variables of the d edges from edge s, all of the row, from their sums.
+    #[tactic(auto, using(crate::specs::Rows::settled_check_start))]
     fn settle_check(self, work: &mut [i8], sums: &[i32], s: usize, d: usize)
         requires room { Room self.run.turns.code self.run.turns.lanes work.old sums.now }
         requires edges { let rows = rows_in self.run.turns.code.p self.run.turns.code.lists.now in
@@ -218,8 +217,8 @@ impl RunRow<'_, '_> {
             CheckSettled (var (rows_in t.code.p t.code.lists.now)) self.entry.base s t.lanes sums.now work.old d work.new }
     {
         let Turns { code, lanes, .. } = self.run.turns;
-        for k in 0..d {
-            let v = fixed_code::variable(code.rows, s + k);
+        for &v in &code.rows[s..s + d] {
+            let v = v as usize;
             let j = v - self.base;
             settle(
                 &mut work[v * lanes..v * lanes + lanes],
@@ -229,6 +228,7 @@ impl RunRow<'_, '_> {
     }
 
     // The values of the row's variables that have edges in the run.
+    #[tactic(auto, using(crate::specs::Rows::settled_row_start))]
     fn settle_row(self, work: &mut [i8], sums: &[i32])
         requires { Room self.run.turns.code self.run.turns.lanes work.old sums.now }
         ensures { let t = self.entry.run.turns in
@@ -236,29 +236,14 @@ impl RunRow<'_, '_> {
             work.old t.m work.new }
     {
         for x in 0..self.run.turns.m {
-            let Check { s, d, .. } = self.run.check(x);
+            let Check { s, d, .. } = self.run.turns.check(x);
             let end = self.upto.min(d);
             self.settle_check(work, sums, s + self.from, end - self.from);
         }
     }
 }
 
-impl<'a> CheckRun<'a, '_> {
-    // Check x of the run.
-    fn check(self, x: usize) -> Check<'a>
-        requires { x < self.turns.m }
-        ensures { CheckOf self.entry.turns x result }
-    {
-        let Turns {
-            code,
-            lanes,
-            first,
-            q,
-            ..
-        } = self.turns;
-        Check::of(code, lanes, first + x * q)
-    }
-
+impl CheckRun<'_, '_> {
     // The values of row g, if its variables can have several edges in the run.
     fn write_row(self, work: &mut [i8], sums: &mut [i32], g: usize)
         requires room { Room self.turns.code self.turns.lanes work.old sums.old }
@@ -281,6 +266,7 @@ impl<'a> CheckRun<'a, '_> {
     }
 
     // The values that a run has left.
+    #[tactic(auto, using(crate::specs::Rows::written_again))]
     fn write_rows(self, work: &mut [i8], sums: &mut [i32])
         requires { Room self.turns.code self.turns.lanes work.old sums.old }
         ensures { let t = self.entry.turns in
@@ -293,6 +279,7 @@ impl<'a> CheckRun<'a, '_> {
     }
 
     // The run but for the values of the flagged rows' variables.
+    #[tactic(auto, using(crate::specs::Checks::checks_end))]
     fn shared_run(self, work: &mut [i8], t: &mut [i8; 2048])
         requires { Fits self.turns.code self.turns.lanes work.old }
         ensures { let t = self.entry.turns in
@@ -300,13 +287,14 @@ impl<'a> CheckRun<'a, '_> {
     {
         let mut place = 0;
         for x in 0..self.turns.m {
-            let check = self.check(x);
+            let check = self.turns.check(x);
             simd_layered::check_shared(check, work, t, place, self.flags, self.turns.offset);
             place += check.d;
         }
     }
 
     // The run: its checks, then the values of the flagged rows.
+    #[tactic(auto, using(crate::specs::Checks::run_law))]
     fn run(self, work: &mut [i8], t: &mut [i8; 2048], sums: &mut [i32])
         requires { Room self.turns.code self.turns.lanes work.old sums.old }
         ensures { let t = self.entry.turns in
@@ -317,8 +305,25 @@ impl<'a> CheckRun<'a, '_> {
     }
 }
 
-impl Layering<'_, '_> {
+impl<'a> Layering<'a, '_> {
+    // The m checks first, first + q and so on.
+    fn turns(self, first: usize, m: usize) -> Turns<'a>
+        requires { (x : ℕ) → x < m → stepped first self.q x < self.code.p }
+        ensures of { (result.code ≡ self.entry.code) × (result.lanes ≡ self.entry.lanes) × (result.offset ≡ self.entry.offset) }
+        ensures which { (result.first ≡ first) × (result.q ≡ self.entry.q) × (result.m ≡ m) }
+    {
+        Turns {
+            code: self.code,
+            lanes: self.lanes,
+            offset: self.offset,
+            first,
+            q: self.q,
+            m,
+        }
+    }
+
     // Layer l in runs of `step` checks, the last shorter. Where every variable has one edge at most, they are the layer's checks in turn.
+    #[tactic(auto, using(crate::specs::Layers::runs_start))]
     fn runs(self, work: &mut [i8], scratch: &mut Scratch, sums: &mut [i32], l: usize)
         requires layer { l < self.q }
         requires room { Room self.code self.lanes work.old sums.old }
@@ -326,39 +331,20 @@ impl Layering<'_, '_> {
             RunsMade of.code.n of.code.p of.lanes of.offset of.code.lists.now of.q of.step l work.old (run_count of.step) work.new }
     {
         let Layering {
-            code,
             q,
             groups,
             spans,
-            lanes,
             step,
-            offset,
+            ..
         } = self;
         let Some(flags) = spans.shared(groups, q, l) else {
-            let turns = Turns {
-                code,
-                lanes,
-                offset,
-                first: l,
-                q,
-                m: GROUP,
-            };
-            fixed::checks(turns, work, &mut scratch.t, &mut scratch.u);
+            fixed::checks(self.turns(l, GROUP), work, &mut scratch.t, &mut scratch.u);
             return;
         };
-        for j in 0..GROUP.div_ceil(step) {
-            let at = j * step;
+        for at in (0..GROUP).step_by(step) {
             let m = step.min(GROUP - at);
-            let turns = Turns {
-                code,
-                lanes,
-                offset,
-                first: l + at * q,
-                q,
-                m,
-            };
             let run = CheckRun {
-                turns,
+                turns: self.turns(l + at * q, m),
                 spans,
                 flags: &flags,
                 l,
@@ -368,6 +354,7 @@ impl Layering<'_, '_> {
     }
 
     // Layers 0 to q − 1.
+    #[tactic(auto, using(crate::specs::Layers::layers_start, crate::specs::Layers::layers_again))]
     fn layers(self, work: &mut [i8], sums: &mut [i32])
         requires { Room self.code self.lanes work.old sums.old }
         ensures { let of = self.entry in
@@ -384,7 +371,9 @@ impl Layering<'_, '_> {
 }
 
 // One layered iteration of every lane's word, with runs of `step` checks. `lists` are the code's and `spans` the table of its rows' edges (fixed_conflicts);
-// `sums` is work of 374 times `lanes`.
+// `sums` is work of 374 times `lanes`. (`of` and `lists` are two parameters and no CodeLists: k is n − p
+// and q is p / 374, but Prepared and Layered speak of the sizes' own, and each proof would have to show that division. That the table is whole, as RowSpans
+// has it, is in Prepared, which speaks of more than the table.)
 pub fn layered_iteration(
     of: Sizes,
     spans: &[u8],
@@ -400,14 +389,8 @@ pub fn layered_iteration(
     ensures { Layered of.n of.p of.q lanes offset step lists.now work.old work.new }
 {
     let Sizes { n, k, p, q, .. } = of;
-    let code = CodeLists {
-        lists,
-        rows: &lists[p + 1..],
-        n,
-        p,
-    };
     let layering = Layering {
-        code,
+        code: CodeLists::new(lists, n, p),
         q,
         groups: k / GROUP,
         spans: RowSpans { table: spans },

@@ -22,9 +22,6 @@ pub record CheckMemory (rows : List ℕ) (s d n lanes : ℕ) (a : List ℤ) : Ty
   pub many : 16 ≤ length rows
   pub some_lanes : 0 < lanes
 
-pub rows_of : {rows : List ℕ} {s d n lanes : ℕ} {a : List ℤ} → CheckMemory rows s d n lanes a → CheckRows rows s d n lanes
-rows_of r = record { edges = r.edges; degree = r.degree; variables = r.variables; many = r.many; some_lanes = r.some_lanes }
-
 -- the same of a slice as long
 pub check_memory_to : {rows : List ℕ} {s d n lanes : ℕ} {a b : List ℤ} → length b ≡ length a → CheckMemory rows s d n lanes a → CheckMemory rows s d n lanes b
 check_memory_to e r =

@@ -2,9 +2,9 @@
 use Rattle.std.specs.Prelude.{cond, List, ◌++◌, ℕ, suc, ◌+◌, eqb, ltb, leb, length, drop, Result}
 use Rattle.refusal.specs.Number.{answer}
 use Rattle.refusal.specs.declared.Refusal.{Refusal}
-use Rattle.ldpc_shape.specs.Shape.{k_of, p_of, q_of, e_of, code_refusal}
+use Rattle.ldpc_shape.specs.declared.Sizes.{Sizes}
+use Rattle.ldpc_shape.specs.Shape.{k_of, p_of, e_of, sizes_of, code_refusal}
 use Rattle.ldpc_edges.specs.Code.{check, edge_lists, parity, encode, weight}
-use Rattle.ldpc.specs.declared.Code.{Code}
 
 -- ---- the refusals: 2 to 6, then 12 and 13 where they concern the call
 -- a if it is a refusal, else b
@@ -43,8 +43,8 @@ weight_refusal n lens addrs size = or_else (code_refusal n lens addrs) (other_of
 
 -- ---- the answers
 -- for a slice of `size` numbers
-unfoldable pub new_answer : ℕ → List ℕ → List ℕ → ℕ → Result Code Refusal
-new_answer n lens addrs size = answer (new_refusal n lens addrs size) (record { k = k_of lens; p = p_of n lens; q = q_of n lens; e = e_of n lens addrs })
+unfoldable pub new_answer : ℕ → List ℕ → List ℕ → ℕ → Result Sizes Refusal
+new_answer n lens addrs size = answer (new_refusal n lens addrs size) (sizes_of n lens addrs)
 
 unfoldable pub check_answer : ℕ → List ℕ → List ℕ → ℕ → ℕ → Result ℕ Refusal
 check_answer n lens addrs c size = answer (check_refusal n lens addrs c size) (length (check n lens addrs c))

@@ -6,38 +6,26 @@
 ghost use Rattle.std.specs.Prelude.{◌≡◌, IfOk, length};
 ghost use Rattle.refusal.specs.Number.{number_of};
 ghost use Rattle.ldpc_shape.specs.Shape.{k_of, sizes_of, code_refusal};
+ghost use Rattle.ldpc_shape.specs.Accepted.{Bounded};
 ghost use Rattle.ldpc.specs.Answers.{or_else, other_of, new_refusal, check_refusal, parity_refusal, encode_refusal, weight_refusal, new_answer, new_into, check_answer, check_into, parity_answer, parity_into, encode_answer, encode_into, weight_answer};
 
 use ldpc_shape::{Sizes, Table};
 use refusal::Refusal;
 
-// The numbers of a code that `new` answers.
-#[derive(Clone, Copy, Debug, PartialEq, Eq)]
-pub struct Code {
-    pub k: u32,
-    pub p: u32,
-    pub q: u32,
-    pub e: u32,
-}
-
-// k, P, q and E; `lists` gets row_start (P + 1 numbers) and then rows (E bits).
-pub fn new(n: u32, lens: &[u32], addrs: &[u16], lists: &mut [u32]) -> Result<Code, Refusal>
+// The code's numbers; `lists` gets row_start (P + 1 numbers) and then rows (E bits).
+pub fn new(n: u32, lens: &[u32], addrs: &[u16], lists: &mut [u32]) -> Result<Sizes, Refusal>
     ensures answer { (result ≡ new_answer n lens.now addrs.now (length lists.old))
         × (lists.new ≡ new_into n lens.now addrs.now lists.old) }
+    ensures bounded { IfOk result Bounded }
     ensures number { number_of result ≡ new_refusal n lens.now addrs.now (length lists.old) }
 {
     let of = Table::accept(n, lens, addrs)?;
-    let Sizes { k, p, q, e, .. } = of.sizes;
+    let Sizes { p, e, .. } = of.sizes;
     let (front, _) = lists
         .split_at_mut_checked(p + 1 + e)
         .ok_or(Refusal::TooShort)?;
     ldpc_lists::build(of, front);
-    Ok(Code {
-        k: k as u32,
-        p: p as u32,
-        q: q as u32,
-        e: e as u32,
-    })
+    Ok(of.sizes)
 }
 
 // The bits of check c in order, in front of `out`, and how many they are.
@@ -76,7 +64,8 @@ fn informed<'a>(
     Ok(of)
 }
 
-// The P parity bits of the information, in front of `out`.
+// The P parity bits of the information, in front of `out`. (This and the next stay two: what they share is `informed`, and the rest is a length and
+// a call, which would be two parameters.)
 pub fn parity(
     n: u32,
     lens: &[u32],

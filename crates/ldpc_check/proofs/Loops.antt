@@ -1,5 +1,5 @@
 -- What each turn of the loops does.
-use Rattle.std.proofs.Common.{◌≡◌, refl, sym, ap, ap₂, ◌∙◌, cond, List, [], ◌∷◌, ◌++◌, append_assoc, append-nil, ℕ, zero, suc, ◌+◌, ◌-◌, ◌*◌, ◌%◌, ◌≤◌, ◌<◌, arith, mod-lt, add-one, eq-eqb, ne_eqb, lt-ltb, le-ltb, eqb, ltb, length, take, drop, get_or, set, length-append, length-take, length-drop, length-set, take-append-drop, drop-cons, drop-drop, drop-set-lt, take-suc, take-suc-set, take_at, drop_at, length-take-le, drop_of_length-le, subst}
+use Rattle.std.proofs.Common.{◌≡◌, refl, sym, ap, ap₂, ◌∙◌, cond, List, [], ◌∷◌, ◌++◌, append_assoc, append-nil, ℕ, zero, suc, ◌+◌, ◌-◌, ◌*◌, ◌%◌, ◌≤◌, ◌<◌, arith, mod-lt, add-one, eq-eqb, ne_eqb, lt-ltb, le-ltb, eqb, ltb, length, take, drop, get_or, set, length-append, length-take, length-drop, take-append-drop, drop-cons, drop-drop, drop-set-lt, take-suc, take-suc-set, take_at, drop_at, length-take-le, drop_of_length-le, subst}
 use Rattle.std.proofs.lemmas.List.{take-take}
 use Rattle.std.proofs.Math.Seq.{set_split}
 use Rattle.laws.specs.Lists.{lent_from, back_from}

@@ -9,7 +9,9 @@ ghost use Rattle.ldpc_check.specs.Found.{found, all_of};
 use ldpc_rows::{Row, Rows};
 use ldpc_shape::{GROUP_U32, Table};
 
-// m in its place among the ascending bits before the last place.
+// m in its place among the ascending bits before the last place. (As the definition's `insert`, it swaps along. By `position` and `copy_within`, 1 to 13
+// bits take 8 to 30 % more instructions, and each call would ask for bits that ascend. With `mem::swap` over the front's `iter_mut` it would be no plainer: the
+// bit that is left goes to the last place all the same.)
 fn insert_bit(out: &mut [u32], m: u32)
     requires { 0 < length out.old }
     ensures { out.new ≡ insert m (take (length out.old - 1) out.old) }
@@ -43,7 +45,7 @@ impl CheckAt {
         (self.c / self.q + GROUP_U32 - u32::from(a) / self.q % GROUP_U32) % GROUP_U32
     }
 
-    // The check's bits of a row, ascending, in front; how many.
+    // The check's bits of a row, ascending, in front; how many: C lends `out`, and there is no heap for a list. So in what follows.
     fn row(self, out: &mut [u32], row: Row<'_>) -> usize
         requires { length (found self.q self.c row.first row.addrs.now) ≤ length out.old }
         ensures { (result ≡ length (found self.q self.c row.entry.first row.entry.addrs.now))
@@ -67,14 +69,14 @@ impl CheckAt {
             × (out.new ≡ all_of self.q self.c of.entry.lens.now of.entry.addrs.now ++ drop result out.old) }
     {
         let mut n = 0;
-        for row in Rows::new(of.lens, of.addrs) {
+        for row in Rows::from(of) {
             n += self.row(&mut out[n..], row);
         }
         n
     }
 }
 
-// The parity bits of check c in front; how many.
+// The parity bits of check c in front; how many. (Ascending here: `ldpc_lists::put_stair` puts them from the last, and the encoder xors them.)
 fn put_stairs(out: &mut [u32], k: u32, c: u32) -> usize
     requires { (k + c ≤ 44880) × (length (stairs k c) ≤ length out.old) }
     ensures { (result ≡ length (stairs k c)) × (out.new ≡ stairs k c ++ drop result out.old) }
@@ -89,7 +91,7 @@ fn put_stairs(out: &mut [u32], k: u32, c: u32) -> usize
     2
 }
 
-// How many bits check c has.
+// How many bits check c has. (Not `filter(..).count()` over the one residue: it would need again the law that `counts` gives.)
 pub fn degree_of(of: Table<'_>, c: u32) -> usize
     requires { c < of.sizes.p }
     ensures { result ≡ length (check of.entry.sizes.n of.entry.lens.now of.entry.addrs.now c) }
@@ -97,7 +99,7 @@ pub fn degree_of(of: Table<'_>, c: u32) -> usize
     let q = of.sizes.q as u32;
     let r = ldpc_shape::counts(of.addrs, q);
     let met = r[(c % q) as usize] as usize;
-    if c == 0 { met + 1 } else { met + 2 }
+    met + ldpc_shape::parity_bits(c as usize) as usize
 }
 
 // The list of check c in front; its length.

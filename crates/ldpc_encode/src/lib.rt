@@ -10,7 +10,7 @@ ghost use Rattle.ldpc_encode.specs.Sums.{xors, turned_bit, row_bit, info_bit, Ad
 use ldpc_rows::Rows;
 use ldpc_shape::{GROUP, GROUP_U32, Table};
 
-// Each byte of x xored with w's.
+// Each byte of x xored with w's. (By place: of `iter_mut().zip(..)` the library says the length alone, and no element.)
 fn xor_into(x: &mut [u8], w: &[u8])
     requires { length x.old ≡ length w.now }
     ensures { x.new ≡ xors x.old w.now }
@@ -30,7 +30,7 @@ fn add_turned(x: &mut [u8; GROUP], w: &[u8], s: usize)
     xor_into(&mut x[..s], &w[r..]);
 }
 
-// By how much an address turns its row's bits.
+// By how much an address turns its row's bits. (q as a number, as in `ldpc_shape::residue`.)
 fn turn(a: u16, q: u32) -> usize
     requires { 0 < q }
     ensures { (result ≡ a / q % 374) × (result < 374) }
@@ -61,18 +61,16 @@ impl Class {
         }
     }
 
-    // The low bit of byte i: whether an odd number of the information bits of the i-th check is 1.
-    fn sums(self, w: &[u8], of: Table<'_>) -> [u8; GROUP]
+    // Those of all rows. (Added to what is lent: where an array was answered, and copied twice, parity took 512 thousand instructions; so it takes 495.)
+    fn add_rows(self, x: &mut [u8; GROUP], w: &[u8], of: Table<'_>)
         requires { of.sizes.k ≤ length w.now }
-        ensures { (i : ℕ) → i < 374
-            → get_or result i 0 % 2 ≡ info_bit self.q self.l w.now of.entry.lens.now of.entry.addrs.now i % 2 }
+        ensures { AddedToSums x.old x.new (info_bit self.q self.l w.now of.entry.lens.now of.entry.addrs.now) }
     {
-        let mut x = [0; GROUP];
-        for row in Rows::new(of.lens, of.addrs) {
+        for row in Rows::from(of) {
+            // A row says where its bits begin: a walk over chunks beside it would have to agree with that.
             let first = row.first as usize;
-            self.add_row(&mut x, &w[first..first + GROUP], row.addrs);
+            self.add_row(x, &w[first..first + GROUP], row.addrs);
         }
-        x
     }
 
     // How many of its checks are odd, with the sums x and the parity bits p.
@@ -89,17 +87,20 @@ impl Class {
     }
 }
 
-// The low bits of the sums to the checks of a class.
-fn scatter(out: &mut [u8], x: &[u8; GROUP], q: usize, l: usize)
-    requires { (length out.old ≡ 374 * q) × (l < q) × (q ≤ 120) }
-    ensures { Scattered 374 q l x.now out.old out.new }
+// The low bits of the sums to the checks of a class. (q is divided out here and not passed in: else the compiler makes
+// vectors for q 1 alone; without this, parity took 558 thousand instructions where it took 512. By number: q steps from place to place.)
+fn scatter(out: &mut [u8], x: &[u8; GROUP], l: usize)
+    requires { (length out.old % 374 ≡ 0) × (l < length out.old / 374) × (length out.old ≤ 44880) }
+    ensures { Scattered 374 (length out.old / 374) l x.now out.old out.new }
 {
+    let q = out.len() / GROUP;
     for i in 0..GROUP {
         out[l + i * q] = x[i] % 2;
     }
 }
 
-// Each bit xor the one before.
+// Each bit xor the one before. (By number: over `iter_mut` the loop is as long, and the must-fail edit `sum_one_late` would fail by its shape, not by a
+// fact that no longer holds.)
 fn sum_up(p: &mut [u8])
     ensures { p.new ≡ sums 0 p.old }
 {
@@ -118,13 +119,14 @@ pub fn parity_of(of: Table<'_>, info: &[u8], out: &mut [u8])
     for l in 0..of.sizes.q {
         let q = of.sizes.q;
         let class = Class { q, l };
-        let x = class.sums(info, of);
-        scatter(out, &x, q, l);
+        let mut x = [0; GROUP];
+        class.add_rows(&mut x, info, of);
+        scatter(out, &x, l);
     }
     sum_up(out);
 }
 
-// A copy of w in front.
+// A copy of w in front. (A function of its own, so that the must-fail edit `masked_copy` is refused by this clause.)
 fn copy(out: &mut [u8], w: &[u8])
     requires { length w.now ≤ length out.old }
     ensures { out.new ≡ w.now ++ drop (length w.now) out.old }
@@ -141,7 +143,7 @@ pub fn encode_of(of: Table<'_>, info: &[u8], out: &mut [u8])
     parity_of(of, info, &mut out[info.len()..]);
 }
 
-// The parity bits of check c together.
+// The parity bits of check c together. (A check's one or two are written out here, and in ldpc_check and ldpc_lists: xored, ascending, descending.)
 fn stair_bit(p: &[u8], c: usize) -> u8
     requires { c < length p.now }
     ensures { result % 2 ≡ stair_bit p.now c % 2 }
@@ -168,7 +170,9 @@ pub fn weight_of(of: Table<'_>, bits: &[u8]) -> u32
     let mut u = 0;
     for l in 0..of.sizes.q {
         let class = Class { q: of.sizes.q, l };
-        u += class.odd_checks(&class.sums(bits, of), p);
+        let mut x = [0; GROUP];
+        class.add_rows(&mut x, bits, of);
+        u += class.odd_checks(&x, p);
     }
     u
 }

@@ -12,7 +12,8 @@ ghost use Rattle.ldpc_lists.specs.Ends.{Few, EndsSet, ending};
 use ldpc_rows::{Row, Rows};
 use ldpc_shape::{GROUP_U32, MAX_Q, Sizes, Table};
 
-// Bit m before what check p has so far. (`starts` and `rows` are two parameters: a structure of the two would have to say at each function that it keeps both.)
+// Bit m before what check p has so far. (Two parameters: for such a pair, `out` and `records` of decoder_words, a structure proves, but each contract then says
+// besides that both references are kept. And no ghost field could say the room: the edges that must still fit differ from function to function, and shrink.)
 #[tactic(auto, unfolding(crate::specs::Build::put))]
 fn put_one(starts: &mut [u32], rows: &mut [u32], p: usize, m: u32)
     requires { Ready p (as_lists starts.old rows.old) }
@@ -23,16 +24,32 @@ fn put_one(starts: &mut [u32], rows: &mut [u32], p: usize, m: u32)
     rows[s as usize] = m;
 }
 
-// How many checks a code has, and its q.
+// How many checks a code has, and its q. (Written out at its two places: a conversion's clause would have to be shown at both.)
 #[derive(Clone, Copy)]
 struct Checks {
     count: u32,
     q: u32,
     ghost some: { 0 < count },
+    ghost within: { count ≤ 44880 },
+    ghost turns: { 0 < q },
     ghost few: { q ≤ 120 },
 }
 
 impl Checks {
+    // Each start at the end of its check's list. (By number: i names the residue too.)
+    fn ends(self, starts: &mut [u32], counts: &[u32; MAX_Q])
+        requires { (self.count < length starts.old) × Few counts.now self.q }
+        ensures { EndsSet counts.now self.q starts.new self.count × (get_or starts.new self.count 0 ≡ ending counts.now self.q self.count) }
+    {
+        let (count, q) = (self.count as usize, self.q as usize);
+        let mut e = 0;
+        for i in 0..count {
+            e += counts[i % q] + ldpc_shape::parity_bits(i);
+            starts[i] = e;
+        }
+        starts[count] = e;
+    }
+
     // The check that an address meets, s further on.
     fn meets(self, a: u16, s: u32) -> usize
         requires { s ≤ 44880 }
@@ -74,12 +91,12 @@ fn put_rows(starts: &mut [u32], rows: &mut [u32], of: Table<'_>)
         count: of.sizes.p as u32,
         q: of.sizes.q as u32,
     };
-    for row in Rows::new(of.lens, of.addrs).rev() {
+    for row in Rows::from(of).rev() {
         checks.put_row(starts, rows, row);
     }
 }
 
-// The parity bits of check c.
+// The parity bits of check c, the later first. (Of k and c only this is asked, that their sum is at most n's limit: no structure has just the two.)
 fn put_stair(starts: &mut [u32], rows: &mut [u32], k: u32, c: usize)
     requires { (k + c ≤ 44880) × RoomForEdges (suc c) (to_bits c (stairs k c)) (as_lists starts.old rows.old) }
     ensures { as_lists starts.new rows.new ≡ put_all (to_bits c (stairs k c)) (as_lists starts.old rows.old) }
@@ -102,35 +119,19 @@ fn put_stairs(starts: &mut [u32], rows: &mut [u32], k: u32, checks: usize)
     }
 }
 
-// How many parity bits check c has.
-fn stair(c: usize) -> u32
-    ensures { (result ≡ cond (eqb c 0) 1 2) × (result ≤ 2) }
-{
-    if 0 < c { 2 } else { 1 }
-}
-
-// Each start at the end of its check's list.
-fn ends(starts: &mut [u32], counts: &[u32; MAX_Q], q: usize, checks: usize)
-    requires { (0 < q) × (q ≤ 120) × (checks ≤ 44880) × (checks < length starts.old) × Few counts.now q }
-    ensures { EndsSet counts.now q starts.new checks × (get_or starts.new checks 0 ≡ ending counts.now q checks) }
-{
-    let mut e = 0;
-    for i in 0..checks {
-        e += counts[i % q] + stair(i);
-        starts[i] = e;
-    }
-    starts[checks] = e;
-}
-
 // The lists of all checks of a code, in a slice of E + P + 1 numbers.
 pub fn build(of: Table<'_>, lists: &mut [u32])
     requires { length lists.old ≡ suc of.sizes.p + of.sizes.e }
     ensures { lists.new ≡ edge_lists of.entry.sizes.n of.entry.lens.now of.entry.addrs.now }
 {
     let Sizes { k, p, q, .. } = of.sizes;
+    let checks = Checks {
+        count: p as u32,
+        q: q as u32,
+    };
     let counts = ldpc_shape::counts(of.addrs, q as u32);
     let (starts, rows) = lists.split_at_mut(p + 1);
-    ends(starts, &counts, q, p);
+    checks.ends(starts, &counts);
     put_stairs(starts, rows, k as u32, p);
     put_rows(starts, rows, of);
 }

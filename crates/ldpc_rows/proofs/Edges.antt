@@ -30,7 +30,7 @@ module _ (P q : ℕ) (s : Rows) where
   unfolding left_edges
   as_numbered t = numbered_rows P q t.first (rows_of t.lens.now t.addrs.now)
 
-  -- n is what `Rows::new` gave
+  -- n is what `Rows::from` gave
   pub edges_start : (n : Rows) (lens addrs : List ℕ) → s ≡ n → n.first ≡ 0 → n.lens.now ≡ lens → n.addrs.now ≡ addrs → left_edges P q s ≡ of_rows P q 0 (rows_of lens addrs)
   unfolding left_edges
   edges_start n lens addrs k e f g =

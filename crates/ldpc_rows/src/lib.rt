@@ -4,6 +4,8 @@
 ghost use Rattle.std.specs.Prelude.{◌≡◌, ◌+◌, ◌*◌, ◌≤◌, length};
 ghost use Rattle.ldpc_shape.specs.Shape.{total};
 
+use ldpc_shape::Table;
+
 mod iter;
 
 // A row: its first information bit and its addresses.
@@ -24,19 +26,15 @@ pub struct Rows<'a> {
     ghost whole: { total lens.now ≡ length addrs.now },
 }
 
-impl<'a> Rows<'a> {
-    // All rows.
-    pub fn new(lens: &'a [u32], addrs: &'a [u16]) -> Rows<'a>
-        requires few { length lens.now ≤ 120 }
-        requires whole { total lens.now ≡ length addrs.now }
-        ensures first { result.first ≡ 0 }
-        ensures lens { result.lens.now ≡ lens.now }
-        ensures addrs { result.addrs.now ≡ addrs.now }
-    {
+// All rows of a code.
+impl<'a> From<Table<'a>> for Rows<'a> {
+    ghost from_gives = { λ of rows. (rows.first ≡ 0) × (rows.lens.now ≡ of.lens.now) × (rows.addrs.now ≡ of.addrs.now) };
+
+    fn from(of: Table<'a>) -> Rows<'a> {
         Rows {
             first: 0,
-            lens,
-            addrs,
+            lens: of.lens,
+            addrs: of.addrs,
         }
     }
 }

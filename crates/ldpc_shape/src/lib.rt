@@ -1,14 +1,15 @@
 // The shape of a code, lent as n, the rows' lengths and their addresses, and the refusals 2 to 6.
 #![tactic(auto)]
 
-ghost use Rattle.std.specs.Prelude.{◌≡◌, false, ◌%◌, ◌<◌, ◌≤◌, length, IfOk};
+ghost use Rattle.std.specs.Prelude.{◌≡◌, false, cond, eqb, ◌%◌, ◌<◌, ◌≤◌, length, IfOk};
 ghost use Rattle.refusal.specs.Number.{number_of};
 ghost use Rattle.ldpc_shape.specs.Shape.{sizes_of, total, any_over, bad_length, code_refusal};
 ghost use Rattle.ldpc_shape.specs.Counts.{CountsOf};
 
 use refusal::Refusal;
 
-// The bits of a row, and the checks of each residue modulo q.
+// The bits of a row, and the checks of each residue modulo q: the length of an array, and beside it the number that bits, checks and addresses are
+// reckoned with, which are u32s. (A name of its own: the cast stands once, and not at each of its uses.)
 pub const GROUP: usize = 374;
 
 pub const GROUP_U32: u32 = GROUP as u32;
@@ -26,7 +27,7 @@ pub struct Sizes {
     pub e: usize,
 }
 
-// An accepted code: its numbers, its rows' lengths, and their addresses one after the other.
+// An accepted code: its numbers, its rows' lengths, and their addresses one after the other. C lends these one by one; below `accept` they are a table.
 #[derive(Clone, Copy)]
 pub struct Table<'a> {
     pub sizes: Sizes,
@@ -44,17 +45,35 @@ impl<'a> Table<'a> {
             × (t.lens.now ≡ lens.now)
             × (t.addrs.now ≡ addrs.now)) }
     {
-        let sizes = accept(n, lens, addrs)?;
+        if bad_length(n) {
+            return Err(Refusal::N);
+        }
+        if (n / GROUP_U32) as usize <= lens.len() {
+            return Err(Refusal::Rows);
+        }
+        if any_over(128, lens) {
+            return Err(Refusal::RowLength);
+        }
+        if sum_of(lens) != addrs.len() {
+            return Err(Refusal::Addresses);
+        }
+        let q = n / GROUP_U32 - lens.len() as u32;
+        let r = counts(addrs, q);
+        if any_over(126, &r[..q as usize]) {
+            return Err(Refusal::EqualAddresses);
+        }
+        let sizes = sizes_of(n, lens, addrs);
         Ok(Table { sizes, lens, addrs })
     }
 }
 
-// The address's residue modulo q.
+// The address's residue modulo q. (q goes as a number, here and in `counts`: ldpc_check's `CheckAt`, ldpc_lists' `Checks` and
+// ldpc_encode's `Class` each have one, whose bounds their ghost fields give; the residue needs only that q is no 0.)
 pub fn residue(a: u16, q: u32) -> usize
     requires { 0 < q }
     ensures { (result ≡ a % q) × (result < q) }
 {
-    ((a as u32) % q) as usize
+    (u32::from(a) % q) as usize
 }
 
 // Whether n is no length of a code.
@@ -79,7 +98,8 @@ fn sum_of(lens: &[u32]) -> usize
     lens.iter().map(|&l| l as usize).sum()
 }
 
-// How many addresses are l modulo q, for each l below q; zeros from q on.
+// How many addresses are l modulo q, for each l below q; zeros from q on. (An array for the most that q can be: memory is fixed, and each caller has q already.
+// No ArrayVec: it grows from the front, and this is filled by place.)
 pub fn counts(addrs: &[u16], q: u32) -> [u32; MAX_Q]
     requires { (0 < q) × (q ≤ 120) × (length addrs.now ≤ 15360) }
     ensures { CountsOf result q addrs.now }
@@ -91,33 +111,15 @@ pub fn counts(addrs: &[u16], q: u32) -> [u32; MAX_Q]
     r
 }
 
-// The numbers of a code, or the first of the refusals 2 to 6 that applies.
-pub fn accept(n: u32, lens: &[u32], addrs: &[u16]) -> Result<Sizes, Refusal>
-    ensures number { number_of result ≡ code_refusal n lens.now addrs.now }
-    ensures sizes { IfOk result (λ s. s ≡ sizes_of n lens.now addrs.now) }
+// How many parity bits check c has: its own and the one before, which the first has not. (Only the number: they are written out where they are used.)
+pub fn parity_bits(c: usize) -> u32
+    ensures { (result ≡ cond (eqb c 0) 1 2) × (result ≤ 2) }
 {
-    if bad_length(n) {
-        return Err(Refusal::N);
-    }
-    if (n / GROUP_U32) as usize <= lens.len() {
-        return Err(Refusal::Rows);
-    }
-    if any_over(128, lens) {
-        return Err(Refusal::RowLength);
-    }
-    if sum_of(lens) != addrs.len() {
-        return Err(Refusal::Addresses);
-    }
-    let q = n / GROUP_U32 - lens.len() as u32;
-    let r = counts(addrs, q);
-    if any_over(126, &r[..q as usize]) {
-        return Err(Refusal::EqualAddresses);
-    }
-    Ok(sizes_of(n, lens, addrs))
+    if 0 < c { 2 } else { 1 }
 }
 
 // The numbers of an accepted code.
-pub fn sizes_of(n: u32, lens: &[u32], addrs: &[u16]) -> Sizes
+fn sizes_of(n: u32, lens: &[u32], addrs: &[u16]) -> Sizes
     requires { code_refusal n lens.now addrs.now ≡ 0 }
     ensures { result ≡ sizes_of n lens.now addrs.now }
 {

@@ -1,6 +1,6 @@
 -- The BCH part of a word: what its correction inside the word gives. Proofs, not specs, since a wrong `part_of` shall be refused for what it means
 -- (must-fail/bch_part_one_byte_on.edit) and not for these theorems.
-use Rattle.std.proofs.Common.{◌≡◌, ◌≢◌, ◌↔◌, ◌⊎◌, ℕ, ◌+◌, ◌-◌, ◌≤◌, length, take, Result, Ok, ◌∙◌, arith, length-append, length-take, length-drop, drop-drop, drop_at, List, ◌++◌}
+use Rattle.std.proofs.Common.{◌≡◌, ◌≢◌, ◌↔◌, ◌⊎◌, ℕ, ◌+◌, ◌-◌, ◌≤◌, length, take, Option, Some, None, Result, Ok, ◌∙◌, arith, length-append, length-take, length-drop, drop-drop, drop_at, List, ◌++◌}
 use Rattle.std.proofs.Math.Path.{refl, sym, ap, subst}
 use Rattle.std.proofs.Math.Logic.{inl, inr}
 use Rattle.std.proofs.Math.ListN.{drop}
@@ -11,8 +11,6 @@ use Rattle.bch.specs.Exact.{Near, Exact}
 use Rattle.bch.specs.ExactLaws.{exact}
 use Rattle.bch.specs.Answers.{word_refusal, decoded_of, word_out}
 use Rattle.bch.specs.AnswersLaws.{fair_word, changed}
-use Rattle.bch.specs.declared.Decoded.{Decoded}
-use Rattle.bch.specs.declared.Decoded.TheVariants.{Corrected, Uncorrectable}
 use Rattle.refusal.specs.declared.Refusal.{Refusal}
 use Rattle.refusal.specs.NumberLaws.{accepted}
 use Rattle.decoder_plan.specs.declared.Part.{Part}
@@ -42,7 +40,7 @@ corrected_whole part b back e =
     ∙ ap (λ (k : ℕ). take first b ++ (word_out (take k (drop first b)) ++ drop k (drop first b))) m
     ∙ ap (λ (l : List ℕ). take first b ++ (word_out (take size (drop first b)) ++ l)) (drop-drop size first b)
 
-pub result_whole : (part : Part) (b : List ℕ) (answer : Result Decoded Refusal) → answer ≡ decoded_of (take (part.first + part.length - part.first) (drop part.first b))
+pub result_whole : (part : Part) (b : List ℕ) (answer : Result (Option ℕ) Refusal) → answer ≡ decoded_of (take (part.first + part.length - part.first) (drop part.first b))
     → bch_result answer ≡ bch_of part b
 unfolding bch_of
 result_whole part b answer e =
@@ -76,27 +74,27 @@ module _ (part : Part) (b : List ℕ) (P : PartInside part b) where
   result = ap bch_result answered
 
   -- the result is a count of at most 12, or lost
-  few : (k : ℕ) → answer_of bits ≡ Corrected k → k ≤ 12
+  few : (k : ℕ) → answer_of bits ≡ Some k → k ≤ 12
   few k e = let c = part_exact.count k e in omega (arith, c.0.within, c.1)
 
   pub bch_range : (bch_of part b ≤ 12) ⊎ (bch_of part b ≡ lost)
   unfolding bch_result
   bch_range = subst (λ (k : ℕ). (k ≤ 12) ⊎ (k ≡ lost)) (sym result) (go (answer_of bits) refl)
     where
-      go : (d : Decoded) → answer_of bits ≡ d → (bch_result (Ok d) ≤ 12) ⊎ (bch_result (Ok d) ≡ lost)
-      go (Corrected k) e = inl (few k e)
-      go Uncorrectable e = inr refl
+      go : (d : Option ℕ) → answer_of bits ≡ d → (bch_result (Ok d) ≤ 12) ⊎ (bch_result (Ok d) ≡ lost)
+      go (Some k) e = inl (few k e)
+      go None e = inr refl
 
   -- a word is not lost exactly when its part has a codeword within 12 bits
   pub kept_exactly : (bch_of part b ≢ lost) ↔ ((v : List ℕ) × Near bits v)
   unfolding bch_result lost
   kept_exactly = (λ h. go (answer_of bits) refl (λ e. h (result ∙ e)), λ h q. back (part_exact.exactly.1 h) (sym result ∙ q))
     where
-      go : (d : Decoded) → answer_of bits ≡ d → (bch_result (Ok d) ≢ lost) → (v : List ℕ) × Near bits v
-      go (Corrected k) e h = part_exact.exactly.0 (k, e)
-      go Uncorrectable e h = absurd (h refl)
+      go : (d : Option ℕ) → answer_of bits ≡ d → (bch_result (Ok d) ≢ lost) → (v : List ℕ) × Near bits v
+      go (Some k) e h = part_exact.exactly.0 (k, e)
+      go None e h = absurd (h refl)
 
-      back : (k : ℕ) × (answer_of bits ≡ Corrected k) → bch_result (Ok (answer_of bits)) ≢ lost
+      back : (k : ℕ) × (answer_of bits ≡ Some k) → bch_result (Ok (answer_of bits)) ≢ lost
       back h q = let e : h.0 ≡ 4294967295 = sym (ap (λ d. bch_result (Ok d)) h.1) ∙ q in omega (arith, e, few h.0 h.1)
 
   -- the part that stands in the word at the end
@@ -113,6 +111,6 @@ module _ (part : Part) (b : List ℕ) (P : PartInside part b) where
   unfolding bch_result
   kept_count h = subst (λ (x : List ℕ). Near bits x × (distance bits x ≡ bch_of part b)) (sym part_out) (go (answer_of bits) refl)
     where
-      go : (d : Decoded) → answer_of bits ≡ d → Near bits (word_out bits) × (distance bits (word_out bits) ≡ bch_of part b)
-      go (Corrected k) e = let c = part_exact.count k e in (c.0, c.1 ∙ sym (result ∙ ap (λ d. bch_result (Ok d)) e))
-      go Uncorrectable e = absurd (h (result ∙ ap (λ d. bch_result (Ok d)) e))
+      go : (d : Option ℕ) → answer_of bits ≡ d → Near bits (word_out bits) × (distance bits (word_out bits) ≡ bch_of part b)
+      go (Some k) e = let c = part_exact.count k e in (c.0, c.1 ∙ sym (result ∙ ap (λ d. bch_result (Ok d)) e))
+      go None e = absurd (h (result ∙ ap (λ d. bch_result (Ok d)) e))

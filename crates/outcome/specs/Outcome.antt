@@ -1,14 +1,12 @@
 -- A word's outcome, from its values: "its hard decisions at the end, with the BCH part as BCH leaves it; met if every check was met before
 -- BCH, else unmet; its iterations; how many checks were unsatisfied before BCH; the BCH result"; and the bits that the LDPC step changed.
-use Rattle.std.specs.Prelude.{Bool, cond, ◌||◌, List, [], ◌∷◌, ◌++◌, ℕ, zero, suc, ◌+◌, eqb, ℤ, pos, get_or, take, drop, Result, Ok, Err}
+use Rattle.std.specs.Prelude.{Bool, cond, ◌||◌, List, [], ◌∷◌, ◌++◌, ℕ, zero, suc, ◌+◌, eqb, ℤ, pos, get_or, take, drop, Option, Some, None, Result, Ok, Err}
 use Rattle.iteration.specs.Check.{Word, within}
 use Rattle.iteration.specs.Iteration.{Code, hard, unsatisfied_count}
 use Rattle.schedule.specs.Alone.{after, ends}
 use Rattle.decoder_plan.specs.declared.Part.{Part}
 use Rattle.bch.specs.Distance.{distance}
 use Rattle.bch.specs.Answers.{decoded_of, word_out}
-use Rattle.bch.specs.declared.Decoded.{Decoded}
-use Rattle.bch.specs.declared.Decoded.TheVariants.{Corrected, Uncorrectable}
 use Rattle.refusal.specs.declared.Refusal.{Refusal}
 
 -- "A word alone starts with its soft values as L, every message 0": its n soft values
@@ -45,9 +43,9 @@ corrected part b = take part.first b ++ (word_out (part_of part b) ++ drop (part
 unfoldable pub lost : ℕ
 lost = 4294967295
 
-unfoldable pub bch_result : Result Decoded Refusal → ℕ
-bch_result (Ok (Corrected k)) = k
-bch_result (Ok Uncorrectable) = lost
+unfoldable pub bch_result : Result (Option ℕ) Refusal → ℕ
+bch_result (Ok (Some k)) = k
+bch_result (Ok None) = lost
 bch_result (Err refusal) = lost
 
 unfoldable pub bch_of : Part → List ℕ → ℕ
@@ -63,6 +61,10 @@ is_finished state = eqb state 2 || eqb state 3
 -- whether a record's BCH result says that the word is lost; a word that waits or is held has 0 there
 unfoldable pub is_lost : ℕ → Bool
 is_lost bch = eqb bch lost
+
+-- the bits that BCH corrected, if the word is not lost
+unfoldable pub unless_lost : ℕ → Option ℕ
+unless_lost bch = cond (is_lost bch) None (Some bch)
 
 -- "A finished word is lost if BCH refuses, else kept": what a word's record adds to the tally's `lost` and to its `kept`. Words that wait or
 -- are held are neither.

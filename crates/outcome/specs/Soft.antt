@@ -1,25 +1,20 @@
--- What a scan of a word's soft values reads: the code's lists in one slice, and n soft values.
+-- What a scan of a word's soft values reads: the code's lists, and n soft values.
 use Rattle.std.specs.Prelude.{◌≡◌, refl, Bool, true, false, cond, List, ℕ, zero, suc, ◌+◌, ◌-◌, ◌%◌, ◌≤◌, ◌<◌, ltb, eqb, ℤ, pos, length, get_or, take, drop}
 use Rattle.std.proofs.Math.Path.{sym, ap}
 use Rattle.std.proofs.Common.{ap₂, ◌∙◌, arith, add-one, zero-add, ltb-false, length-take, length-drop, get_or-take, get_or-drop}
 use Rattle.std.proofs.Math.ListN.{get_or-eq_default}
 use Rattle.iteration.specs.Iteration.{hard, negatives, unsatisfied}
-use Rattle.iteration.specs.Lists.{var, edges_in, Lists, code_in}
+use Rattle.iteration.specs.Lists.{var, rows_in, Lists, code_in}
 use Rattle.laws.specs.Definitions.{negative}
 use Rattle.laws.specs.Choice.{by_cond}
 use Rattle.iteration.specs.Check.{within}
-use Rattle.iteration.specs.ListsLaws.{rows_part, start_in, degree_in}
+use Rattle.iteration.specs.ListsLaws.{start_in, degree_in}
 use Rattle.iteration.specs.Count.{unmet_at}
 use Rattle.outcome.specs.Outcome.{begin}
 
 -- the value of each variable
 abbrev pub values : List ℤ → ℕ → ℤ
 values soft v = get_or soft v (pos 0)
-
--- what is lent with a word's soft values: a code's lists, for as many variables as there are values
-pub record Lent (p : ℕ) (lists : List ℕ) (soft : List ℤ) : Type 0 where
-  pub listed : Lists (length soft) p lists
-  pub few_checks : p ≤ 44880
 
 -- edges whose variables are below n
 abbrev pub Edges : List ℕ → ℕ → Type 0
@@ -47,34 +42,32 @@ pub negatives_again : (v : ℕ → ℕ) (s k : ℕ) (L : ℕ → ℤ) (count b :
 unfolding negatives
 negatives_again v s k L count b e f = ap₂ (λ (x y : ℕ). x + y) e f ∙ ap (λ (z : ℕ). negatives v s z L) (sym (add-one k))
 
--- ---- check c of the lists, d edges from s, in the part of the slice that is lent
-module _ (p n c s d : ℕ) (lists : List ℕ) (h : c < p) (e : s ≡ get_or lists c 0) (f : s + d ≡ get_or lists (c + 1) 0) (listed : Lists n p lists) where
-  abbrev lent : List ℕ
-  lent = take (length lists - (p + 1)) (drop (p + 1) lists)
-
+-- ---- check c of the lists, d edges from s, in the rows that a code's lists are lent with
+module _ (p n c s d : ℕ) (lists rows : List ℕ) (second : rows ≡ rows_in p lists) (h : c < p) (e : s ≡ get_or lists c 0) (f : s + d ≡ get_or lists (c + 1) 0)
+    (listed : Lists n p lists) where
   abbrev own : List ℕ
-  own = take (s + d - s) (drop s lent)
+  own = take (s + d - s) (drop s rows)
 
-  inside : s + d ≤ edges_in p lists
-  inside = omega (arith, listed.within (c + 1) (omega arith))
+  inside : s + d ≤ length rows
+  inside = omega (arith, listed.within (c + 1) (omega arith), ap length second)
 
-  pub own_length : length own ≡ d
-  own_length = length-take (s + d - s) (drop s lent) ∙ omega (arith, length-drop s lent, ap length (rows_part p lists), inside)
+  own_length : length own ≡ d
+  own_length = length-take (s + d - s) (drop s rows) ∙ omega (arith, length-drop s rows, inside)
 
-  own_at : (k : ℕ) → k < d → get_or own k 0 ≡ get_or lent (s + k) 0
-  own_at k q = get_or-take (s + d - s) (drop s lent) k 0 (omega arith) ∙ get_or-drop s lent k 0
+  own_at : (k : ℕ) → k < d → get_or own k 0 ≡ get_or rows (s + k) 0
+  own_at k q = get_or-take (s + d - s) (drop s rows) k 0 (omega arith) ∙ get_or-drop s rows k 0
 
-  own_negatives : (L : ℕ → ℤ) (k : ℕ) → k ≤ d → negatives (var own) 0 k L ≡ negatives (var lent) s k L
+  own_negatives : (L : ℕ → ℤ) (k : ℕ) → k ≤ d → negatives (var own) 0 k L ≡ negatives (var rows) s k L
   unfolding negatives
   own_negatives L zero q = refl
   own_negatives L (suc k) q =
       ap₂ (λ (x y : ℕ). x + y) (own_negatives L k (omega arith)) (ap (λ j. hard (L (var own j))) (zero-add k) ∙ ap (λ v. hard (L v)) (own_at k (omega arith)))
 
-  unmet_is : (r : ℕ) (L : ℕ → ℤ) → r ≡ negatives (var lent) s d L → r % 2 ≡ unmet_at (code_in p lists) L c
+  unmet_is : (r : ℕ) (L : ℕ → ℤ) → r ≡ negatives (var rows) s d L → r % 2 ≡ unmet_at (code_in p lists) L c
   unfolding unsatisfied
   unmet_is r L g =
       ap (λ (z : ℕ). z % 2) g
-      ∙ (λ i. negatives (var (rows_part p lists i)) ((e ∙ sym (start_in p lists c (omega arith))) i) (sym (degree_in p lists c s d h e f) i) L % 2)
+      ∙ (λ i. negatives (var (second i)) ((e ∙ sym (start_in p lists c (omega arith))) i) (sym (degree_in p lists c s d h e f) i) L % 2)
 
   -- the parity of the negative soft values is what the code and the word say
   pub odd_is : (soft : List ℤ) (r : ℕ) → r ≡ negatives (var own) 0 (length own) (values soft) → eqb (r % 2) 1 ≡ eqb (unmet_at (code_in p lists) (begin (length soft) soft).L c) 1

@@ -1,7 +1,7 @@
 // Lengths of ISDB-S3 (ARIB STD-B44 v2.1 sections 3.2 to 3.4): the code, the slot, the frame, and the eleven rates r / 120.
 #![tactic(auto)]
 
-ghost use Rattle.std.specs.Prelude.{◌≡◌, slice_get};
+ghost use Rattle.std.specs.Prelude.{◌≡◌, get_or};
 ghost use Rattle.params.specs.Lengths.{rates, k_of, p_of, q_of, data_of};
 
 // LDPC code length.
@@ -44,28 +44,26 @@ pub const TMCC_INFO_BITS: u32 = 9422;
 // The numerators of the eleven rates.
 pub const RATES: [u8; 11] = [41, 49, 61, 73, 81, 89, 93, 97, 101, 105, 109];
 
-// The i-th rate's numerator. From the twelfth on there is none: an Option says so, for every i as before, and no 0 can be taken for a rate.
-pub fn rate(i: usize) -> Option<u8>
-    ensures { result ≡ slice_get rates i }
+// The i-th rate's numerator, and 0 from the twelfth on, where there is none: no Option, for a function that can't fail.
+pub fn rate(i: usize) -> u8
+    ensures { result ≡ get_or rates i 0 }
 {
-    RATES.get(i).copied()
+    RATES.get(i).copied().unwrap_or(0)
 }
 
-// LDPC information bits, 374 r.
+// LDPC information bits, 374 r. (Any r goes, here and below: a type of the eleven rates would ask more of callers.)
 pub fn k_ldpc(r: u8) -> u32
     ensures { result ≡ k_of r }
 {
     GROUP * u32::from(r)
 }
 
-// Parity checks, n - k; none where r is above 120.
+// Parity checks, n - k. At every r it is the definition's difference of natural numbers, which is 0 where k is more: no test, and no Option for a
+// function that can't fail. So in `data_bits`.
 pub fn checks(r: u8) -> u32
     ensures { result ≡ p_of r }
 {
-    if 120 < r {
-        return 0;
-    }
-    N_LDPC - k_ldpc(r)
+    N_LDPC.saturating_sub(k_ldpc(r))
 }
 
 // q of the parity addressing, 120 - r.
@@ -75,12 +73,9 @@ pub fn q(r: u8) -> u32
     checks(r) / GROUP
 }
 
-// Main data bits to a slot, k - 176 - 192 - 6; none where r is 0.
+// Main data bits to a slot, k - 176 - 192 - 6.
 pub fn data_bits(r: u8) -> u32
     ensures { result ≡ data_of r }
 {
-    if r == 0 {
-        return 0;
-    }
-    k_ldpc(r) - HEADER_BITS - BCH_PARITY_BITS - STUFF_BITS
+    k_ldpc(r).saturating_sub(HEADER_BITS + BCH_PARITY_BITS + STUFF_BITS)
 }

@@ -25,7 +25,8 @@ fn print_all(rt: &impl Print) -> io::Result<()> {
     println!(rt; "frame {SLOTS} {SLOT_UNIT} {FRAME_SYMBOLS} {TMCC_SIGNAL_BITS} {TMCC_INFO_BITS}")
 }
 
-// A write that fails ends the program: what it wrote shows it.
+// A write that fails ends the program: what it wrote shows it. By `main -> io::Result<()>` the error's text would be assumed of the C library too
+// (axioms=3, and not 2).
 fn main(rt: HostRuntime) {
     let _written = print_all(&rt).is_ok();
 }

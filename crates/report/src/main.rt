@@ -15,11 +15,11 @@ fn part_end(start: usize, end: usize) -> usize
     requires { start < end }
     ensures { (start < result) × (result ≤ end) }
 {
-    if end - start < 16 { end } else { start + 16 }
+    start + (end - start).min(16)
 }
 
 // Reads until the buffer is full, the input ends or a read fails, also one that a signal ends before it moves a byte: how many bytes stand
-// at the start of the buffer, the input's first.
+// at the start of the buffer, the input's first. (No `take(..).read_to_end`: that fills a Vec, and there is no heap.)
 #[tactic(auto, using(crate::proofs::Parts::read_more))]
 fn read_input<R: Read>(input: &mut R, buf: &mut [u8]) -> io::Result<usize>
     ensures bound { IfOk result (λ size. size ≤ length buf.old) }

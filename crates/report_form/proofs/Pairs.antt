@@ -1,9 +1,9 @@
 -- A word's pairs, read one by one and stored in the word.
-use Rattle.std.proofs.Common.{◌≡◌, refl, sym, ap, ap₂, ◌∙◌, ◌⊎◌, inl, inr, List, [], ◌∷◌, ◌++◌, ℕ, suc, ◌+◌, ◌≤◌, ◌<◌, ℤ, length, get_or, set, zero-add, add-one, arith}
+use Rattle.std.proofs.Common.{◌≡◌, refl, sym, ap, ap₂, ◌∙◌, ◌⊎◌, inl, inr, List, [], ◌∷◌, ◌++◌, ℕ, suc, ◌+◌, ◌≤◌, ◌<◌, ℤ, length, set, zero-add, add-one, arith}
 use Rattle.report_form.specs.Description.{Pair, Small, Ascending, stored}
-use Rattle.report_form.specs.Form.{Found, Missing, byte, found_as, Ongoing, going_more, going_missing, going_wrong, chain_found, chain_none, chain_ends}
-use Rattle.report_form.specs.Forms.{pair_form, pair_from, pairs, PairsWithin, pairs_within, pairs_apart, pair_chain}
-use Rattle.report_form.proofs.Lists.{list_ends, length_snoc}
+use Rattle.report_form.specs.Form.{Found, Missing, byte, found_as, Ongoing, going_more, going_wrong, chain_found, chain_none, chain_ends, chain_stops}
+use Rattle.report_form.specs.Forms.{PairWithin, pair_form, pair_from, pairs, PairsWithin, pairs_within, pairs_apart, pair_chain}
+use Rattle.report_form.proofs.Lists.{list_full, length_snoc, all_snoc}
 
 -- the least position that may come behind pairs
 abbrev pub least_of : ℕ → List Pair → ℕ
@@ -45,7 +45,7 @@ module _ (n : ℕ) where
       (record {
         rising = rising_snoc n 0 o.done f.it o.ok.rising (omega (arith, o.says.least_is, at)) (omega (arith, at)) f.within.value;
         few = omega (arith, length_snoc o.done f.it, o.says.count_is);
-        short = o.ok.short;
+        all = all_snoc PairWithin o.done f.it o.ok.all f.within;
       })
       (record {
         least_is = least_snoc 0 o.done f.it ∙ ap suc at ∙ sym (add-one position);
@@ -55,24 +55,25 @@ module _ (n : ℕ) where
             ∙ sym (stored_snoc o.done f.it word);
       })
 
-  pub pairs_none : {word word' : List ℤ} {least count : ℕ} {t now : List ℕ} → PairsSoFar word least count word' t now → get_or now 0 0 ≡ 9 → Missing pair_form now → Missing (pair_chain n) t
-  pairs_none {word} {word'} {least} {count} {t} {now} o h m =
-      chain_none pairs (PairsWithin n) (pairs_within n) (byte 10) (λ b r _ _. pairs_apart n r) (going_missing pairs (PairsWithin n) (pairs_within n) (PairsSo word least count word') t now o h m)
+  -- neither a newline nor a pair
+  pub pairs_none : {word word' : List ℤ} {least count : ℕ} {t now : List ℕ} → PairsSoFar word least count word' t now → Missing (byte 10) now → Missing pair_form now → Missing (pair_chain n) t
+  pairs_none o e m = chain_stops pairs (PairsWithin n) (pairs_within n) (byte 10) (λ b r _ _. pairs_apart n r) o m e
 
   -- a position that is not above the one before, or not below n
-  pub pairs_wrong : {word word' : List ℤ} {least count position : ℕ} {value : ℤ} {t now next : List ℕ} → PairsSoFar word least count word' t now → get_or now 0 0 ≡ 9
+  pub pairs_wrong : {word word' : List ℤ} {least count position : ℕ} {value : ℤ} {t now next : List ℕ} → PairsSoFar word least count word' t now
       → Found pair_form (λ p. p ≡ pair_from position value) now next → (position < least) ⊎ (n ≤ position) → Missing (pair_chain n) t
-  pairs_wrong {word} {word'} {least} {count} {position} {value} {t} {now} {next} o h f bad =
+  pairs_wrong {word} {word'} {least} {count} {position} {value} {t} {now} {next} o f bad =
       chain_none pairs (PairsWithin n) (pairs_within n) (byte 10) (λ b r _ _. pairs_apart n r)
-      (going_wrong pairs (PairsWithin n) (pairs_within n) (PairsSo word least count word') (λ p. p ≡ pair_from position value) t now next o h f (λ more w. go more (rising_at n 0 o.done f.it more w.rising) bad))
+      (going_wrong pairs (PairsWithin n) (pairs_within n) (PairsSo word least count word') (λ p. p ≡ pair_from position value) t now next o f (λ more w. go more (rising_at n 0 o.done f.it more w.rising) bad))
     where
       go : (more : List Pair) → (least_of 0 o.done ≤ f.it.position) × (f.it.position < n) → (position < least) ⊎ (n ≤ position) → ⊥
       go more r (inl l) = omega (arith, r.0, o.says.least_is, ap (λ (p : Pair). p.position) f.says)
       go more r (inr l) = omega (arith, r.1, ap (λ (p : Pair). p.position) f.says)
 
-  pub pairs_unended : {word word' : List ℤ} {least count : ℕ} {t now : List ℕ} → PairsSoFar word least count word' t now → (64 ≤ count) ⊎ (get_or now 0 0 ≡ 9 → ⊥) → Missing (byte 10) now → Missing (pair_chain n) t
+  -- no newline behind the last pair that may come
+  pub pairs_unended : {word word' : List ℤ} {least count : ℕ} {t now : List ℕ} → PairsSoFar word least count word' t now → 64 ≤ count → Missing (byte 10) now → Missing (pair_chain n) t
   pairs_unended {word} {word'} {least} {count} {now = now} o e m =
-      chain_ends pairs (PairsWithin n) (pairs_within n) (byte 10) (λ b r _ _. pairs_apart n r) o (list_ends pairs (PairsWithin n) (pairs_within n) (PairsSo word least count word') 64 count (λ _ w. w.few) (λ _ s. s.count_is) now e) m
+      chain_ends pairs (PairsWithin n) (pairs_within n) (byte 10) (λ b r _ _. pairs_apart n r) o (list_full pairs (PairsWithin n) (pairs_within n) (PairsSo word least count word') 64 count (λ _ w. w.few) (λ _ s. s.count_is) now e) m
 
   pub pairs_found : {word word' : List ℤ} {least count : ℕ} {t now next : List ℕ} → PairsSoFar word least count word' t now → Found (byte 10) (λ _. Unit) now next
       → Found (pair_chain n) (λ x. word' ≡ stored 0 x.0 word) t next

@@ -1,11 +1,11 @@
 -- A row's addresses and the rows, read one by one.
-use Rattle.std.proofs.Common.{◌≡◌, refl, sym, ap, ap₂, ◌∙◌, ◌⊎◌, List, [], ◌∷◌, ◌++◌, append_assoc, append-nil, ℕ, suc, ◌+◌, ◌*◌, ◌≤◌, ◌<◌, length, get_or, add-one, length-append, arith}
+use Rattle.std.proofs.Common.{◌≡◌, refl, sym, ap, ap₂, ◌∙◌, List, [], ◌∷◌, ◌++◌, append_assoc, append-nil, ℕ, suc, ◌+◌, ◌*◌, ◌≤◌, ◌<◌, length, get_or, add-one, length-append, arith}
 use Rattle.std.proofs.lemmas.List.{map-append, length-map}
 use Rattle.report_form.specs.Description.{RowWithin, flat}
 use Rattle.report_form.specs.Accepted.{flat_few}
-use Rattle.report_form.specs.Form.{Found, Missing, byte, lead, lead_none, lead_missing, via_missing, Ongoing, Hopeless, ListEnds, going_start, going_more, going_missing, chain_none, chain_ends}
+use Rattle.report_form.specs.Form.{Found, Missing, byte, lead, lead_none, lead_missing, via_missing, Ongoing, Hopeless, ListEnds, going_start, going_more, going_missing, chain_ends, chain_stops}
 use Rattle.report_form.specs.Forms.{row_fields, numbers, addresses, newline_apart, row_chain, row_form, rows, RowsWithin, rows_within, RowsSo}
-use Rattle.report_form.proofs.Lists.{list_ends, length_snoc, all_snoc}
+use Rattle.report_form.proofs.Lists.{list_full, length_snoc, all_snoc}
 
 -- ---- a row
 
@@ -40,21 +40,21 @@ row_room {before} o = ap length o.says.places_are ∙ length-append before o.don
 pub no_row_letter : {t : List ℕ} → Missing (byte 82) t → Missing row_form t
 no_row_letter m = via_missing (lead 82 row_chain) row_fields (lead_none 82 row_chain m)
 
-pub row_none : {before places : List ℕ} {count : ℕ} {t u now : List ℕ} → Found (byte 82) (λ _. Unit) t u → RowSoFar before count places u now → get_or now 0 0 ≡ 9 → Missing (lead 9 (numbers 65535)) now
+-- neither a newline nor an address
+pub row_none : {before places : List ℕ} {count : ℕ} {t u now : List ℕ} → Found (byte 82) (λ _. Unit) t u → RowSoFar before count places u now → Missing (byte 10) now → Missing (lead 9 (numbers 65535)) now
     → Missing row_form t
-row_none {before} {places} {count} {t} {u} {now} h o e m =
+row_none h o e m =
+    via_missing (lead 82 row_chain) row_fields
+    (lead_missing 82 row_chain h (chain_stops addresses RowWithin (λ xs w. w.addresses) (byte 10) (λ b r _ _. newline_apart r) o m e))
+
+-- no newline behind the last address that may come
+pub row_unended : {before places : List ℕ} {count : ℕ} {t u now : List ℕ} → Found (byte 82) (λ _. Unit) t u → RowSoFar before count places u now → 4 ≤ count → Missing (byte 10) now → Missing row_form t
+row_unended {before} {places} {count} {now = now} h o e m =
     via_missing (lead 82 row_chain) row_fields
     (lead_missing 82 row_chain h
-    (chain_none addresses RowWithin (λ xs w. w.addresses) (byte 10) (λ b r _ _. newline_apart r) (going_missing addresses RowWithin (λ xs w. w.addresses) (RowSo before count places) u now o e m)))
-
-row_ends : {before places : List ℕ} {count : ℕ} (now : List ℕ) → (4 ≤ count) ⊎ (get_or now 0 0 ≡ 9 → ⊥) → ListEnds addresses RowWithin (λ xs w. w.addresses) (RowSo before count places) now
-row_ends {before} {places} {count} now e = list_ends addresses RowWithin (λ xs w. w.addresses) (RowSo before count places) 4 count (λ _ w. w.few) (λ _ s. s.count_is) now e
-
-pub row_unended : {before places : List ℕ} {count : ℕ} {t u now : List ℕ} → Found (byte 82) (λ _. Unit) t u → RowSoFar before count places u now → (4 ≤ count) ⊎ (get_or now 0 0 ≡ 9 → ⊥) → Missing (byte 10) now
-    → Missing row_form t
-row_unended {now = now} h o e m =
-    via_missing (lead 82 row_chain) row_fields
-    (lead_missing 82 row_chain h (chain_ends addresses RowWithin (λ xs w. w.addresses) (byte 10) (λ b r _ _. newline_apart r) o (row_ends now e) m))
+    (chain_ends addresses RowWithin (λ xs w. w.addresses) (byte 10) (λ b r _ _. newline_apart r) o
+    (list_full addresses RowWithin (λ xs w. w.addresses) (RowSo before count places) 4 count (λ _ w. w.few) (λ _ s. s.count_is) now e)
+    m))
 
 -- ---- the rows
 
@@ -88,3 +88,7 @@ rows_again {lengths} {places} {places'} {size} {t} {now} {next} o f c =
 
 pub rows_none : {lengths places : List ℕ} {t now : List ℕ} → RowsSoFar lengths places t now → get_or now 0 0 ≡ 82 → Missing row_form now → Hopeless rows RowsWithin rows_within t
 rows_none {lengths} {places} {t} {now} o e m = going_missing rows RowsWithin rows_within (RowsSo lengths places) t now o e m
+
+-- three rows are all that may come
+pub rows_full : {lengths places : List ℕ} (now : List ℕ) → 3 ≤ length lengths → ListEnds rows RowsWithin rows_within (RowsSo lengths places) now
+rows_full {lengths} {places} now e = list_full rows RowsWithin rows_within (RowsSo lengths places) 3 (length lengths) (λ _ w. w.three) (λ _ s. rows_count s) now e

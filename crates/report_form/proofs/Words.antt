@@ -1,13 +1,14 @@
 -- A word's line, and the words' lines read one by one: their soft values are stored one after another.
-use Rattle.std.proofs.Common.{◌≡◌, refl, sym, ap, ap₂, ◌∙◌, subst, ◌⊎◌, List, [], ◌∷◌, ◌++◌, ℕ, suc, ◌+◌, ◌*◌, ◌≤◌, ◌<◌, ℤ, length, drop, get_or, replicate, take, ◌-◌, length-drop, length-take-le, mul-le-mul_right, add-one, append_assoc, append-nil, arith}
+use Rattle.std.proofs.Common.{◌≡◌, refl, sym, ap, ap₂, ◌∙◌, subst, List, [], ◌∷◌, ◌++◌, ℕ, suc, ◌+◌, ◌*◌, ◌≤◌, ◌<◌, ℤ, length, drop, replicate, take, ◌-◌, length-drop, length-take-le, mul-le-mul_right, add-one, append_assoc, append-nil, arith}
 use Rattle.std.proofs.lemmas.List.{drop-drop}
+use Rattle.std.proofs.Math.Seq.{length-sets}
 use Rattle.std.proofs.lemmas.List.Edits.{sets, sets-eq}
 use Rattle.laws.specs.Stores.{sets_append}
 use Rattle.report_form.specs.Accepted.{soft_words_length}
 use Rattle.report_form.specs.Description.{Word, WordWithin, stored, soft_word, soft_words}
-use Rattle.report_form.specs.Form.{Found, Missing, byte, found_as, lead, lead_found, lead_none, lead_missing, seq_found, seq_none, seq_missing, via_found, via_missing, end, Ongoing, going_more, going_missing, chain_found, chain_none, chain_ends}
+use Rattle.report_form.specs.Form.{Found, Missing, byte, found_as, lead, lead_found, lead_none, lead_missing, seq_found, seq_none, seq_missing, via_found, via_missing, end, Ongoing, going_more, chain_found, chain_ends, chain_stops}
 use Rattle.report_form.specs.Forms.{smalls, pair_chain, pairs_stop, word_fields, word_fields_stand, word_form, words, WordsWithin, words_within, end_apart, words_form}
-use Rattle.report_form.proofs.Lists.{list_ends, length_snoc, all_snoc}
+use Rattle.report_form.proofs.Lists.{list_full, length_snoc, all_snoc}
 
 -- ---- a word
 module _ (n : ℕ) where
@@ -49,15 +50,8 @@ put_back n start soft word' h l =
     ∙ ap (λ (x : List ℤ). (take start soft ++ word') ++ x) (drop-drop (start + n - start) start soft ∙ ap (λ (k : ℕ). drop k soft) e)
     ∙ sym (sets-eq word' soft start (omega arith))
 
-pub words_room : {n count start size : ℕ} → n ≤ 1122 → count < 16 → start ≡ count * n → 17952 ≤ size → start + n ≤ size
-words_room {n} {count} h c e s = omega (arith, mul-le-mul_right n (lt15 count c))
-  where
-    lt15 : (k : ℕ) → k < 16 → k ≤ 15
-    lt15 k l = omega arith
-
-pub record WordsSo (n : ℕ) (soft : List ℤ) (count start : ℕ) (soft' : List ℤ) (ws : List Word) : Type 0 where
+pub record WordsSo (n : ℕ) (soft : List ℤ) (count : ℕ) (soft' : List ℤ) (ws : List Word) : Type 0 where
   pub count_is : length ws ≡ count
-  pub start_is : start ≡ count * n
   pub stores : soft' ≡ sets soft 0 (soft_words n ws)
 
 soft_words_snoc : (n : ℕ) (ws : List Word) (w : Word) → soft_words n (ws ++ w ∷ []) ≡ soft_words n ws ++ soft_word n w
@@ -65,14 +59,21 @@ soft_words_snoc n [] w = append-nil (soft_word n w)
 soft_words_snoc n (v ∷ ws) w = ap (λ (l : List ℤ). soft_word n v ++ l) (soft_words_snoc n ws w) ∙ sym (append_assoc (soft_word n v) (soft_words n ws) (soft_word n w))
 
 module _ (n : ℕ) where
-  abbrev pub WordsSoFar : List ℤ → ℕ → ℕ → List ℤ → List ℕ → List ℕ → Type 0
-  WordsSoFar soft count start soft' t now = Ongoing (words n) (WordsWithin n) (words_within n) (WordsSo n soft count start soft') t now
+  abbrev pub WordsSoFar : List ℤ → ℕ → List ℤ → List ℕ → List ℕ → Type 0
+  WordsSoFar soft count soft' t now = Ongoing (words n) (WordsWithin n) (words_within n) (WordsSo n soft count soft') t now
 
-  pub words_again : {soft soft' soft'' word' : List ℤ} {count start k : ℕ} {t now next : List ℕ} → WordsSoFar soft count start soft' t now → k ≡ n
-      → Found (word_form k) (λ w. word' ≡ soft_word k w) now next → soft'' ≡ sets soft' start word' → count < 16 → WordsSoFar soft (count + 1) (start + n) soft'' t next
-  words_again {soft} {soft'} {soft''} {word'} {count} {start} {t = t} {now} {next} o same g e c =
+  -- the room for one word more
+  pub words_room : {soft soft' : List ℤ} {count : ℕ} {t now : List ℕ} → WordsSoFar soft count soft' t now → length soft ≡ 17952 → count < 16 → count * n + n ≤ length soft'
+  words_room {soft} {count = count} o l c = omega (arith, mul-le-mul_right n (lt15 count c), o.ok.short, ap length o.says.stores ∙ length-sets soft 0 (soft_words n o.done))
+    where
+      lt15 : (k : ℕ) → k < 16 → k ≤ 15
+      lt15 k h = omega arith
+
+  pub words_again : {soft soft' soft'' word' : List ℤ} {count k : ℕ} {t now next : List ℕ} → WordsSoFar soft count soft' t now → k ≡ n
+      → Found (word_form k) (λ w. word' ≡ soft_word k w) now next → soft'' ≡ sets soft' (count * n) word' → count < 16 → WordsSoFar soft (count + 1) soft'' t next
+  words_again {soft} {soft'} {soft''} {word'} {count} {t = t} {now} {next} o same g e c =
       let f : Found (word_form n) (λ w. word' ≡ soft_word n w) now next = subst (λ (i : ℕ). Found (word_form i) (λ w. word' ≡ soft_word i w) now next) same g in
-      going_more (words n) (WordsWithin n) (words_within n) (WordsSo n soft count start soft') (WordsSo n soft (count + 1) (start + n) soft'') (λ w. word' ≡ soft_word n w) t now next o f
+      going_more (words n) (WordsWithin n) (words_within n) (WordsSo n soft count soft') (WordsSo n soft (count + 1) soft'') (λ w. word' ≡ soft_word n w) t now next o f
       (record {
         all = all_snoc (WordWithin n) o.done f.it o.ok.all f.within.within;
         sixteen = omega (arith, length_snoc o.done f.it, o.says.count_is);
@@ -80,27 +81,27 @@ module _ (n : ℕ) where
       })
       (record {
         count_is = length_snoc o.done f.it ∙ ap suc o.says.count_is ∙ sym (add-one count);
-        start_is = omega (arith, o.says.start_is);
         stores = e
-            ∙ ap₂ (λ (l v : List ℤ). sets l start v) o.says.stores f.says
-            ∙ ap (λ (k : ℕ). sets (sets soft 0 (soft_words n o.done)) k (soft_word n f.it)) (omega (arith, o.says.start_is, soft_words_length n o.done, ap (λ (k : ℕ). k * n) o.says.count_is))
+            ∙ ap₂ (λ (l v : List ℤ). sets l (count * n) v) o.says.stores f.says
+            ∙ ap (λ (k : ℕ). sets (sets soft 0 (soft_words n o.done)) k (soft_word n f.it)) (omega (arith, soft_words_length n o.done, ap (λ (k : ℕ). k * n) o.says.count_is))
             ∙ sym (sets_append soft 0 (soft_words n o.done) (soft_word n f.it))
             ∙ ap (sets soft 0) (sym (soft_words_snoc n o.done f.it));
       })
 
-  pub words_none : {soft soft' : List ℤ} {count start k : ℕ} {t now : List ℕ} → WordsSoFar soft count start soft' t now → get_or now 0 0 ≡ 87 → k ≡ n → Missing (word_form k) now → Missing (words_form n) t
-  words_none {soft} {soft'} {count} {start} {t = t} {now} o h same m =
-      chain_none (words n) (WordsWithin n) (words_within n) end (λ b r _ e. end_apart n r e)
-      (going_missing (words n) (WordsWithin n) (words_within n) (WordsSo n soft count start soft') t now o h (subst (λ (i : ℕ). Missing (word_form i) now) same m))
+  -- the text goes on, and with no word
+  pub words_none : {soft soft' : List ℤ} {count k : ℕ} {t now : List ℕ} → WordsSoFar soft count soft' t now → (now ≡ [] → ⊥) → k ≡ n → Missing (word_form k) now → Missing (words_form n) t
+  words_none {now = now} o h same m =
+      chain_stops (words n) (WordsWithin n) (words_within n) end (λ b r _ e. end_apart n r e) o (subst (λ (i : ℕ). Missing (word_form i) now) same m)
+      (record { none = λ a r w f g. h (g ∙ f) })
 
-  -- the text goes on
-  pub words_unended : {soft soft' : List ℤ} {count start : ℕ} {t now : List ℕ} → WordsSoFar soft count start soft' t now → (16 ≤ count) ⊎ (get_or now 0 0 ≡ 87 → ⊥) → (now ≡ [] → ⊥) → Missing (words_form n) t
-  words_unended {soft} {soft'} {count} {start} {now = now} o e m =
+  -- the text goes on behind the last word that may come
+  pub words_unended : {soft soft' : List ℤ} {count : ℕ} {t now : List ℕ} → WordsSoFar soft count soft' t now → 16 ≤ count → (now ≡ [] → ⊥) → Missing (words_form n) t
+  words_unended {soft} {soft'} {count} {now = now} o e m =
       chain_ends (words n) (WordsWithin n) (words_within n) end (λ b r _ e. end_apart n r e) o
-      (list_ends (words n) (WordsWithin n) (words_within n) (WordsSo n soft count start soft') 16 count (λ _ w. w.sixteen) (λ _ s. s.count_is) now e)
+      (list_full (words n) (WordsWithin n) (words_within n) (WordsSo n soft count soft') 16 count (λ _ w. w.sixteen) (λ _ s. s.count_is) now e)
       (record { none = λ a r w f g. m (g ∙ f) })
 
-  pub words_found : {soft soft' : List ℤ} {count start : ℕ} {t now : List ℕ} → WordsSoFar soft count start soft' t now → now ≡ []
+  pub words_found : {soft soft' : List ℤ} {count : ℕ} {t now : List ℕ} → WordsSoFar soft count soft' t now → now ≡ []
       → Found (words_form n) (λ x. (length x.0 ≡ count) × (soft' ≡ sets soft 0 (soft_words n x.0))) t []
   words_found {now = now} o e =
       let ended : Found end (λ _. Unit) now [] = record { it = tt; says = tt; within = tt; here = e; after = refl } in

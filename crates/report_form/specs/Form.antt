@@ -286,9 +286,10 @@ module _ {A : Type 0} (I : Items A) (Fine : List A → Type 0) (fine : (xs : Lis
       }
 
   -- an item with which no list goes on
-  pub going_wrong : (Says : List A → Type 0) (S : A → Type 0) (t now next : List ℕ) (o : Ongoing Says t now) → get_or now 0 0 ≡ I.mark → (f : Found I.form S now next)
+  pub going_wrong : (Says : List A → Type 0) (S : A → Type 0) (t now next : List ℕ) (o : Ongoing Says t now) (f : Found I.form S now next)
       → ((more : List A) → Fine (o.done ++ f.it ∷ more) → ⊥) → Hopeless t
-  going_wrong Says S t now next o h i bad =
+  going_wrong Says S t now next o i bad =
+      let h : get_or now 0 0 ≡ I.mark = ap (λ (l : List ℕ). get_or l 0 0) (i.here ∙ ap (λ (l : List ℕ). l ++ next) (I.begins i.it)) in
       record {
         none = λ xs u ok p e.
             let (a, more, f, w, y, v) = next_item o.done now u (rest_of o xs u ok p e) p h in
@@ -369,3 +370,18 @@ module _ {A : Type 0} (I : Items A) (Fine : List A → Type 0) (fine : (xs : Lis
         go b r w f [] ok y z = m.none b r w f y
         go b r w f (a ∷ more) ok y (inl z) = z (ap (λ (l : List ℕ). get_or l 0 0) y ∙ item_here a more (G.write b ++ r))
         go b r w f (a ∷ more) ok y (inr z) = z a more ok
+
+    -- neither an item more nor the other form is there
+    pub chain_stops : {Says : List A → Type 0} {t now : List ℕ} → Ongoing Says t now → Missing I.form now → Missing G now → Missing chain t
+    chain_stops {now = now} o i m =
+        record {
+          none = λ x r w f e.
+              let p = apart x.1 r w.1 f in
+              let q = rest_of o x.0 (G.write x.1 ++ r) w.0 p (e ∙ append_assoc (each I.form.write x.0) (G.write x.1) r) in
+              go x.1 r w.1 f p.follow q.more q.within q.here;
+        }
+      where
+        go : (b : B) (r : List ℕ) → G.Within b → G.Follow r → I.form.Follow (G.write b ++ r) → (more : List A) → All I.form.Within more → now ≡ each I.form.write more ++ (G.write b ++ r) → ⊥
+        go b r w f h [] v y = m.none b r w f y
+        go b r w f h (a ∷ more) v y =
+            i.none a (each I.form.write more ++ (G.write b ++ r)) v.0 (follow_each more (G.write b ++ r) h) (y ∙ append_assoc (I.form.write a) (each I.form.write more) (G.write b ++ r))

@@ -146,14 +146,15 @@ pairs = record { form = pair_form; mark = 9; body = λ p. decimal p.position ++ 
 pub record PairsWithin (n : ℕ) (ps : List Pair) : Type 0 where
   pub rising : Ascending n 0 ps
   pub few : length ps ≤ 64
-  pub short : n ≤ 1122
+  pub all : All PairWithin ps
 
+-- positions below 1,122 are of 32 bits
 pub pairs_fine : (n least : ℕ) (ps : List Pair) → n ≤ 1122 → Ascending n least ps → All PairWithin ps
 pairs_fine n least [] h w = tt
 pairs_fine n least (p ∷ ps) h w = (record { position = omega (arith, w.1); value = w.2 }, pairs_fine n (suc p.position) ps h w.3)
 
 abbrev pub pairs_within : (n : ℕ) (ps : List Pair) → PairsWithin n ps → All PairWithin ps
-pairs_within n ps w = pairs_fine n 0 ps w.short w.rising
+pairs_within n ps w = w.all
 
 pub pairs_apart : (n : ℕ) (r : List ℕ) → Apart pairs (PairsWithin n) (pairs_within n) (10 ∷ r)
 pairs_apart n r = record { other = λ e. omega arith; follow = refl }
@@ -171,7 +172,7 @@ word_fields n = seq (lead 9 smalls) (pair_chain n) (λ b r _ _. pairs_stop b.0 r
 -- a word's line, of n soft values
 pub record LineWithin (n : ℕ) (w : Word) : Type 0 where
   pub within : WordWithin n w
-  pub short : n ≤ 1122
+  pub all : All PairWithin w.pairs
 
 abbrev pub word_fields_stand : (n : ℕ) → StandFor (lead 87 (word_fields n)) Word
 word_fields_stand n =
@@ -181,8 +182,8 @@ word_fields_stand n =
       from_to = λ _. refl;
       to_from = λ _. refl;
       Within = LineWithin n;
-      to_within = λ _ w. (w.within.default, (record { rising = w.within.pairs; few = w.within.few; short = w.short }, tt));
-      from_within = λ _ w. record { within = record { default = w.0; pairs = w.1.0.rising; few = w.1.0.few }; short = w.1.0.short };
+      to_within = λ _ w. (w.within.default, (record { rising = w.within.pairs; few = w.within.few; all = w.all }, tt));
+      from_within = λ _ w. record { within = record { default = w.0; pairs = w.1.0.rising; few = w.1.0.few }; all = w.1.0.all };
     }
 
 abbrev pub word_form : ℕ → Form Word
@@ -220,7 +221,7 @@ pub record WordsWithin (n : ℕ) (ws : List Word) : Type 0 where
 
 pub lines_fine : (n : ℕ) (ws : List Word) → n ≤ 1122 → All (WordWithin n) ws → All (LineWithin n) ws
 lines_fine n [] h w = tt
-lines_fine n (x ∷ xs) h w = (record { within = w.0; short = h }, lines_fine n xs h w.1)
+lines_fine n (x ∷ xs) h w = (record { within = w.0; all = pairs_fine n 0 x.pairs h w.0.pairs }, lines_fine n xs h w.1)
 
 abbrev pub words_within : (n : ℕ) (ws : List Word) → WordsWithin n ws → All (LineWithin n) ws
 words_within n ws w = lines_fine n ws w.short w.all

@@ -2,28 +2,30 @@
 // the text behind it, or nothing.
 #![tactic(auto)]
 
-ghost use Rattle.std.specs.Prelude.{◌≡◌, [], ◌&&◌, ◌++◌, ◌∷◌, ◌+◌, ◌-◌, ◌≤◌, ◌<◌, negsuc, ltb, eqb, length, get_or, map, IfSome, IfNone, MatchOption};
+ghost use Rattle.std.specs.Prelude.{◌≡◌, [], ◌++◌, ◌∷◌, ◌+◌, ◌≤◌, ◌<◌, length, IfSome, IfNone, MatchOption};
 ghost use Rattle.std.proofs.lemmas.List.Edits.{sets};
 ghost use Rattle.arrayvec.specs.ArrayVec.{array_vec_len};
 ghost use Rattle.laws.specs.Decimal.{Stops};
 ghost use Rattle.laws.specs.Definitions.{decimal};
-ghost use Rattle.report_form.specs.Description.{flat, stored, soft_word, soft_words};
+ghost use Rattle.report_form.specs.Description.{stored, soft_word, soft_words};
 ghost use Rattle.report_form.specs.Reading.{schedule_of, settings_of, NoText, OneDescription, RightReading};
-ghost use Rattle.report_form.specs.Form.{Missing, Found, Reads, Passes, Hopeless, Listed, byte, lead};
+ghost use Rattle.report_form.specs.Form.{Missing, Found, Reads, Passes, Listed, byte, lead};
 ghost use Rattle.report_form.specs.Forms.{numbers, smalls, row_form, rows, RowsWithin, rows_within, RowsSo, pair_chain, word_form, words_form, schedules, settings_form, pair_form, pair_from, head_form};
 
 use arrayvec::ArrayVec;
 use decoder_plan::{Limits, Part, Schedule, Settings};
 use refusal::Refusal;
 
-// A code's rows: their lengths, and their addresses one after another.
+// A code's rows: their lengths, and their addresses one after another, as the decoder's core takes them (slices of numbers; no list of lists, as
+// there is no heap).
 #[derive(Drop)]
 pub struct Rows {
     pub lengths: ArrayVec<u32, 3>,
     pub addresses: ArrayVec<u16, 12>,
 }
 
-// What a text asks for: the code's n and its rows, the settings, and the number of words.
+// What a text asks for: the code's n and its rows, the settings, and the number of words, whose soft values stand in the slice that `read` is lent:
+// there is no heap for them.
 #[derive(Drop)]
 pub struct Reading {
     pub n: u32,
@@ -88,7 +90,8 @@ pub fn read_number(text: &[u8], most: u32) -> Option<(u32, &[u8])>
 }
 
 // A tab and a number of at most `most`. (This and the other two behind a tab stay three: one over the reader would be lent a closure at each
-// field, and each closure would need these clauses.)
+// field, and each closure would need these clauses. Without them, each of their twelve uses would
+// have the same two calls, and show `lead_found` and `lead_missing`.)
 #[tactic(auto, using(crate::specs::Form::lead_none))]
 fn read_field(text: &[u8], most: u32) -> Option<(u32, &[u8])>
     ensures { Reads (lead 9 (numbers most)) (λ v x. x ≡ v) text.now result }
@@ -185,39 +188,27 @@ fn read_pair(text: &[u8]) -> Option<((u32, i8), &[u8])>
     Some(((position, value), rest))
 }
 
-// Whether a list of at most `most` items goes on: there is room, and the next item's mark.
-// Its readers count in a `while`: a `for` over the room would need a `break` at the mark, and no count would be left of how many were read.
-fn goes_on(text: &[u8], mark: u8, count: u32, most: u32) -> bool
-    requires { 0 < mark }
-    ensures { result ≡ (ltb count most && eqb (get_or text.now 0 0) mark) }
-{
-    match text {
-        [first, ..] => count < most && *first == mark,
-        [] => false,
-    }
-}
-
-// A word's pairs and its newline: the values go to their positions in the word.
+// A word's pairs and its newline: the values go to their positions in the word. (This, `read_words` and `read_row` have one shape, items up to an
+// end, and stay three: one over the reader of an item would be lent a closure, which would need each reader's clauses.)
 fn read_pairs<'a>(text: &'a [u8], word: &mut [i8]) -> Option<&'a [u8]>
-    requires { length word.old ≤ 1122 }
     ensures { Passes (pair_chain (length word.old)) (λ x. word.new ≡ stored 0 x.0 word.old) text.now result }
 {
     let mut rest = text;
-    let mut least: u32 = 0;
-    let mut count: u32 = 0;
-    // No `for`: `goes_on` says why.
-    while goes_on(rest, b'\t', count, 64) {
+    let mut least: usize = 0;
+    for _ in 0..64u32 {
+        if let Some(rest) = expect(rest, b'\n') {
+            return Some(rest);
+        }
         let ((position, value), after) = read_pair(rest)?;
-        if position < least {
+        let place = position as usize;
+        if place < least {
             return None;
         }
-        let place = position as usize;
         if word.len() <= place {
             return None;
         }
         word[place] = value;
-        least = position + 1;
-        count += 1;
+        least = place + 1;
         rest = after;
     }
     expect(rest, b'\n')
@@ -226,7 +217,6 @@ fn read_pairs<'a>(text: &'a [u8], word: &mut [i8]) -> Option<&'a [u8]>
 // A word's line: its soft values.
 #[tactic(auto, using(crate::proofs::Words::no_word_letter, crate::proofs::Words::no_default))]
 fn read_word<'a>(text: &'a [u8], word: &mut [i8]) -> Option<&'a [u8]>
-    requires { length word.old ≤ 1122 }
     ensures { Passes (word_form (length word.old)) (λ w. word.new ≡ soft_word (length word.old) w) text.now result }
 {
     let rest = expect(text, b'W')?;
@@ -235,53 +225,55 @@ fn read_word<'a>(text: &'a [u8], word: &mut [i8]) -> Option<&'a [u8]>
     read_pairs(rest, word)
 }
 
-// The words' lines, up to the text's end: the soft values of all words, one after another, and the number of words.
-fn read_words(text: &[u8], n: usize, soft: &mut [i8]) -> Option<u32>
-    requires { (n ≤ 1122) × (17952 ≤ length soft.old) }
+// The words' lines, up to the text's end: the soft values of all words, one after another, and the number of words. (No ArrayVec: a word's pairs
+// go by their places into a part that is there already.)
+fn read_words(text: &[u8], n: usize, soft: &mut [i8; 17952]) -> Option<u32>
+    requires { n ≤ 1122 }
     ensures { MatchOption result (Missing (words_form n) text.now)
         (λ count. Found (words_form n) (λ w. (length w.0 ≡ count) × (soft.new ≡ sets soft.old 0 (soft_words n w.0))) text.now []) }
 {
     let mut rest = text;
-    let mut start: usize = 0;
-    let mut count: u32 = 0;
-    // No `for`: `goes_on` says why.
-    while goes_on(rest, b'W', count, 16) {
+    for count in 0..16 {
+        if rest.is_empty() {
+            return Some(count);
+        }
+        let start = count as usize * n;
         rest = read_word(rest, &mut soft[start..start + n])?;
-        start += n;
-        count += 1;
     }
-    if rest.is_empty() { Some(count) } else { None }
+    if rest.is_empty() { Some(16) } else { None }
 }
 
 // A row's line: its addresses go behind those of the rows before, and their number is answered.
-#[tactic(auto, using(crate::proofs::RowLists::row_again, crate::proofs::RowLists::no_row_letter, crate::proofs::Lists::goes_yes))]
+#[tactic(auto, using(crate::proofs::RowLists::row_again, crate::proofs::RowLists::no_row_letter))]
 fn read_row<'a>(text: &'a [u8], addresses: &mut ArrayVec<u16, 12>) -> Option<(u32, &'a [u8])>
     requires { array_vec_len addresses.old ≤ 8 }
     ensures { Reads row_form (λ count row. (length row ≡ count) × (addresses.new.items ≡ addresses.old.items ++ row)) text.now result }
 {
     let mut rest = expect(text, b'R')?;
-    let mut count: u32 = 0;
-    // No `for`: `goes_on` says why.
-    while goes_on(rest, b'\t', count, 4) {
+    for count in 0..4 {
+        if let Some(rest) = expect(rest, b'\n') {
+            return Some((count, rest));
+        }
         let (address, after) = read_field(rest, 65535)?;
         addresses.push(address as u16);
-        count += 1;
         rest = after;
     }
     let rest = expect(rest, b'\n')?;
-    Some((count, rest))
+    Some((4, rest))
 }
 
 // The rows' lines, as many as there are.
-#[tactic(auto, using(crate::proofs::RowLists::rows_again, crate::proofs::Lists::goes_yes))]
+#[tactic(auto, using(crate::proofs::RowLists::rows_again))]
 fn read_rows(text: &[u8]) -> Option<(Rows, &[u8])>
     ensures { Listed rows RowsWithin rows_within (λ r. RowsSo r.lengths.items r.addresses.items) text.now result }
 {
     let mut lengths = ArrayVec::new();
     let mut addresses = ArrayVec::new();
     let mut rest = text;
-    // No `for`: `goes_on` says why.
-    while goes_on(rest, b'R', lengths.len() as u32, 3) {
+    for _ in 0..3u32 {
+        let [b'R', ..] = rest else {
+            break;
+        };
         let (length, after) = read_row(rest, &mut addresses)?;
         lengths.push(length);
         rest = after;
@@ -302,8 +294,7 @@ fn read_head(text: &[u8]) -> Option<(u32, &[u8])>
 
 // A whole text: what it asks for, and the words' soft values at the start of the slice.
 #[tactic(auto, using(crate::proofs::Whole::no_head, crate::proofs::Whole::no_settings))]
-fn read_text(text: &[u8], soft: &mut [i8]) -> Option<Reading>
-    requires { 17952 ≤ length soft.old }
+fn read_text(text: &[u8], soft: &mut [i8; 17952]) -> Option<Reading>
     ensures { MatchOption result (NoText text.now) (λ r. OneDescription text.now soft.old r soft.new) }
 {
     let (n, rest) = read_head(text)?;
@@ -325,9 +316,7 @@ pub fn read(text: &[u8], words: &mut [i8]) -> Result<Reading, Refusal>
     ensures { RightReading text.now words.old result words.new }
 {
     let mut soft = [0i8; 17952];
-    let Some(reading) = read_text(text, &mut soft) else {
-        return Err(Refusal::Form);
-    };
+    let reading = read_text(text, &mut soft).ok_or(Refusal::Form)?;
     let size = (reading.words * reading.n) as usize;
     words[..size].copy_from_slice(&soft[..size]);
     Ok(reading)

@@ -1,5 +1,5 @@
 -- What the report writes: the scope's "Report text", behind the input.
-use Rattle.std.specs.Prelude.{Bool, true, false, List, [], ◌∷◌, ◌++◌, ℕ, zero, suc, Option, Some, None}
+use Rattle.std.specs.Prelude.{Bool, cond, List, [], ◌∷◌, ◌++◌, ℕ, zero, suc, Option, Some, None}
 use Rattle.laws.specs.Definitions.{decimal}
 use Rattle.decoder_plan.specs.declared.Ending.{Ending}
 use Rattle.decoder_plan.specs.declared.Ending.TheVariants.{Finished, Stopped}
@@ -24,8 +24,7 @@ bch_text None = 45 ∷ []
 bch_text (Some corrected) = decimal corrected
 
 abbrev pub unless_lost : Bool → ℕ → Option ℕ
-unless_lost true corrected = None
-unless_lost false corrected = Some corrected
+unless_lost lost corrected = cond lost None (Some corrected)
 
 -- what a line says of a word
 abbrev pub result_with : ℕ → ℕ → ℕ → Bool → ℕ → ℕ → WordResult

@@ -25,7 +25,8 @@ pub struct WordResult {
     pub changed: u32,
 }
 
-// A text, and the byte behind it.
+// A text, and the byte behind it. (The room stays a clause of each function: each asks for its own number of bytes. No `write!`, tried in
+// `write_first`: it promises the bytes only if it answers Ok, and no clause says that with room it does.)
 fn put<const N: usize>(out: &mut ArrayString<N>, text: &str, behind: char)
     requires { (array_string_len out.old + length text.now + 1 ≤ N) × (behind < 128) }
     ensures bytes { out.new.bytes ≡ out.old.bytes ++ (text.now ++ behind ∷ []) }
@@ -105,7 +106,7 @@ pub fn write_word<const N: usize>(out: &mut ArrayString<N>, word: u32, r: WordRe
     put_number(out, r.changed, '\n');
 }
 
-// The line of a refusal: at most 19 bytes.
+// The line of a refusal: at most 19 bytes. It takes the number, and any: a `Refusal` would ask more of callers.
 pub fn write_refused<const N: usize>(out: &mut ArrayString<N>, number: u32)
     requires { array_string_len out.old + 19 ≤ N }
     ensures { out.new.bytes ≡ out.old.bytes ++ refused_line number }

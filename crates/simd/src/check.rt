@@ -5,7 +5,8 @@ ghost use Rattle.lane16.specs.Memory.{CheckRows};
 
 use fixed_code::CodeLists;
 
-// A check: d edges from edge s of the rows, which have all E, of a code of n variables. The memory's rows have stride `lanes`.
+// A check: d edges from edge s of the rows, which have all E, of a code of n variables. The memory's rows have stride `lanes`. It copies the code's rows
+// and n: with the code inside, the functions on a check would ask for a code's lists where they take any rows.
 #[derive(Clone, Copy)]
 pub struct Check<'a> {
     pub rows: &'a [u32],
@@ -26,7 +27,7 @@ impl<'a> Check<'a> {
     {
         Check {
             rows: code.rows,
-            s: fixed_code::start(code.lists, c),
+            s: code.start(c),
             d: code.degree(c),
             n: code.n,
             lanes,

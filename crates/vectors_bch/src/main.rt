@@ -3,11 +3,8 @@
 // it.
 #![tactic(auto)]
 
-ghost use Rattle.std.specs.Prelude.{◌≡◌, ◌*◌, ◌<◌, ◌≤◌, length};
-
-use bch::Decoded;
-use refusal::Refusal;
 use std::io::{self, Read, Stdin};
+use vectors::{Compared, bit, sum};
 
 // What a word's bytes are besides their low bits.
 #[derive(Clone, Copy)]
@@ -22,47 +19,23 @@ struct Vector<'a> {
     n: usize,
     seed: u32,
     high: HighBits,
-    // How many of the places are flipped.
-    errors: usize,
-    // Bits corrected, or 255 for uncorrectable.
-    answer: u8,
+    // Bits corrected, or None for uncorrectable.
+    answer: Option<u32>,
     // Sums of the codeword and of the word after decoding.
     encoded: u64,
     decoded: u64,
     // The pattern, bit i the coefficient of x^i, is added times x^shift.
     shift: u32,
+    // Where bits of the codeword are flipped.
     places: &'a [[u8; 2]],
     pattern: [u8; 24],
     // The low bits of the first 256 bytes after decoding.
     front: [u8; 32],
 }
 
-fn bit(bytes: &[u8], i: usize) -> u8
-    requires { i < 8 * length bytes.now }
-{
-    (bytes[i / 8] >> (i % 8)) & 1
-}
-
-// A sum over every byte and its place.
-fn sum(bytes: &[u8]) -> u64 {
-    let mut h = 0;
-    for byte in bytes {
-        h = (h * 16411 + u64::from(*byte) + 1) % 281474976710597;
-    }
-    h
-}
-
-// The answer as the vector has it.
-fn number(answer: Result<Decoded, Refusal>) -> u32 {
-    match answer {
-        Ok(Decoded::Corrected(n)) => n,
-        Ok(Decoded::Uncorrectable) => 255,
-        Err(_) => 256,
-    }
-}
-
 impl<'a> Vector<'a> {
-    // The vector that these bytes are. Numbers of several bytes stand lowest byte first.
+    // The vector that these bytes are. Numbers of several bytes stand lowest byte first. Of the thirty places so many count as `errors` says, and
+    // 255 bits corrected stand for uncorrectable.
     fn read(bytes: &'a [u8; 148]) -> Option<Vector<'a>> {
         let (n, rest) = bytes.split_first_chunk()?;
         let (seed, rest) = rest.split_first_chunk()?;
@@ -80,18 +53,18 @@ impl<'a> Vector<'a> {
             } else {
                 HighBits::Clear
             },
-            errors: usize::from(*errors),
-            answer: *answer,
+            answer: (*answer != 255).then_some(u32::from(*answer)),
             encoded: u64::from_le_bytes(*encoded),
             decoded: u64::from_le_bytes(*decoded),
             shift: u32::from_le_bytes(*shift),
-            places: places.as_chunks().0,
+            places: places.as_chunks().0.get(..usize::from(*errors))?,
             pattern: *pattern,
             front: *rest.first_chunk()?,
         })
     }
 
-    // The bytes of the message from its seed: of each state the highest byte, whole or its low bit alone.
+    // The bytes of the message from its seed: of each state the highest byte, whole or its low bit alone. The oracle makes them by this generator,
+    // which is another than that of `vectors`.
     fn make(self, message: &mut [u8]) {
         let mut state = self.seed;
         for byte in message {
@@ -105,40 +78,29 @@ impl<'a> Vector<'a> {
     }
 
     // From the codeword to the word that is decoded: the listed errors, the pattern times x^shift, and high bits for the parity bytes.
-    fn damage(self, word: &mut [u8])
-        requires { 192 ≤ length word.old }
-    {
-        let n = word.len();
-        for place in self.places.iter().take(self.errors % 31) {
-            let at = usize::from(u16::from_le_bytes(*place));
-            if at < n {
-                word[at] ^= 1;
+    fn damage(self, word: &mut [u8]) {
+        for place in self.places {
+            if let Some(byte) = word.get_mut(usize::from(u16::from_le_bytes(*place))) {
+                *byte ^= 1;
             }
         }
         let shift = self.shift as usize;
-        for i in 0..192 {
-            if shift + i < n {
-                word[n - 1 - (shift + i)] ^= bit(&self.pattern, i);
-            }
+        for (i, byte) in word.iter_mut().rev().skip(shift).take(192).enumerate() {
+            *byte ^= u8::from(bit(&self.pattern, i));
         }
         if let HighBits::Set = self.high {
-            for i in n - 192..n {
-                word[i] = word[i] % 2 + (i % 128 * 2) as u8;
+            let front = word.len().saturating_sub(192);
+            for (i, byte) in word.iter_mut().enumerate().skip(front) {
+                *byte = *byte % 2 + (i % 128 * 2) as u8;
             }
         }
     }
 
     // Whether the word after decoding is the vector's: its sum, and the low bits of its first 256 bytes.
     fn agrees(self, word: &[u8]) -> bool {
-        if sum(word) != self.decoded {
-            return false;
-        }
-        for (i, byte) in word.iter().take(256).enumerate() {
-            if byte % 2 != bit(&self.front, i) {
-                return false;
-            }
-        }
-        true
+        let mut front = word.iter().take(256).enumerate();
+        sum(word) == self.decoded
+            && front.all(|(i, byte)| byte % 2 == u8::from(bit(&self.front, i)))
     }
 
     // Whether a word is encoded and decoded as the Rust did, in the front of the two buffers.
@@ -153,7 +115,7 @@ impl<'a> Vector<'a> {
             return false;
         }
         self.damage(word);
-        number(bch::decode(word)) == u32::from(self.answer) && self.agrees(word)
+        bch::decode(word) == Ok(self.answer) && self.agrees(word)
     }
 }
 
@@ -162,21 +124,19 @@ fn replay_all(rt: &impl Print, input: &mut Stdin) -> io::Result<()> {
     let mut vector = [0; 148];
     let mut message = [0; 65343];
     let mut word = [0; 65535];
-    let mut compared = 0u64;
-    let mut differ = 0u64;
+    let mut compared = Compared::default();
     for _ in 0..10000u32 {
         if input.read_exact(&mut vector).is_err() {
             break;
         }
-        if !Vector::read(&vector).is_some_and(|v| v.replay(&mut message, &mut word)) {
-            if differ == 0 {
-                println!(rt; "first at vector {compared}")?;
-            }
-            differ += 1;
+        let right = Vector::read(&vector).is_some_and(|v| v.replay(&mut message, &mut word));
+        let at = compared.all;
+        if compared.count(right) {
+            println!(rt; "first at vector {at}")?;
         }
-        compared += 1;
     }
-    println!(rt; "{compared} compared, {differ} differ")
+    let Compared { all, differ } = compared;
+    println!(rt; "{all} compared, {differ} differ")
 }
 
 // The generator, multiplied out from Table 3.4-1, as one hexadecimal number: bit i is the coefficient of x^i.
@@ -196,7 +156,8 @@ fn print_all(rt: &impl Print, input: &mut Stdin) -> io::Result<()> {
     replay_all(rt, input)
 }
 
-// A write that fails ends the program: what it wrote shows it.
+// A write that fails ends the program: what it wrote shows it. By `main -> io::Result<()>` the error's text would be assumed of the C library too
+// (axioms=4, and not 3).
 fn main(rt: HostRuntime) {
     let mut input = rt.stdin();
     let _written = print_all(&rt, &mut input).is_ok();

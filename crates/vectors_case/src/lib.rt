@@ -1,12 +1,12 @@
 // A case of vectors_run's input (compare/oracle/src/bin/run.rs): its numbers and its code, and the soft words that are made from its recipes.
 #![tactic(auto)]
 
-ghost use Rattle.std.specs.Prelude.{◌≡◌, ℕ, pos, ◌-ℤ◌, ◌+◌, ◌<◌, ◌≤◌, ◌*◌, ◌/◌, ◌%◌, ◌↔◌, ◌++◌, IfSome, IsSome, MatchOption, IsTrue, drop, length, slice_index};
-ghost use Rattle.std.specs.Int.{bit_at};
+ghost use Rattle.std.specs.Prelude.{◌≡◌, ℕ, pos, ◌-ℤ◌, ◌+◌, ◌<◌, ◌≤◌, ◌*◌, ◌/◌, ◌++◌, IfSome, IsSome, MatchOption, drop, length, slice_index};
 ghost use Rattle.std.specs.List.{concat};
 ghost use Rattle.vectors_case.specs.Format.{number, size_of, schedule_of, Reads};
 
 use decoder_plan::{Limits, Part, Schedule, Settings};
+use vectors::{bit, draw, next};
 
 // A case. Numbers of several bytes stand lowest byte first.
 #[derive(Drop)]
@@ -110,7 +110,7 @@ impl<'a> Case<'a> {
     }
 }
 
-// Layered by 1, or sequential.
+// Layered by 1, or sequential: the cases have these two numbers. The archive's entry for C takes every number but 0 as layered.
 fn schedule(layered: u32, step: u32) -> Schedule
     ensures { result ≡ schedule_of layered step }
 {
@@ -128,13 +128,6 @@ fn below_zero(x: u8) -> i8
     (i16::from(x) - 128) as i8
 }
 
-// Bit i, the lowest of a byte first; none behind the end is set.
-pub fn bit(s: &[u8], i: usize) -> bool
-    ensures { IsTrue result ↔ (bit_at (slice_index s.now (i / 8)) (i % 8) ≡ 1) }
-{
-    s.get(i / 8).is_some_and(|b| (*b >> (i % 8)) % 2 == 1)
-}
-
 // How a soft word is made: of the bits from `start` on, `a` from zero with noise up to `b`; of 256 values, chance turns `c` over, draws `d` afresh, and
 // makes `e` extreme.
 #[derive(Drop)]
@@ -148,9 +141,9 @@ struct Recipe {
     seed: u32,
 }
 
-impl Recipe {
-    fn new(s: &[u8; 12]) -> Recipe {
-        let [start_low, start_high, a, b, c, d, e, _, s0, s1, s2, s3] = *s;
+impl From<[u8; 12]> for Recipe {
+    fn from(s: [u8; 12]) -> Recipe {
+        let [start_low, start_high, a, b, c, d, e, _, s0, s1, s2, s3] = s;
         Recipe {
             start: u16::from_le_bytes([start_low, start_high]),
             a,
@@ -161,21 +154,6 @@ impl Recipe {
             seed: u32::from_le_bytes([s0, s1, s2, s3]),
         }
     }
-}
-
-// The generator's next state.
-fn next(x: u64) -> u64
-    ensures { result < 2147483648 }
-{
-    (x % 2147483648 * 1103515245 + 12345) % 2147483648
-}
-
-// A draw below m from a state.
-fn draw(x: u64, m: u64) -> u64
-    requires { 0 < m }
-    ensures { result < m }
-{
-    x / 65536 % m
 }
 
 const EXTREME: [i8; 5] = [-128, -1, 0, 1, 127];
@@ -191,8 +169,7 @@ fn value(bit: bool, r: &Recipe, x: u64) -> i8 {
         return EXTREME[draw(next(x5), 5) as usize];
     }
     if draw(x3, 256) < u64::from(r.d) {
-        let v = draw(x4, 256) as i16 - 128;
-        return v as i8;
+        return below_zero(draw(x4, 256) as u8);
     }
     let a = i16::from(r.a);
     let noise = draw(x1, 2 * u64::from(r.b) + 1) as i16 - i16::from(r.b);
@@ -227,7 +204,7 @@ impl<'a> Case<'a> {
         }
         let whole = soft.len() / n * n;
         for (w, word) in soft[..whole].chunks_exact_mut(n).enumerate() {
-            let r = Recipe::new(&self.recipes[w % self.recipes.len()]);
+            let r = Recipe::from(self.recipes[w % self.recipes.len()]);
             make_word(word, self.bases, &r, w);
         }
     }

@@ -3,34 +3,17 @@
 // parity and of the encoded word, and the syndrome weights of the encoded word, of it with three bits flipped, and of random bytes.
 #![tactic(auto)]
 
-ghost use Rattle.std.specs.Prelude.{◌<◌, ◌≤◌, ◌^◌};
+ghost use Rattle.std.specs.Prelude.{◌<◌, ◌≤◌};
 
-use ldpc::Code;
+use ldpc_shape::Sizes;
 use refusal::Refusal;
 use std::alloc::{AllocError, Global};
 use std::io;
+use vectors::{checksum, draw, next};
 
-// The generator, and a draw below m.
-fn next(x: u64) -> u64 {
-    ((x % 2147483648) * 1103515245 + 12345) % 2147483648
-}
-
-fn draw(x: u64, m: u64) -> u64
-    ensures { 0 < m → result < m }
-{
-    if m == 0 {
-        return 0;
-    }
-    x / 65536 % m
-}
-
-// The checksum with one number more, and with several.
-fn mix(h: u64, v: u32) -> u64 {
-    ((h % 4294967296) * 31 + u64::from(v) + 1) % 4294967291
-}
-
-fn mix_all<T: Copy + Into<u32>>(h: u64, s: &[T]) -> u64 {
-    s.iter().fold(h, |h, &v| mix(h, v.into()))
+// The checksum with several numbers more.
+fn checksum_all<T: Copy + Into<u32>>(h: u32, s: &[T]) -> u32 {
+    s.iter().fold(h, |h, &v| checksum(h, v.into()))
 }
 
 // A code's table.
@@ -49,7 +32,7 @@ fn make_rows(alloc: Global, rows: u64, most: u64, seed: u64) -> Result<(Vec<u32>
     let mut lens = Vec::new(alloc);
     for _ in 0..rows {
         x = next(x);
-        lens.push(if most == 0 { 0 } else { draw(x, most) as u32 })?;
+        lens.push(draw(x, most) as u32)?;
     }
     Ok((lens, x))
 }
@@ -107,32 +90,29 @@ fn flip(s: &mut [u8], x: u64) {
     }
 }
 
-fn show_count(rt: &impl Print, a: Result<u32, Refusal>) -> io::Result<()> {
-    match a {
-        Ok(m) => print!(rt; "{m} "),
-        Err(refusal) => print!(rt; "refused {} ", refusal.number()),
-    }
+fn show_refused(rt: &impl Print, refusal: Refusal) -> io::Result<()> {
+    print!(rt; "refused {} ", refusal.number())
 }
 
-fn show_done(rt: &impl Print, a: Result<(), Refusal>) -> io::Result<()> {
-    match a {
-        Ok(()) => Ok(()),
-        Err(refusal) => print!(rt; "refused {} ", refusal.number()),
+fn show_weight(rt: &impl Print, of: &Table, word: &[u8]) -> io::Result<()> {
+    match ldpc::syndrome_weight(of.n, &of.lens, &of.addrs, word) {
+        Ok(weight) => print!(rt; "{weight} "),
+        Err(refusal) => show_refused(rt, refusal),
     }
 }
 
 // The checksum with check c's list.
-fn one_check(h: u64, of: &Table, c: u32, out: &mut [u32]) -> u64 {
+fn one_check(h: u32, of: &Table, c: u32, out: &mut [u32]) -> u32 {
     match ldpc::check(of.n, &of.lens, &of.addrs, c, out) {
         Ok(m) => match out.get(..m as usize) {
-            Some(list) => mix_all(mix(h, m), list),
+            Some(list) => checksum_all(checksum(h, m), list),
             None => h,
         },
-        Err(refusal) => mix(h, refusal.number()),
+        Err(refusal) => checksum(h, refusal.number()),
     }
 }
 
-fn all_checks(of: &Table, p: u32, out: &mut [u32]) -> u64 {
+fn all_checks(of: &Table, p: u32, out: &mut [u32]) -> u32 {
     let mut h = 0;
     for c in 0..p {
         h = one_check(h, of, c, out);
@@ -140,18 +120,18 @@ fn all_checks(of: &Table, p: u32, out: &mut [u32]) -> u64 {
     h
 }
 
-// The code's numbers, lists and checks; P.
-fn show_code(rt: &impl Print, of: &Table, lists: &mut [u32]) -> io::Result<u32> {
+// The code's numbers, lists and checks; P, which a refused code has not.
+fn show_code(rt: &impl Print, of: &Table, lists: &mut [u32]) -> io::Result<Option<usize>> {
     match ldpc::new(of.n, &of.lens, &of.addrs, lists) {
         Err(refusal) => {
-            print!(rt; "refused {} ", refusal.number())?;
-            Ok(0)
+            show_refused(rt, refusal)?;
+            Ok(None)
         }
-        Ok(Code { k, p, q, e }) => {
-            let made = mix_all(0, lists);
-            let checks = all_checks(of, p, lists);
+        Ok(Sizes { k, p, q, e, .. }) => {
+            let made = checksum_all(0, lists);
+            let checks = all_checks(of, p as u32, lists);
             print!(rt; "{k} {p} {q} {e} {made} {checks} ")?;
-            Ok(p)
+            Ok(Some(p))
         }
     }
 }
@@ -162,24 +142,28 @@ fn show_words(
     of: &Table,
     info: &[u8],
     out: &mut [u8],
-    p: u32,
+    p: usize,
     seed: u64,
 ) -> io::Result<()> {
-    show_done(rt, ldpc::parity(of.n, &of.lens, &of.addrs, info, out))?;
-    if let Some(parity) = out.get(..p as usize) {
-        let parity = mix_all(0, parity);
+    if let Err(refusal) = ldpc::parity(of.n, &of.lens, &of.addrs, info, out) {
+        show_refused(rt, refusal)?;
+    }
+    if let Some(parity) = out.get(..p) {
+        let parity = checksum_all(0, parity);
         print!(rt; "{parity} ")?;
     }
-    show_done(rt, ldpc::encode(of.n, &of.lens, &of.addrs, info, out))?;
-    let encoded = mix_all(0, out);
+    if let Err(refusal) = ldpc::encode(of.n, &of.lens, &of.addrs, info, out) {
+        show_refused(rt, refusal)?;
+    }
+    let encoded = checksum_all(0, out);
     print!(rt; "{encoded} ")?;
-    show_count(rt, ldpc::syndrome_weight(of.n, &of.lens, &of.addrs, out))?;
+    show_weight(rt, of, out)?;
     flip(out, seed);
     flip(out, next(seed));
     flip(out, next(next(seed)));
-    show_count(rt, ldpc::syndrome_weight(of.n, &of.lens, &of.addrs, out))?;
+    show_weight(rt, of, out)?;
     make_bytes(out, seed);
-    show_count(rt, ldpc::syndrome_weight(of.n, &of.lens, &of.addrs, out))
+    show_weight(rt, of, out)
 }
 
 // The code of a seed: `units` times 374 bits, `rows` rows of fewer than `most` addresses.
@@ -202,11 +186,12 @@ fn replay(
     print!(rt; "{seed} {n} {rows} {total} ")?;
     let of = Table { n, lens, addrs };
     let mut lists = vec![in alloc; 0; total.saturating_mul(374).saturating_add(3 * p as usize)]?;
-    let checks = show_code(rt, &of, &mut lists)?;
-    let mut info = vec![in alloc; 0; k as usize]?;
-    let mut out = vec![in alloc; 0; n as usize]?;
-    let z = make_bytes(&mut info, y);
-    show_words(rt, &of, &info, &mut out, checks, z)?;
+    if let Some(checks) = show_code(rt, &of, &mut lists)? {
+        let mut info = vec![in alloc; 0; k as usize]?;
+        let mut out = vec![in alloc; 0; n as usize]?;
+        let z = make_bytes(&mut info, y);
+        show_words(rt, &of, &info, &mut out, checks, z)?;
+    }
     println!(rt)
 }
 
@@ -236,7 +221,8 @@ fn print_all(rt: &(impl Print + AllocGlobal)) -> io::Result<()> {
     Ok(())
 }
 
-// A write that fails ends the program: what it wrote shows it.
+// A write that fails ends the program: what it wrote shows it. By `main -> io::Result<()>` the error's text would be assumed of the C library too
+// (axioms=6, and not 5).
 fn main(rt: HostRuntime) {
     let _written = print_all(&rt).is_ok();
 }

@@ -5,6 +5,10 @@
 
 ghost use Rattle.std.specs.Prelude.{◌<◌, ◌≤◌, length};
 
+use std::fmt;
+use std::fmt::Write;
+use vectors::{Compared, Stdout, mixed};
+
 // 1, -1, 0.5, 6, 0.1, a third, 12.75, the smallest and the largest normal number, the smallest
 // subnormal one, 0, infinity and a NaN.
 const SCALES: [u32; 13] = [
@@ -19,6 +23,8 @@ const EDGES: [u32; 20] = [
     0x42ff0000, 0xc2ff0000, 0x43000000, 0x7fc00000,
 ];
 
+// Of the NaNs one: std's from_bits takes no bits of a NaN.
+#[tactic(auto, using(std::proofs::lemmas::Float::not_nan_f32_bits))]
 fn float(bits: u32) -> f32 {
     if bits % 2147483648 <= 2139095040 {
         return f32::from_bits(bits);
@@ -26,17 +32,12 @@ fn float(bits: u32) -> f32 {
     f32::NAN
 }
 
-// A number in 0 .. 2^32 that `i` makes.
-fn mixed(i: u32) -> u32 {
-    ((i as u64 * 2654435761 + 1013904223) % 4294967296) as u32
-}
-
 // Two floats on either side of every half from 0.5 to 130.5, with both signs, over the scale.
 fn near(scale: f32, case: u32) -> f32
     requires { case < 1310 }
 {
     let h = (case / 10 * 2 + 1) as u16;
-    let x = h as f32 * 0.5 / scale;
+    let x = f32::from(h) * 0.5 / scale;
     if x.is_nan() {
         return x;
     }
@@ -65,8 +66,8 @@ fn input(scale: f32, case: u32) -> f32
 fn fill(inputs: &mut [f32], scale: f32)
     requires { length inputs.old ≤ 1530 }
 {
-    for i in 0..inputs.len() {
-        inputs[i] = input(scale, i as u32);
+    for (i, x) in inputs.iter_mut().enumerate() {
+        *x = input(scale, i as u32);
     }
 }
 
@@ -76,70 +77,57 @@ fn value(answer: u8) -> i8 {
     if answer < 128 { size } else { -size }
 }
 
-// How many places of `out` differ from the answer there.
-fn differing(out: &[i8], answers: &[u8]) -> usize
-    requires { length out.now ≤ length answers.now }
-    ensures { result ≤ length out.now }
-{
-    out.iter()
-        .zip(answers)
-        .filter(|(o, a)| **o != value(**a))
-        .count()
-}
-
-// The first place of `out` that differs from the answer there.
-fn first_differing(out: &[i8], answers: &[u8]) -> Option<usize> {
-    out.iter().zip(answers).position(|(o, a)| *o != value(*a))
-}
-
-// How many of one scale's soft values differ from the answers.
-fn replay(scale: f32, answers: &[u8]) -> usize
-    requires { 1530 ≤ length answers.now }
-    ensures { result ≤ 1530 }
-{
+// One scale's soft values, each compared with the answer there. The scale's first that differs is shown.
+fn replay(scale: f32, answers: &[u8; 1530], compared: &mut Compared) -> fmt::Result {
+    let mut to = Stdout;
     let mut inputs = [0.0f32; 1530];
     let mut out = [0i8; 1530];
     fill(&mut inputs, scale);
     let _ = quantise::quantise(&inputs, scale, &mut out);
-    if let Some(i) = first_differing(&out, answers) {
-        io::write_all(1, b"first at case ");
-        io::print_decimal(1, i as u64);
-        io::write_all(1, b"\n");
+    let mut own = Compared::default();
+    for (out, answer) in out.iter().zip(answers) {
+        let case = own.all;
+        let right = *out == value(*answer);
+        if own.count(right) {
+            writeln!(to, "first at case {case}")?;
+        }
+        compared.count(right);
     }
-    differing(&out, answers)
+    Ok(())
 }
 
 // Every scale whose answers are there.
-fn replay_all(answers: &[u8]) {
-    let mut compared: usize = 0;
-    let mut differ: usize = 0;
-    for (s, &scale) in SCALES.iter().enumerate() {
-        if answers.len() < (s + 1) * 1530 {
-            break;
-        }
-        differ += replay(float(scale), &answers[s * 1530..]);
-        compared += 1530;
+fn replay_all(answers: &[u8]) -> fmt::Result {
+    let mut to = Stdout;
+    let mut compared = Compared::default();
+    let (blocks, _) = answers.as_chunks::<1530>();
+    for (&scale, answers) in SCALES.iter().zip(blocks) {
+        replay(float(scale), answers, &mut compared)?;
     }
-    io::print_decimal(1, compared as u64);
-    io::write_all(1, b" compared, ");
-    io::print_decimal(1, differ as u64);
-    io::write_all(1, b" differ\n");
+    let Compared { all, differ } = compared;
+    writeln!(to, "{all} compared, {differ} differ")
 }
 
 // Scale 1: 0.5 to 1, -2.5 to -3, 200 to 127.
-fn figures() {
+fn figures() -> fmt::Result {
+    let mut to = Stdout;
     let mut out = [0i8; 3];
     let _ = quantise::quantise(&[0.5, -2.5, 200.0], 1.0, &mut out);
-    if out[0] == 1 && out[1] == -3 && out[2] == 127 {
-        io::write_all(1, b"3 figures agree\n");
+    if out == [1, -3, 127] {
+        writeln!(to, "3 figures agree")
     } else {
-        io::write_all(1, b"a figure differs\n");
+        writeln!(to, "a figure differs")
     }
 }
 
+fn show_all(answers: &[u8]) -> fmt::Result {
+    replay_all(answers)?;
+    figures()
+}
+
+// A write that fails ends the program: what it wrote shows it.
 fn main() {
     let mut answers = io::large_buffer();
     let n = io::read_full(0, &mut answers);
-    replay_all(&answers[..n]);
-    figures();
+    let _ = show_all(&answers[..n]);
 }

@@ -23,6 +23,7 @@ fn replay(out: &impl Print, input: &[u8]) -> io::Result<()> {
     Ok(())
 }
 
+// It tells what failed. The error's text is assumed for that, which the other programs do without.
 fn main(rt: HostRuntime) -> io::Result<()> {
     let mut input = Vec::new(rt.alloc());
     rt.stdin().read_to_end(&mut input)?;

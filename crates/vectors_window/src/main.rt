@@ -5,6 +5,9 @@
 #![tactic(auto)]
 
 use arrayvec::ArrayVec;
+use std::fmt;
+use std::fmt::Write;
+use vectors::{Compared, Stdout, checksum, mixed};
 use window::{Record, Window};
 
 // Numbers of a window that was altered.
@@ -30,20 +33,20 @@ const ALTERED: [u64; 16] = [
 // The BCH result of a lost word, written out and not `outcome::LOST`: the sums made afresh ask the code under test nothing.
 const LOST: u32 = 4294967295;
 
-// Whether a record is of a finished word. The request's numbers, and not `outcome::is_finished`, for the same reason.
+// Whether a record is of a finished word. The numbers 2 and 3, and not `outcome::is_finished`, for the same reason.
 fn is_finished(of: Record) -> bool {
     matches!(of.state, 2 | 3)
 }
 
-// A step of the generator.
-fn mixed(x: u32) -> u32 {
-    let a = x.wrapping_mul(2654435761).wrapping_add(1013904223);
+// `mixed` of `vectors`, its high bits folded into the low ones, from which the palettes' codes are drawn.
+fn folded(x: u32) -> u32 {
+    let a = mixed(x);
     a ^ (a >> 15)
 }
 
 // A number that `x` makes.
 fn stir(x: u32) -> u32 {
-    mixed(mixed(mixed(x)))
+    folded(folded(folded(x)))
 }
 
 // What a byte of a palette stands for.
@@ -86,9 +89,9 @@ enum Kind {
     AlteredFurther,
 }
 
-impl Kind {
+impl From<u32> for Kind {
     // By the number that the input has.
-    fn of_number(number: u32) -> Kind {
+    fn from(number: u32) -> Kind {
         match number {
             0 => Kind::Further,
             1 => Kind::Series,
@@ -96,7 +99,9 @@ impl Kind {
             _ => Kind::AlteredFurther,
         }
     }
+}
 
+impl Kind {
     fn in_series(self) -> bool {
         matches!(self, Kind::Further | Kind::Series)
     }
@@ -105,7 +110,7 @@ impl Kind {
 // A block of records, which its index and a palette make: codes of the states, of the iterations and of the BCH results.
 #[derive(Clone, Copy)]
 struct Block<'a> {
-    index: u32,
+    index: u16,
     kind: Kind,
     palette: &'a [[u8; 8]; 3],
     records: u32,
@@ -120,8 +125,8 @@ impl<'a> Block<'a> {
         let (numbers, _) = bytes.as_chunks();
         let [width, room, form, sum] = numbers.first_chunk::<4>()?.map(u32::from_le_bytes);
         Some(Block {
-            index: (index % 65536) as u32,
-            kind: Kind::of_number(form % 4),
+            index: (index % 65536) as u16,
+            kind: Kind::from(form % 4),
             palette: palettes.get((form / 4 % 16) as usize)?,
             records: form / 64,
             width,
@@ -133,7 +138,7 @@ impl<'a> Block<'a> {
     // Record i.
     fn record(&self, i: u32) -> Record {
         let [states, iterations, results] = *self.palette;
-        let x = self.index % 65536 * 4096 + i % 1024 * 4;
+        let x = u32::from(self.index) * 4096 + i % 1024 * 4;
         Record {
             state: drawn(states, x),
             iterations: drawn(iterations, x + 1),
@@ -143,7 +148,7 @@ impl<'a> Block<'a> {
 
     // The window of a block that begins with an altered one.
     fn altered(&self) -> Window {
-        let x = self.index % 65536 * 4096;
+        let x = u32::from(self.index) * 4096;
         Window {
             at: any_altered(x + 3),
             words: any_altered(x + 7),
@@ -154,7 +159,7 @@ impl<'a> Block<'a> {
     }
 
     fn fill(&self, ring: &mut [u32]) {
-        let x = 2147483648 + self.index % 65536 * 16384;
+        let x = 2147483648 + u32::from(self.index) * 16384;
         for (j, place) in ring.iter_mut().enumerate() {
             *place = garbage(x + (j % 16384) as u32);
         }
@@ -208,8 +213,7 @@ struct Checksum(u32);
 impl Checksum {
     // That with one number more.
     fn with(self, v: u32) -> Checksum {
-        let sum = u64::from(self.0) * 31 + u64::from(v) + 1;
-        Checksum((sum % 4294967291) as u32)
+        Checksum(checksum(self.0, v))
     }
 
     // That with the two halves of a number, the lower first.
@@ -228,42 +232,14 @@ impl Checksum {
     }
 }
 
-// Through `io`, as vectors_run: `print!` would assume more of the C library.
-fn show(x: u64, unit: &[u8]) {
-    io::print_decimal(1, x);
-    io::write_all(1, unit);
-}
-
-// How many were compared, and how many of them differ.
-#[derive(Clone, Copy, Debug, PartialEq, Eq, Default)]
-struct Compared {
-    all: u64,
-    differ: u64,
-}
-
-impl Compared {
-    // One comparison more; the first difference is shown.
-    fn count(&mut self, right: bool, block: u32, record: u32) {
-        self.all = self.all.wrapping_add(1);
-        if right {
-            return;
-        }
-        if self.differ == 0 {
-            io::write_all(1, b"first difference in block, record ");
-            show(u64::from(block), b", ");
-            show(u64::from(record), b"\n");
-        }
-        self.differ = self.differ.wrapping_add(1);
-    }
-
-    fn show(&self, what: &[u8]) {
-        show(self.all, what);
-        show(self.differ, b" differ\n");
-    }
+// The first of the records, or of the blocks, that differs.
+fn show_first(block: u16, record: u32) {
+    let mut to = Stdout;
+    let _ = writeln!(to, "first difference in block, record {block}, {record}");
 }
 
 // The window, the finished records since a series began, the checksum since a block began, and what was compared.
-#[derive(Drop)]
+#[derive(Drop, Default)]
 struct Progress {
     window: Window,
     finished: ArrayVec<Record, 24000>,
@@ -273,14 +249,18 @@ struct Progress {
 }
 
 impl Progress {
-    fn new() -> Progress {
-        Progress {
-            window: Window::default(),
-            finished: ArrayVec::new(),
-            sum: Checksum::default(),
-            records: Compared::default(),
-            blocks: Compared::default(),
-        }
+    fn show(&self) -> fmt::Result {
+        let mut to = Stdout;
+        let Compared { all, differ } = self.records;
+        writeln!(
+            to,
+            "{all} records compared with sums made afresh, {differ} differ"
+        )?;
+        let Compared { all, differ } = self.blocks;
+        writeln!(
+            to,
+            "{all} blocks compared with the second model, {differ} differ"
+        )
     }
 
     // The figures over the last `width` finished records.
@@ -316,6 +296,7 @@ impl Replay<'_> {
     // Record i, pushed and compared.
     fn push(&mut self, i: u32) {
         let new = self.of.record(i);
+        // A number, as the second model sums it up: 0 where nothing is refused.
         let refused = match window::push(self.of.width, self.at.window, new, self.ring) {
             Ok(window) => {
                 self.at.window = window;
@@ -330,7 +311,9 @@ impl Replay<'_> {
         self.at.sum = self.at.sum.with(refused).with_figures(shown);
         if self.of.kind.in_series() {
             let right = shown == self.at.afresh(self.of.width as usize);
-            self.at.records.count(right, self.of.index, i);
+            if self.at.records.count(right) {
+                show_first(self.of.index, i);
+            }
         }
     }
 
@@ -345,9 +328,9 @@ impl Replay<'_> {
                 .with_wide(self.at.window.at)
                 .with_ring(self.ring, 0)
         };
-        self.at
-            .blocks
-            .count(sum == self.of.sum, self.of.index, self.of.records);
+        if self.at.blocks.count(sum == self.of.sum) {
+            show_first(self.of.index, self.of.records);
+        }
         self.at.sum = Checksum::default();
     }
 
@@ -382,10 +365,8 @@ fn replay_all(input: &[u8], ring: &mut [u32], at: &mut Progress) {
 fn main() {
     let mut input = io::large_buffer();
     let mut ring = [0; 12304];
-    let mut at = Progress::new();
+    let mut at = Progress::default();
     let n = io::read_full(0, &mut input);
     replay_all(&input[..n], &mut ring, &mut at);
-    at.records
-        .show(b" records compared with sums made afresh, ");
-    at.blocks.show(b" blocks compared with the second model, ");
+    let _ = at.show();
 }

@@ -2,7 +2,7 @@
 // covers stand in a ring of numbers that the caller lends, three to a record. The time for a record does not depend on the width.
 #![tactic(auto)]
 
-ghost use Rattle.std.specs.Prelude.{◌≡◌, ◌+◌, ◌*◌, ◌<◌, ◌≤◌, length};
+ghost use Rattle.std.specs.Prelude.{◌≡◌, [], ◌∷◌, ◌+◌, ◌*◌, ◌<◌, ◌≤◌, get_or, length};
 ghost use Rattle.refusal.specs.Number.{number_of};
 ghost use Rattle.window.specs.Figures.{corrected_by};
 ghost use Rattle.window.specs.Push.{push_refusal, slot_of, next_at, next_words, slid, leaving, written, moved, Pushes};
@@ -42,6 +42,32 @@ pub struct Window {
     pub corrected: u64,
 }
 
+// Its numbers, in their order.
+impl From<Window> for [u64; 5] {
+    ghost from_gives = { λ of own. own ≡ of.at ∷ of.words ∷ of.lost ∷ of.iterations ∷ of.corrected ∷ [] };
+
+    fn from(of: Window) -> [u64; 5] {
+        [of.at, of.words, of.lost, of.iterations, of.corrected]
+    }
+}
+
+// The window that such numbers are.
+impl From<[u64; 5]> for Window {
+    ghost from_gives = { λ own of. of
+        ≡ record { at = get_or own 0 0; words = get_or own 1 0; lost = get_or own 2 0; iterations = get_or own 3 0; corrected = get_or own 4 0 } };
+
+    fn from(own: [u64; 5]) -> Window {
+        let [at, words, lost, iterations, corrected] = own;
+        Window {
+            at,
+            words,
+            lost,
+            iterations,
+            corrected,
+        }
+    }
+}
+
 // Refused by 14, a width of 0 or above 4,096, then by 13, a shorter ring.
 #[tactic(auto, unfolding(crate::specs::Push::push_refusal))]
 fn accept(width: u32, room: usize) -> Result<(), Refusal>
@@ -57,11 +83,11 @@ fn accept(width: u32, room: usize) -> Result<(), Refusal>
 }
 
 // What a record adds to the corrected bits.
-#[tactic(auto, unfolding(crate::specs::Figures::corrected_by, outcome::specs::Outcome::is_lost, outcome::specs::Outcome::lost))]
+#[tactic(auto, unfolding(crate::specs::Figures::corrected_by, outcome::specs::Outcome::unless_lost))]
 fn corrected_by(of: Record) -> u32
     ensures { result ≡ corrected_by of }
 {
-    if of.bch == outcome::LOST { 0 } else { of.bch }
+    outcome::unless_lost(of.bch).unwrap_or(0)
 }
 
 // A sum with one number more and one less.
@@ -69,7 +95,8 @@ fn corrected_by(of: Record) -> u32
 fn slide(sum: u64, more: u32, less: u32) -> u64
     ensures { result ≡ slid sum more less }
 {
-    sum.wrapping_add(more as u64).wrapping_sub(less as u64)
+    sum.wrapping_add(u64::from(more))
+        .wrapping_sub(u64::from(less))
 }
 
 #[tactic(auto, unfolding(crate::specs::Push::slot_of))]
@@ -91,10 +118,12 @@ fn next_at(width: u64, slot: u64) -> u64
 fn next_words(width: u64, words: u64) -> u64
     ensures { result ≡ next_words width words }
 {
-    if words < width { words + 1 } else { width }
+    words.saturating_add(1).min(width)
 }
 
-// The record that leaves: a full window's oldest, whose slot it is; else zeros.
+// The record that leaves: a full window's oldest, whose slot it is; else zeros, which take nothing from any figure. (An Option would be
+// looked into for each of the three.)
+// (A record's three numbers are read and written one by one here and in `put`: a conversion each way would name them again.)
 #[tactic(auto, unfolding(crate::specs::Push::leaving, crate::specs::Push::record_in))]
 fn oldest(width: u64, words: u64, ring: &[u32], slot: usize) -> Record
     requires { 3 * slot + 3 ≤ length ring.now }
@@ -148,7 +177,7 @@ pub fn push(width: u32, was: Window, new: Record, ring: &mut [u32]) -> Result<Wi
     if !outcome::is_finished(new.state) {
         return Ok(was);
     }
-    let w = width as u64;
+    let w = u64::from(width);
     let slot = slot_of(w, was.at);
     let old = oldest(w, was.words, ring, slot as usize);
     put(ring, slot as usize, new);

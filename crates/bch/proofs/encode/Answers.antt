@@ -1,31 +1,25 @@
-use Rattle.std.proofs.Common.{ap, sym, ◌∙◌, List, ◌++◌, ℕ, ◌+◌, length, drop}
+use Rattle.std.proofs.Common.{ap, sym, ◌∙◌, List, ◌++◌, ℕ, ◌+◌, ◌-◌, length, drop, arith}
 use Rattle.std.proofs.Math.Seq.{take-length}
-use Rattle.refusal.specs.NumberLaws.{accepted, refused}
-use Rattle.refusal.specs.declared.Refusal.TheVariants.{Bch, TooShort}
+use Rattle.refusal.specs.Number.{number}
+use Rattle.refusal.specs.NumberLaws.{number_least}
 use Rattle.bch_table.specs.Step.{value_of}
 use Rattle.bch_remainder.specs.Word.{parity_of, parity_bits}
 use Rattle.bch.specs.Answers.{encode_out}
-use Rattle.bch.specs.AnswersLaws.{encoded_bytes, long_message, short_output, fair_message, unchanged, changed}
+use Rattle.bch.specs.AnswersLaws.{encoded_bytes, unchanged, changed}
 use Rattle.bch.proofs.encode.Goals as goal
 
-pub returns-then-k-gt65343 : goal.returns-then-k-gt65343
+pub returns-in_err-fits-clause-output : goal.returns-in_err-fits-clause-output
 unfolding encode_out
-returns-then-k-gt65343 c = let f = long_message _ _ _ c.if-k-gt65343.true in record { answer = sym (refused _ tt Bch f); output = unchanged _ 10 _ _ f; number = sym f }
+returns-in_err-fits-clause-output c =
+    let r = c.in_err-fits.field-0.0 in
+    unchanged _ (number r - 1) _ _ (omega (arith, number_least r, c.in_err-fits.ensures.number))
 
-pub returns-then-out-k : goal.returns-then-out-k
+pub returns-clause-output : goal.returns-clause-output
 unfolding encode_out
-returns-then-out-k c = let f = short_output _ _ _ c.if-k-gt65343.false c.if-out-k.true in record { answer = sym (refused _ tt TooShort f); output = unchanged _ 12 _ _ f; number = sym f }
-
-pub returns : goal.returns
-unfolding encode_out
-returns c =
-    let f = fair_message (length c.args.message.now) (length c.args.message.now + 192) (length c.args.out.now) c.if-k-gt65343.false c.if-out-k.false in
-    record {
-      answer = sym (accepted _ tt f);
-      output = encoded_bytes c.args.message.now c.args.out.now _ _ (parity_bits (value_of c.parity_register.result))
-          (ap (λ (l : List ℕ). l ++ drop (length c.args.message.now) c.args.out.now) (c.copy_from_slice.ensures.after ∙ sym (take-length c.args.message.now)))
-          c.write_parity.ensures
-          ∙ ap (λ (n : ℕ). c.args.message.now ++ (parity_bits n ++ drop (length c.args.message.now + 192) c.args.out.now)) c.parity_register.ensures
-          ∙ changed _ (c.args.message.now ++ (parity_bits (parity_of c.args.message.now) ++ drop (length c.args.message.now + 192) c.args.out.now)) c.args.out.now f;
-      number = sym f;
-    }
+returns-clause-output c =
+    encoded_bytes c.args.message.now c.args.out.now _ _ (parity_bits (value_of c.parity_register.result))
+    (ap (λ (l : List ℕ). l ++ drop (length c.args.message.now) c.args.out.now) (c.copy_from_slice.ensures.after ∙ sym (take-length c.args.message.now)))
+    c.write_parity.ensures
+    ∙ ap (λ (n : ℕ). c.args.message.now ++ (parity_bits n ++ drop (length c.args.message.now + 192) c.args.out.now)) c.parity_register.ensures
+    ∙ changed _ (c.args.message.now ++ (parity_bits (parity_of c.args.message.now) ++ drop (length c.args.message.now + 192) c.args.out.now)) c.args.out.now
+    (omega (arith, c.in_ok-fits.ensures.number))

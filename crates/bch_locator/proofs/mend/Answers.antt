@@ -3,7 +3,7 @@ use Rattle.bch_locator.proofs.Steps.{mending_start, mending_again, mending_end}
 use Rattle.bch_locator.proofs.mend.Goals as goal
 
 pub loop-i-init : goal.loop-i-init
-loop-i-init c = (omega arith, mending_start _ _ _ _, c.requires)
+loop-i-init c = (omega arith, mending_start _ _ _ _, search rules)
 
 pub loop-i-preserved : goal.loop-i-preserved
 loop-i-preserved c = (omega arith, mending_again _ _ _ _ _ c.loop-i.i _ c.loop-i.invariant.2 (search rules) (search rules) c.loop-i.invariant.1 c.mul.ensures, simp length-set c.loop-i.invariant.2)

@@ -6,7 +6,7 @@ pub loop-i-init : goal.loop-i-init
 loop-i-init c = product_start c.args.a c.args.b _ refl
 
 pub loop-i-preserved : goal.loop-i-preserved
-loop-i-preserved c = product_next c.args.a c.args.b _ c.loop-i.i (omega arith) (omega arith) (omega arith) c.loop-i.invariant
+loop-i-preserved c = rw c.from.ensures (rw c.from-in-loop-i.ensures (product_next c.args.a c.args.b _ c.loop-i.i (omega arith) (omega arith) (omega arith) c.loop-i.invariant))
 
 pub fold-requires : goal.fold-requires
 fold-requires c = product_fits c.args.a c.args.b _ c.loop-i.i (omega arith) c.loop-i.invariant

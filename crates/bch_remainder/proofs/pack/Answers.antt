@@ -13,4 +13,4 @@ pub overflow_add-v : goal.overflow_add-v
 overflow_add-v c = let h : c.loop-bit.v < 2 ^ 63 = pack_room _ c.loop-bit.bit-index _ c.loop-bit-test.true c.requires c.loop-bit.invariant in omega (arith, bit_lt)
 
 pub loop-bit-preserved : goal.loop-bit-preserved
-loop-bit-preserved c = pack_again _ _ _ c.loop-bit-test.true c.loop-bit.invariant
+loop-bit-preserved c = rw c.from.ensures (pack_again _ _ _ c.loop-bit-test.true c.loop-bit.invariant)

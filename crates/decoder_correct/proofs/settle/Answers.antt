@@ -22,14 +22,14 @@ returns c =
     let B : Book = book c.args.records.now c.args.out.now in
     let was : Noted = c.read-was.result in
     let bits : List ℕ = c.finish-bch.new.word in
-    let own_is = own n w c.args.out.now in
-    let soft_is = own n w c.args.soft.now in
-    let soft_long = middle n w c.args.soft.now c.args.plan.words c.requires.fair.1 (omega (arith, c.requires.fair.2)) in
+    let own_is = own n w c.args.out.now _ c.own_range.ensures in
+    let soft_is = own n w c.args.soft.now _ c.own_range-2.ensures in
+    let soft_long = middle n w c.args.soft.now _ c.own_range-2.ensures c.args.plan.words c.requires.fair.1 (omega (arith, c.requires.fair.2)) in
     let long : length bits ≡ n =
     ap length c.finish-bch.ensures.bits
     ∙ bits_by_length c.args.plan.part was.state _
-    ∙ middle n w c.args.out.now c.args.plan.words c.requires.fair.1 c.requires.room.out in
-    let out_is = back n w c.args.out.now bits in
+    ∙ middle n w c.args.out.now _ c.own_range.ensures c.args.plan.words c.requires.fair.1 c.requires.room.out in
+    let out_is = back n w c.args.out.now bits _ c.own_range.ensures in
     record {
       only = written_only _ _ w B _ c.with_results.result bits c.requires.room c.requires.fair.1 c.note.ensures out_is long;
       settled =

@@ -12,9 +12,9 @@ returns c =
     let bits : List ℕ = c.hard.new.out in
     let bits_are =
     lane_bits c.args.plan.sizes.n c.args.plan.sizes.e c.args.plan.lanes c.args.l c.args.work.now _ _ c.hard.ensures
-    (middle c.args.plan.sizes.n c.args.w c.args.out.now c.args.plan.words c.requires.stored.1 c.requires.room.out) in
+    (middle c.args.plan.sizes.n c.args.w c.args.out.now _ c.own_range.ensures c.args.plan.words c.requires.stored.1 c.requires.room.out) in
     let long : length bits ≡ c.args.plan.sizes.n = ap length bits_are ∙ bits_length c.args.plan.sizes.n _ in
-    let out_is = back c.args.plan.sizes.n c.args.w c.args.out.now bits in
+    let out_is = back c.args.plan.sizes.n c.args.w c.args.out.now bits _ c.own_range.ensures in
     record {
       only = written_only _ _ c.args.w _ _ c.args.r bits c.requires.room c.requires.stored.1 c.note.ensures out_is long;
       written =

@@ -2,7 +2,7 @@
 use Rattle.std.proofs.Common.{◌≡◌, Bool, sym, ap, ◌∙◌, arith, lt-ltb, le-ltb}
 use Rattle.std.proofs.lemmas.Result.{err_from_is_err_and}
 use Rattle.refusal.specs.NumberLaws.{number_least}
-use Rattle.ldpc_shape.proofs.Accepted.{sizes_bounded}
+use Rattle.ldpc_shape.proofs.Accepted.{table_bounded}
 use Rattle.ldpc_shape.specs.declared.Sizes.{Sizes}
 use Rattle.decoder_refuse.specs.Accepted.{lanes_few, words_few, first_code, first_lanes, first_words, first_limit, first_step, first_part, first_short, first_none}
 use Rattle.decoder_refuse.specs.Refusal.{bad_words, bad_limit, bad_part, too_short, first_refusal}
@@ -24,37 +24,37 @@ unfolding first_refusal
 returns-then-bad_lanes-clause-number c = first_lanes _ _ _ _ _ _ _ (sym c.in_ok-of.ensures.number) (sym c.bad_lanes.ensures ∙ c.if-bad_lanes.true)
 
 pub bad_words-requires : goal.bad_words-requires
-bad_words-requires c = let b = sizes_bounded c.in_ok-of.of _ _ _ c.in_ok-of.ensures.sizes (sym c.in_ok-of.ensures.number) in omega arith
+bad_words-requires c = omega (arith, table_bounded c.in_ok-of.field-0)
 
 pub returns-then-bad_words-clause-number : goal.returns-then-bad_words-clause-number
 unfolding first_refusal
 returns-then-bad_words-clause-number c =
     first_words _ _ _ _ _ _ _ (sym c.in_ok-of.ensures.number) (sym c.bad_lanes.ensures ∙ c.if-bad_lanes.false)
-    (so (λ s. bad_words s.n c.args.lent.soft) c.in_ok-of.ensures.sizes c.bad_words.ensures c.if-bad_words.true)
+    (so (λ s. bad_words s.n c.args.lent.soft) c.in_ok-of.ensures.table.0 c.bad_words.ensures c.if-bad_words.true)
 
 pub returns-then-set-gt65535-clause-number : goal.returns-then-set-gt65535-clause-number
 unfolding first_refusal bad_limit
 returns-then-set-gt65535-clause-number c =
     first_limit _ _ _ _ _ _ _ (sym c.in_ok-of.ensures.number) (sym c.bad_lanes.ensures ∙ c.if-bad_lanes.false)
-    (so (λ s. bad_words s.n c.args.lent.soft) c.in_ok-of.ensures.sizes c.bad_words.ensures c.if-bad_words.false) (lt-ltb 65535 _ c.if-set-gt65535.true)
+    (so (λ s. bad_words s.n c.args.lent.soft) c.in_ok-of.ensures.table.0 c.bad_words.ensures c.if-bad_words.false) (lt-ltb 65535 _ c.if-set-gt65535.true)
 
 pub returns-then-bad_step-clause-number : goal.returns-then-bad_step-clause-number
 unfolding first_refusal bad_limit
 returns-then-bad_step-clause-number c =
     first_step _ _ _ _ _ _ _ (sym c.in_ok-of.ensures.number) (sym c.bad_lanes.ensures ∙ c.if-bad_lanes.false)
-    (so (λ s. bad_words s.n c.args.lent.soft) c.in_ok-of.ensures.sizes c.bad_words.ensures c.if-bad_words.false) (le-ltb 65535 _ c.if-set-gt65535.false)
+    (so (λ s. bad_words s.n c.args.lent.soft) c.in_ok-of.ensures.table.0 c.bad_words.ensures c.if-bad_words.false) (le-ltb 65535 _ c.if-set-gt65535.false)
     (sym c.bad_step.ensures ∙ c.if-bad_step.true)
 
 pub returns-then-bad_part-clause-number : goal.returns-then-bad_part-clause-number
 unfolding first_refusal bad_limit
 returns-then-bad_part-clause-number c =
     first_part _ _ _ _ _ _ _ (sym c.in_ok-of.ensures.number) (sym c.bad_lanes.ensures ∙ c.if-bad_lanes.false)
-    (so (λ s. bad_words s.n c.args.lent.soft) c.in_ok-of.ensures.sizes c.bad_words.ensures c.if-bad_words.false) (le-ltb 65535 _ c.if-set-gt65535.false)
-    (sym c.bad_step.ensures ∙ c.if-bad_step.false) (so (λ s. bad_part s.n c.args.set.part) c.in_ok-of.ensures.sizes c.bad_part.ensures c.if-bad_part.true)
+    (so (λ s. bad_words s.n c.args.lent.soft) c.in_ok-of.ensures.table.0 c.bad_words.ensures c.if-bad_words.false) (le-ltb 65535 _ c.if-set-gt65535.false)
+    (sym c.bad_step.ensures ∙ c.if-bad_step.false) (so (λ s. bad_part s.n c.args.set.part) c.in_ok-of.ensures.table.0 c.bad_part.ensures c.if-bad_part.true)
 
 pub too_short-requires : goal.too_short-requires
 too_short-requires c = (
-  sizes_bounded _ _ _ _ c.in_ok-of.ensures.sizes (sym c.in_ok-of.ensures.number),
+  table_bounded c.in_ok-of.field-0,
   lanes_few _ (sym c.bad_lanes.ensures ∙ c.if-bad_lanes.false),
   words_few _ _ (sym c.bad_words.ensures ∙ c.if-bad_words.false),
 )
@@ -63,17 +63,17 @@ pub returns-then-too_short-clause-number : goal.returns-then-too_short-clause-nu
 unfolding first_refusal bad_limit
 returns-then-too_short-clause-number c =
     first_short _ _ _ _ _ _ _ (sym c.in_ok-of.ensures.number) (sym c.bad_lanes.ensures ∙ c.if-bad_lanes.false)
-    (so (λ s. bad_words s.n c.args.lent.soft) c.in_ok-of.ensures.sizes c.bad_words.ensures c.if-bad_words.false) (le-ltb 65535 _ c.if-set-gt65535.false)
-    (sym c.bad_step.ensures ∙ c.if-bad_step.false) (so (λ s. bad_part s.n c.args.set.part) c.in_ok-of.ensures.sizes c.bad_part.ensures c.if-bad_part.false)
-    (so (λ s. too_short s c.args.set.lanes c.args.lent) c.in_ok-of.ensures.sizes c.too_short.ensures c.if-too_short.true)
+    (so (λ s. bad_words s.n c.args.lent.soft) c.in_ok-of.ensures.table.0 c.bad_words.ensures c.if-bad_words.false) (le-ltb 65535 _ c.if-set-gt65535.false)
+    (sym c.bad_step.ensures ∙ c.if-bad_step.false) (so (λ s. bad_part s.n c.args.set.part) c.in_ok-of.ensures.table.0 c.bad_part.ensures c.if-bad_part.false)
+    (so (λ s. too_short s c.args.set.lanes c.args.lent) c.in_ok-of.ensures.table.0 c.too_short.ensures c.if-too_short.true)
 
 pub plan_of-requires : goal.plan_of-requires
-plan_of-requires c = let b = sizes_bounded c.in_ok-of.of _ _ _ c.in_ok-of.ensures.sizes (sym c.in_ok-of.ensures.number) in omega arith
+plan_of-requires c = omega (arith, table_bounded c.in_ok-of.field-0)
 
 pub returns-clause-number : goal.returns-clause-number
 unfolding first_refusal bad_limit
 returns-clause-number c =
     first_none _ _ _ _ _ _ _ (sym c.in_ok-of.ensures.number) (sym c.bad_lanes.ensures ∙ c.if-bad_lanes.false)
-    (so (λ s. bad_words s.n c.args.lent.soft) c.in_ok-of.ensures.sizes c.bad_words.ensures c.if-bad_words.false) (le-ltb 65535 _ c.if-set-gt65535.false)
-    (sym c.bad_step.ensures ∙ c.if-bad_step.false) (so (λ s. bad_part s.n c.args.set.part) c.in_ok-of.ensures.sizes c.bad_part.ensures c.if-bad_part.false)
-    (so (λ s. too_short s c.args.set.lanes c.args.lent) c.in_ok-of.ensures.sizes c.too_short.ensures c.if-too_short.false)
+    (so (λ s. bad_words s.n c.args.lent.soft) c.in_ok-of.ensures.table.0 c.bad_words.ensures c.if-bad_words.false) (le-ltb 65535 _ c.if-set-gt65535.false)
+    (sym c.bad_step.ensures ∙ c.if-bad_step.false) (so (λ s. bad_part s.n c.args.set.part) c.in_ok-of.ensures.table.0 c.bad_part.ensures c.if-bad_part.false)
+    (so (λ s. too_short s c.args.set.lanes c.args.lent) c.in_ok-of.ensures.table.0 c.too_short.ensures c.if-too_short.false)

@@ -44,8 +44,8 @@ busy_is c = sym (c.some_held.ensures ∙ some_of c.assign-at.result.taken c.args
 pub loop-round-preserved : goal.loop-round-preserved
 loop-round-preserved c = (
   c.advance-at.auto.work ∙ c.load.auto.work ∙ c.loop-round.invariant.0,
-  goes_round _ _ _ _ _ _ _ _ _ _ _ _ _ _ (paused (goal.at.loop-round-preserved c).After-load) _ _ _ _ c.advance-at.ensures.others
-      (busy_is (goal.at.loop-round-preserved c).After-some_held ∙ c.if-not-some_held.false) c.if-rounds-run.false c.advance-at.ensures.advances,
+  goes_round _ _ _ _ _ _ _ _ _ _ _ _ _ _ (paused (goal.at.loop-round-preserved c).After-load) _ _ _ _ refl
+      (busy_is (goal.at.loop-round-preserved c).After-some_held ∙ c.if-not-some_held.false) c.if-rounds-run.false c.advance-at.ensures,
 )
 
 pub invariant_of-words-clause-readied : goal.invariant_of-words-clause-readied

@@ -9,10 +9,10 @@ loop-x-init c = (refl, refl, refl, turn_start _ _ _ _ _ _ _ _)
 
 pub loop-x-preserved : goal.loop-x-preserved
 loop-x-preserved c =
-    let check = c.of-check.ensures in (
+    let check = c.check.ensures in (
       omega (arith, c.loop-x.invariant.0),
       omega (arith, c.loop-x.invariant.1),
       omega (arith, c.loop-x.invariant.2),
-      turn_again (c.args.turns.inside c.loop-x.x c.loop-x-test.true) check.edges.0 check.edges.1 c.loop-x.invariant.3
-          (node_to (plain c.args.turns.offset (search rules)) (rw (check.rows, check.sizes.0, check.sizes.1) at c.check_node.ensures)),
+      turn_again (c.args.turns.inside c.loop-x.x c.loop-x-test.true) check.start check.ends c.loop-x.invariant.3
+          (node_to (plain c.args.turns.offset (search rules)) (rw (check.rows, check.bits, check.lanes) at c.check_node.ensures)),
     )

@@ -2,38 +2,38 @@ use Rattle.std.proofs.Common.{◌≡◌, ℕ, ◌+◌, ◌-◌, ◌<◌, ◌≤�
 use Rattle.std.proofs.lemmas.List.{length-take, length-drop, get_or-replicate}
 use Rattle.std.specs.Iterator.Adapters.{enumerate_source, enumerate_count}
 use Rattle.ldpc_shape.specs.declared.Sizes.{Sizes}
-use Rattle.ldpc_shape.specs.Shape.{q_of, total, code_refusal, sizes_of}
+use Rattle.ldpc_shape.specs.declared.Table.{Table}
+use Rattle.ldpc_shape.specs.Shape.{q_of, total}
 use Rattle.ldpc_shape.specs.Counts.{CountsBelow}
 use Rattle.ldpc_shape.proofs.Accepted.{accepted}
 use Rattle.ldpc_shape.specs.Accepted.{Accepted, rows_le, addrs_le, q_pos, q_le}
 use Rattle.ldpc_rows.specs.declared.Row.{Row}
 use Rattle.ldpc_rows.specs.declared.Rows.{Rows}
 use Rattle.ldpc_rows.specs.Rows.{left, seen}
-use Rattle.fixed_conflicts.specs.Edges.{row_of}
 use Rattle.fixed_conflicts.specs.Marks.{Begun, NextRow, begun_start, begun_again, begun_few, begun_small, begun_end}
 use Rattle.fixed_conflicts.proofs.Rows.{all_rows, rows_start, rows_next, rows_left}
 use Rattle.fixed_conflicts.proofs.spans.Goals as goal
 
 -- what is known of an accepted code
-record Known (of : Sizes) (lens addrs : List ℕ) : Type 0 where
-  accept : Accepted of.n lens addrs
-  layers : of.q ≡ q_of of.n lens
-  some : 0 < of.q
-  few : of.q ≤ 120
-  rows : length lens ≤ 119
-  addresses : length addrs ≤ 15360
+record Known (of : Table) : Type 0 where
+  accept : Accepted of.sizes.n of.lens.now of.addrs.now
+  layers : of.sizes.q ≡ q_of of.sizes.n of.lens.now
+  some : 0 < of.sizes.q
+  few : of.sizes.q ≤ 120
+  rows : length of.lens.now ≤ 119
+  addresses : length of.addrs.now ≤ 15360
 
-known : (of : Sizes) (lens addrs : List ℕ) → (code_refusal of.n lens addrs ≡ 0) × (of ≡ sizes_of of.n lens addrs) → Known of lens addrs
-known of lens addrs h =
-    let A = accepted of.n lens addrs h.0 in
-    let e : of.q ≡ q_of of.n lens = ap (λ (z : Sizes). z.q) h.1 in
+known : (of : Table) → Known of
+known of =
+    let A = accepted of.sizes.n of.lens.now of.addrs.now of.accepted in
+    let e : of.sizes.q ≡ q_of of.sizes.n of.lens.now = ap (λ (z : Sizes). z.q) of.numbers in
     record {
       accept = A;
       layers = e;
-      some = omega (arith, q_pos of.n lens addrs A);
-      few = omega (arith, q_le of.n lens addrs A);
-      rows = rows_le of.n lens addrs A;
-      addresses = addrs_le of.n lens addrs A;
+      some = omega (arith, q_pos of.sizes.n of.lens.now of.addrs.now A);
+      few = omega (arith, q_le of.sizes.n of.lens.now of.addrs.now A);
+      rows = rows_le of.sizes.n of.lens.now of.addrs.now A;
+      addresses = addrs_le of.sizes.n of.lens.now of.addrs.now A;
     }
 
 -- the addresses of the rows before row g end where its own begin
@@ -61,37 +61,31 @@ turn q lens addrs s t r g counts h e f =
     }
 
 pub overflow_cast-q : goal.overflow_cast-q
-overflow_cast-q c = let k = known c.args.of c.args.lens.now c.args.addrs.now c.requires.accepted in record { fits = omega (arith, k.few) }
-
-pub new-requires-clause-few : goal.new-requires-clause-few
-new-requires-clause-few c = let k = known c.args.of c.args.lens.now c.args.addrs.now c.requires.accepted in omega (arith, k.rows)
-
-pub new-requires-clause-whole : goal.new-requires-clause-whole
-new-requires-clause-whole c = let k = known c.args.of c.args.lens.now c.args.addrs.now c.requires.accepted in k.accept.adds
+overflow_cast-q c = let k = known c.args.of in record { fits = omega (arith, k.few) }
 
 pub loop-g-init : goal.loop-g-init
 loop-g-init c =
-    let k = known c.args.of c.args.lens.now c.args.addrs.now c.requires.accepted in
-    let n = c.new.ensures in
+    let k = known c.args.of in
+    let n = c.from.ensures in
     let s = enumerate_source c.into_iter-g-iterator.result in
-    let source : s ≡ c.new.result = ap enumerate_source c.into_iter-g-iterator.ensures.into_iter_gives ∙ c.enumerate-g-items.ensures.source in
+    let source : s ≡ c.from.result = ap enumerate_source c.into_iter-g-iterator.ensures.into_iter_gives ∙ c.enumerate-g-items.ensures.source in
     let count : enumerate_count c.into_iter-g-iterator.result ≡ 0 = ap enumerate_count c.into_iter-g-iterator.ensures.into_iter_gives ∙ c.enumerate-g-items.ensures.count in
-    let some : left s ≡ drop (enumerate_count c.into_iter-g-iterator.result) (all_rows c.args.lens.now c.args.addrs.now) =
-    rows_start c.args.lens.now c.args.addrs.now s c.new.result source n.first n.lens n.addrs
-    ∙ ap (λ (j : ℕ). drop j (all_rows c.args.lens.now c.args.addrs.now)) (sym count) in (
-      (tt, tt, inl (omega (arith, count, k.rows, rows_left c.args.lens.now c.args.addrs.now s _ some))),
+    let some : left s ≡ drop (enumerate_count c.into_iter-g-iterator.result) (all_rows c.args.of.lens.now c.args.of.addrs.now) =
+    rows_start c.args.of.lens.now c.args.of.addrs.now s c.from.result source n.0 n.1 n.2
+    ∙ ap (λ (j : ℕ). drop j (all_rows c.args.of.lens.now c.args.of.addrs.now)) (sym count) in (
+      (tt, tt, inl (omega (arith, count, k.rows, rows_left c.args.of.lens.now c.args.of.addrs.now s _ some))),
       tt,
       (
         some,
-        subst (λ (j : ℕ). Begun c.args.of.q c.args.lens.now c.args.addrs.now j (from c.args.lens.now j) c.args.table.now) (sym count)
-            (begun_at (begun_start c.args.of.q c.args.lens.now c.args.addrs.now c.args.table.now c.requires.zeros.0 k.few c.requires.zeros.1)),
+        subst (λ (j : ℕ). Begun c.args.of.sizes.q c.args.of.lens.now c.args.of.addrs.now j (from c.args.of.lens.now j) c.args.table.now) (sym count)
+            (begun_at (begun_start c.args.of.sizes.q c.args.of.lens.now c.args.of.addrs.now c.args.table.now c.requires.0 k.few c.requires.1)),
       ),
     )
 
 pub counts-counts-requires : goal.counts-counts-requires
 counts-counts-requires c =
-    let k = known c.args.of c.args.lens.now c.args.addrs.now c.requires.accepted in
-    let z = rows_next c.args.lens.now c.args.addrs.now (enumerate_source c.loop-g.g-iterator) (enumerate_source c.next.new.self) c.in-Some.row
+    let k = known c.args.of in
+    let z = rows_next c.args.of.lens.now c.args.of.addrs.now (enumerate_source c.loop-g.g-iterator) (enumerate_source c.next.new.self) c.in-Some.row
     (enumerate_count c.loop-g.g-iterator) c.loop-g.invariant.2.0 c.in-Some.ensures.steps.0 in (
       k.some,
       k.few,
@@ -100,8 +94,8 @@ counts-counts-requires c =
 
 pub advance-requires : goal.advance-requires
 advance-requires c =
-    let k = known c.args.of c.args.lens.now c.args.addrs.now c.requires.accepted in
-    let t = turn c.args.of.q c.args.lens.now c.args.addrs.now (enumerate_source c.loop-g.g-iterator) (enumerate_source c.next.new.self) c.in-Some.row
+    let k = known c.args.of in
+    let t = turn c.args.of.sizes.q c.args.of.lens.now c.args.of.addrs.now (enumerate_source c.loop-g.g-iterator) (enumerate_source c.next.new.self) c.in-Some.row
     (enumerate_count c.loop-g.g-iterator) c.counts-counts.result c.loop-g.invariant.2.0 c.in-Some.ensures.steps.0 c.counts-counts.ensures.below in
     let b = c.loop-g.invariant.2.1 in
     rw c.in-Some.ensures.steps.1
@@ -112,16 +106,16 @@ advance-requires c =
 
 pub loop-g-preserved : goal.loop-g-preserved
 loop-g-preserved c =
-    let k = known c.args.of c.args.lens.now c.args.addrs.now c.requires.accepted in
+    let k = known c.args.of in
     let g = enumerate_count c.loop-g.g-iterator in
-    let t = turn c.args.of.q c.args.lens.now c.args.addrs.now (enumerate_source c.loop-g.g-iterator) (enumerate_source c.next.new.self) c.in-Some.row
+    let t = turn c.args.of.sizes.q c.args.of.lens.now c.args.of.addrs.now (enumerate_source c.loop-g.g-iterator) (enumerate_source c.next.new.self) c.in-Some.row
     g c.counts-counts.result c.loop-g.invariant.2.0 c.in-Some.ensures.steps.0 c.counts-counts.ensures.below in
-    let made : NextRow c.loop-g.table c.counts-counts.result g c.args.of.q c.advance.new.table =
+    let made : NextRow c.loop-g.table c.counts-counts.result g c.args.of.sizes.q c.advance.new.table =
     rw c.in-Some.ensures.steps.1 at c.advance.ensures in
-    let next : Begun c.args.of.q c.args.lens.now c.args.addrs.now (g + 1) (from c.args.lens.now (g + 1)) c.advance.new.table =
+    let next : Begun c.args.of.sizes.q c.args.of.lens.now c.args.of.addrs.now (g + 1) (from c.args.of.lens.now (g + 1)) c.advance.new.table =
     begun_at (begun_again _ c.counts-counts.result c.loop-g.invariant.2.1 k.few t.here refl t.below made) in
     rw c.in-Some.ensures.steps.2 (
-      (tt, tt, inl (omega (arith, k.rows, t.here, rows_left c.args.lens.now c.args.addrs.now (enumerate_source c.next.new.self) _ t.rest))),
+      (tt, tt, inl (omega (arith, k.rows, t.here, rows_left c.args.of.lens.now c.args.of.addrs.now (enumerate_source c.next.new.self) _ t.rest))),
       tt,
       (t.rest, next),
     )
@@ -132,9 +126,9 @@ whole h b = record { long = b.long; at_is = refl; rows = λ j l q r. b.rows j l 
 
 pub advance-requires-2 : goal.advance-requires-2
 advance-requires-2 c =
-    let k = known c.args.of c.args.lens.now c.args.addrs.now c.requires.accepted in
-    let none : length c.args.lens.now ≤ enumerate_count c.loop-g.g-iterator =
-    omega (arith, ap length c.in-None.ensures.steps.0.0, rows_left c.args.lens.now c.args.addrs.now (enumerate_source c.loop-g.g-iterator) _ c.loop-g.invariant.2.0) in
+    let k = known c.args.of in
+    let none : length c.args.of.lens.now ≤ enumerate_count c.loop-g.g-iterator =
+    omega (arith, ap length c.in-None.ensures.steps.0.0, rows_left c.args.of.lens.now c.args.of.addrs.now (enumerate_source c.loop-g.g-iterator) _ c.loop-g.invariant.2.0) in
     let b = whole none c.loop-g.invariant.2.1 in
     record {
       sizes = (omega (arith, b.long, k.rows), k.few);
@@ -143,7 +137,7 @@ advance-requires-2 c =
 
 pub returns : goal.returns
 returns c =
-    let k = known c.args.of c.args.lens.now c.args.addrs.now c.requires.accepted in
-    let none : length c.args.lens.now ≤ enumerate_count c.loop-g.g-iterator =
-    omega (arith, ap length c.in-None.ensures.steps.0.0, rows_left c.args.lens.now c.args.addrs.now (enumerate_source c.loop-g.g-iterator) _ c.loop-g.invariant.2.0) in
+    let k = known c.args.of in
+    let none : length c.args.of.lens.now ≤ enumerate_count c.loop-g.g-iterator =
+    omega (arith, ap length c.in-None.ensures.steps.0.0, rows_left c.args.of.lens.now c.args.of.addrs.now (enumerate_source c.loop-g.g-iterator) _ c.loop-g.invariant.2.0) in
     begun_end refl k.layers k.few (whole none c.loop-g.invariant.2.1) (λ l i. get_or-replicate 120 l 2 0 (omega (arith, k.few))) c.advance-2.ensures

@@ -10,5 +10,5 @@ use Rattle.fixed_conflicts.proofs.spans.Given as goal
 abbrev pub invariant-loop-g : goal.invariant-loop-g
 invariant-loop-g l =
     goal.iterator-loop-g.can_next l.g-iterator × goal.iterator-loop-g.is_finite l.g-iterator
-    × (let g = enumerate_count l.g-iterator in (left (enumerate_source l.g-iterator) ≡ drop g (all_rows l.lens l.addrs))
-    × Begun l.of.q l.lens l.addrs g (total (take g l.lens)) l.table)
+    × (let g = enumerate_count l.g-iterator in (left (enumerate_source l.g-iterator) ≡ drop g (all_rows l.of.lens.now l.of.addrs.now))
+    × Begun l.of.sizes.q l.of.lens.now l.of.addrs.now g (total (take g l.of.lens.now)) l.table)

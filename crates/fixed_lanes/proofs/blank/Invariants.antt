@@ -5,4 +5,4 @@ use Rattle.lane16.specs.Lanes.{int_at}
 use Rattle.fixed_lanes.proofs.blank.Given as goal
 
 abbrev pub invariant-loop-i : goal.invariant-loop-i
-invariant-loop-i l = (length l.y ≡ 16) × ((k : ℕ) → k < l.i → int_at l.y k ≡ cond (negative (int_at l.q k)) (int_at l.x k) (pos 0))
+invariant-loop-i l = (length l.y ≡ 16) × ((k : ℕ) → k < l.i → int_at l.y k ≡ cond (negative (int_at l.q.keeps k)) (int_at l.x k) (pos 0))

@@ -1,4 +1,4 @@
-use Rattle.std.proofs.Common.{rules, arith, ◌≡◌, ◌∙◌, cond, ◌<◌, length, ℤ, ◌+ℤ◌, ◌-ℤ◌, w32, to_z, of_z}
+use Rattle.std.proofs.Common.{rules, arith, ◌∙◌, cond, ◌+ℤ◌, ◌-ℤ◌, w32}
 use Rattle.std.proofs.lemmas.Int.{to_z-of_z}
 use borrow.Author.Rules.{sfits_of}
 use Rattle.laws.specs.Signed.{plain}

@@ -1,5 +1,5 @@
 -- `fixed_layered::row` meets its contract. Assumes nothing.
-use Rattle.std.proofs.Common.{arith, ◌≡◌, ap, ◌∙◌, ◌+◌, ◌*◌, ℤ, get_or, pos, length-take, length-drop, drop}
+use Rattle.std.proofs.Common.{arith, ◌∙◌, ◌*◌, ℤ, pos, length-take, length-drop, drop}
 use Rattle.std.proofs.lemmas.List.{get_or-take, get_or-drop}
 use Rattle.lane16.specs.Column.{column}
 use Rattle.fixed_layered.proofs.row.Goals as goal

@@ -1,12 +1,19 @@
-use Rattle.std.proofs.Common.{arith, refl}
+use Rattle.std.proofs.Common.{arith, refl, rules, ◌∙◌}
 use Rattle.std.proofs.lemmas.List.{get_or-replicate}
-use Rattle.fixed_syndrome.specs.Count.{no_unmet, to_start, to_again}
+use Rattle.fixed_syndrome.specs.Chunk.{filled_start, filled_again}
+use Rattle.fixed_syndrome.specs.Count.{no_unmet, UnmetIn, counted_lanes}
 use Rattle.fixed_syndrome.proofs.count_lanes.Goals as goal
 
-pub loop-j-init : goal.loop-j-init
-loop-j-init c = (refl, to_start (omega arith) (λ i q. get_or-replicate 64 i no_unmet no_unmet q))
+pub loop-at-init : goal.loop-at-init
+loop-at-init c =
+    (refl, filled_start no_unmet (UnmetIn c.args.code.n c.args.code.p c.args.lanes c.args.code.lists.now c.args.work.now) _ (omega arith) (λ i q. get_or-replicate 64 i c.default-unmet.result no_unmet q ∙ search (c.default-unmet.ensures, rules)))
 
-pub loop-j-preserved : goal.loop-j-preserved
-loop-j-preserved c =
-    let code = c.new-code.ensures in
-    (omega (arith, c.put.ensures.long), to_again (omega arith) (omega arith) (omega arith) c.loop-j.invariant.1 (rw (code.lists, code.sizes.0, code.sizes.1) at c.count_rows.ensures) c.put.ensures)
+pub loop-at-preserved : goal.loop-at-preserved
+loop-at-preserved c =
+    (omega (arith, c.put.ensures.long), filled_again (omega arith) (omega arith) c.loop-at.invariant.1 c.put.ensures (λ k q. c.count_rows.ensures.is k (omega arith)))
+
+pub returns : goal.returns
+returns c = counted_lanes (omega arith) c.loop-at.invariant.1
+
+pub returns-2 : goal.returns-2
+returns-2 c = counted_lanes refl (filled_again (omega arith) (omega arith) c.loop-at.invariant.1 c.put.ensures (λ k q. c.count_rows.ensures.is k (omega arith)))

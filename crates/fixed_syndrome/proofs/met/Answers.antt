@@ -1,16 +1,23 @@
-use Rattle.std.proofs.Common.{arith, false, refl}
+use Rattle.std.proofs.Common.{arith, false, refl, ◌+◌, ◌-◌}
 use Rattle.std.proofs.lemmas.List.{get_or-replicate}
 use Rattle.fixed_syndrome.specs.Chunk.{filled_start, filled_again}
-use Rattle.fixed_syndrome.specs.Met.{VerdictIn, verdicts_in}
+use Rattle.fixed_syndrome.specs.Met.{VerdictIn, verdicts_in, met_end}
 use Rattle.fixed_syndrome.proofs.met.Goals as goal
 
-pub loop-j-init : goal.loop-j-init
-loop-j-init c = (refl, filled_start false (VerdictIn c.args.n c.args.p c.args.lanes c.args.lists.now c.args.work.now c.args.held) _ (λ i q. get_or-replicate 64 i false false q))
+pub loop-at-init : goal.loop-at-init
+loop-at-init c =
+    (refl, filled_start false (VerdictIn c.args.code.n c.args.code.p c.args.lanes c.args.code.lists.now c.args.work.now c.args.held) _ (omega arith) (λ i q. get_or-replicate 64 i false false q))
 
-pub loop-j-preserved : goal.loop-j-preserved
-loop-j-preserved c =
-    let code = c.new-code.ensures in (
-      omega (arith, c.judge.ensures.long),
-      filled_again c.loop-j.j c.loop-j.invariant.1 c.judge.ensures
-          (verdicts_in c.unheld.ensures (rw (code.lists, code.sizes.0, code.sizes.1) at c.met_rows.ensures)),
-    )
+pub loop-at-preserved : goal.loop-at-preserved
+loop-at-preserved c = (
+  omega (arith, c.judge.ensures.long),
+  filled_again (omega arith) (omega arith) c.loop-at.invariant.1 c.judge.ensures (verdicts_in _ {m = c.loop-at.at + c.min-w.result - c.loop-at.at} c.unheld.ensures c.met_rows-v.ensures (omega arith) (omega arith) (omega arith)),
+)
+
+pub returns : goal.returns
+returns c = met_end (omega arith) c.loop-at.invariant.1
+
+pub returns-2 : goal.returns-2
+returns-2 c =
+    met_end refl
+    (filled_again (omega arith) (omega arith) c.loop-at.invariant.1 c.judge.ensures (verdicts_in _ {m = c.loop-at.at + c.min-w.result - c.loop-at.at} c.unheld.ensures c.met_rows-v.ensures (omega arith) (omega arith) (omega arith)))

@@ -4,4 +4,4 @@ use Rattle.fixed_syndrome.specs.Met.{Unheld}
 use Rattle.fixed_syndrome.proofs.unheld.Given as goal
 
 abbrev pub invariant-loop-i : goal.invariant-loop-i
-invariant-loop-i l = (length l.v ≡ 16) × Unheld l.held l.lanes l.at l.i l.v
+invariant-loop-i l = (length l.v ≡ 16) × Unheld l.held l.i l.v

@@ -1,5 +1,5 @@
 -- `ldpc_check::degree_of` meets its contract. Assumes nothing.
-use Rattle.std.proofs.Common.{◌+◌, ◌%◌, get_or, cond, sym, ap, ◌∙◌, arith, mod-lt, eq-eqb, ne_eqb}
+use Rattle.std.proofs.Common.{ℕ, ◌+◌, ◌%◌, get_or, sym, ap, ◌∙◌, arith, mod-lt}
 use Rattle.ldpc_shape.proofs.Accepted.{table_bounded, table_addrs}
 use Rattle.ldpc_check.proofs.Loops.{degree_is}
 use Rattle.ldpc_check.proofs.degree_of.Goals as goal
@@ -16,12 +16,7 @@ nonzero_rem-met c = omega (arith, table_bounded c.args.of)
 pub bounds-r-c : goal.bounds-r-c
 bounds-r-c c = let b = table_bounded c.args.of in omega (arith, mod-lt c.args.c b.q_pos)
 
-pub returns-then-c-eq0 : goal.returns-then-c-eq0
-returns-then-c-eq0 c =
-    sym (degree_is c.args.of c.counts-r.result c.counts-r.ensures.below c.args.c c.requires
-    ∙ ap (λ b. get_or c.counts-r.result (c.args.c % c.args.of.sizes.q) 0 + cond b 1 2) (eq-eqb _ _ c.if-c-eq0.true))
-
-pub returns-else-c-eq0 : goal.returns-else-c-eq0
-returns-else-c-eq0 c =
-    sym (degree_is c.args.of c.counts-r.result c.counts-r.ensures.below c.args.c c.requires
-    ∙ ap (λ b. get_or c.counts-r.result (c.args.c % c.args.of.sizes.q) 0 + cond b 1 2) (ne_eqb _ _ c.if-c-eq0.false))
+pub returns : goal.returns
+returns c =
+    ap (λ (z : ℕ). get_or c.counts-r.result (c.args.c % c.args.of.sizes.q) 0 + z) c.parity_bits.ensures.0
+    ∙ sym (degree_is c.args.of c.counts-r.result c.counts-r.ensures.below c.args.c c.requires)

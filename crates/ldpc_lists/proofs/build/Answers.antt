@@ -4,6 +4,12 @@ use Rattle.ldpc_shape.proofs.Accepted.{table_bounded, table_addrs}
 use Rattle.ldpc_lists.proofs.Built.{counts_few, stairs_ready, meets_ready, build_done}
 use Rattle.ldpc_lists.proofs.build.Goals as goal
 
+pub overflow_cast-checks : goal.overflow_cast-checks
+overflow_cast-checks c = omega (arith, table_bounded c.args.of)
+
+pub overflow_cast-checks-2 : goal.overflow_cast-checks-2
+overflow_cast-checks-2 c = omega (arith, table_bounded c.args.of)
+
 pub overflow_cast-q : goal.overflow_cast-q
 overflow_cast-q c = omega (arith, table_bounded c.args.of)
 
@@ -14,9 +20,10 @@ pub counts-counts-requires : goal.counts-counts-requires
 counts-counts-requires c = let b = table_bounded c.args.of in (b.q_pos, b.q_le, table_addrs c.args.of)
 
 pub ends-requires : goal.ends-requires
-ends-requires c =
-    let b = table_bounded c.args.of in
-    (b.q_pos, b.q_le, omega (arith, b), omega (arith, c.split_at_mut-starts.ensures.front_len), counts_few c.args.of _ c.counts-counts.ensures.below)
+ends-requires c = (omega (arith, c.split_at_mut-starts.ensures.front_len), counts_few c.args.of _ c.counts-counts.ensures.below)
+
+pub invariant_of-checks : goal.invariant_of-checks
+invariant_of-checks c = let b = table_bounded c.args.of in record { some = b.p_pos; within = omega (arith, b); turns = b.q_pos; few = b.q_le }
 
 pub put_stairs-requires : goal.put_stairs-requires
 put_stairs-requires c =

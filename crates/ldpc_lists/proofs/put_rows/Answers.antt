@@ -1,6 +1,6 @@
 use Rattle.std.proofs.Common.{ap, ◌∙◌, arith, ◌+◌}
 use Rattle.std.specs.Iterator.Adapters.{rev_source}
-use Rattle.ldpc_shape.proofs.Accepted.{table_bounded, table_rows}
+use Rattle.ldpc_shape.proofs.Accepted.{table_bounded}
 use Rattle.ldpc_edges.proofs.Inside.{bits_inside}
 use Rattle.ldpc_rows.proofs.Edges.{edges_start, edges_last, edges_none}
 use Rattle.ldpc_lists.specs.Build.{as_lists}
@@ -14,20 +14,14 @@ pub overflow_cast-checks-2 : goal.overflow_cast-checks-2
 overflow_cast-checks-2 c = omega (arith, table_bounded c.args.of)
 
 pub invariant_of-checks : goal.invariant_of-checks
-invariant_of-checks c = let b = table_bounded c.args.of in record { some = b.p_pos; few = b.q_le }
-
-pub new-requires-clause-few : goal.new-requires-clause-few
-new-requires-clause-few c = (table_rows c.args.of).0
-
-pub new-requires-clause-whole : goal.new-requires-clause-whole
-new-requires-clause-whole c = (table_rows c.args.of).1
+invariant_of-checks c = let b = table_bounded c.args.of in record { some = b.p_pos; within = omega (arith, b); turns = b.q_pos; few = b.q_le }
 
 pub loop-row-init : goal.loop-row-init
 loop-row-init c =
-    let n = c.new.ensures in
+    let n = c.from.ensures in
     fill_start c.args.of.sizes.p _ _ (as_lists c.args.starts.now c.args.rows.now)
-    (edges_start c.args.of.sizes.p c.args.of.sizes.q (rev_source c.into_iter-row-iterator.result) c.new.result c.args.of.lens.now c.args.of.addrs.now
-    (ap rev_source c.into_iter-row-iterator.ensures.into_iter_gives ∙ c.rev-row-items.ensures.source) n.first n.lens n.addrs)
+    (edges_start c.args.of.sizes.p c.args.of.sizes.q (rev_source c.into_iter-row-iterator.result) c.from.result c.args.of.lens.now c.args.of.addrs.now
+    (ap rev_source c.into_iter-row-iterator.ensures.into_iter_gives ∙ c.rev-row-items.ensures.source) n.0 n.1 n.2)
     c.requires
 
 pub put_row-requires : goal.put_row-requires

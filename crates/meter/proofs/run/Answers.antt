@@ -1,8 +1,8 @@
 -- The core's run over the program's own numbers, its records written, and the tally.
-use Rattle.std.proofs.Common.{refl, ◌∙◌, ◌*◌, Err, arith}
+use Rattle.std.proofs.Common.{refl, ◌∙◌, ◌*◌, Err, arith, rules}
 use Rattle.std.proofs.lemmas.Result.{err_from_is_err_and}
 use Rattle.decoder_words.specs.Fields.{fields}
-use Rattle.meter.specs.Laws.{min_room, recorded_so}
+use Rattle.meter.specs.Laws.{min_room, recorded_so, records_lent}
 use Rattle.meter.proofs.Metering.{metered, metered_stored}
 use Rattle.meter.proofs.run.Goals as goal
 
@@ -17,4 +17,5 @@ pub returns : goal.returns
 returns c =
     metered_stored c.in_ok-ran.ran
     (recorded_so _ c.min-size.result (4096 * fields) _ c.core.new.records (c.min-size.ensures ∙ min_room _) refl c.core.auto.records c.in_ok-ran.ensures)
-    c.loop-w.w c.loop-w.invariant (omega arith) c.from.ensures
+    c.in_ok-ran.ran.words
+    (records_lent _ c.in_ok-ran.ran.words c.loop-w.w c.args.records.now c.loop-w.record-items (search rules) (omega arith) c.loop-w.invariant) refl c.from.ensures

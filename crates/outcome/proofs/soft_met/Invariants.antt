@@ -5,4 +5,4 @@ use Rattle.outcome.specs.Outcome.{begin, unmet_of}
 use Rattle.outcome.proofs.soft_met.Given as goal
 
 abbrev pub invariant-loop-c : goal.invariant-loop-c
-invariant-loop-c l = unmet_of (code_in l.p l.lists) l.c (begin (length l.soft) l.soft) ≡ 0
+invariant-loop-c l = unmet_of (code_in l.code.p l.code.lists.now) l.c (begin (length l.soft) l.soft) ≡ 0

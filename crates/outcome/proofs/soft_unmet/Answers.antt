@@ -8,7 +8,7 @@ pub loop-c-init : goal.loop-c-init
 loop-c-init c = counted_start _ _ 0 0 refl refl
 
 pub overflow_add-count : goal.overflow_add-count
-overflow_add-count c = omega (arith, counted_le _ _ c.loop-c.invariant, c.requires.few_checks, c.loop-c-test.true)
+overflow_add-count c = omega (arith, counted_le _ _ c.loop-c.invariant, c.requires.1, c.loop-c-test.true)
 
 pub loop-c-preserved : goal.loop-c-preserved
 loop-c-preserved c =

@@ -6,4 +6,4 @@ use Rattle.outcome.specs.Outcome.{begin}
 use Rattle.outcome.proofs.soft_unmet.Given as goal
 
 abbrev pub invariant-loop-c : goal.invariant-loop-c
-invariant-loop-c l = UnmetCounted (code_in l.p l.lists) l.c (begin (length l.soft) l.soft) l.count l.check
+invariant-loop-c l = UnmetCounted (code_in l.code.p l.code.lists.now) l.c (begin (length l.soft) l.soft) l.count l.check

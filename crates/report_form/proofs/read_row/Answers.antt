@@ -1,13 +1,9 @@
-use Rattle.report_form.proofs.Lists.{goes_yes, goes_no}
+use Rattle.std.proofs.Common.{arith}
 use Rattle.report_form.proofs.RowLists.{row_none, row_unended}
 use Rattle.report_form.proofs.read_row.Goals as goal
 
 pub returns-in_err-address : goal.returns-in_err-address
-returns-in_err-address c =
-    rw c.from_residual-in_err-address.ensures
-    (row_none c.in_ok-rest.ensures c.loop-rest.invariant (goes_yes c.goes_on.ensures c.loop-rest-test.true).1 c.in_err-address.ensures)
+returns-in_err-address c = rw c.from_residual-in_err-address.ensures (row_none c.in_ok-rest.ensures c.loop-count.invariant c.in_default.ensures c.in_err-address.ensures)
 
 pub returns-in_err-rest-2 : goal.returns-in_err-rest-2
-returns-in_err-rest-2 c =
-    rw c.from_residual-in_err-rest-2.ensures
-    (row_unended c.in_ok-rest.ensures c.loop-rest.invariant (goes_no c.goes_on.ensures c.loop-rest-test.false) c.in_err-rest-2.ensures)
+returns-in_err-rest-2 c = rw c.from_residual-in_err-rest-2.ensures (row_unended c.in_ok-rest.ensures c.loop-count.invariant (omega arith) c.in_err-rest-2.ensures)

@@ -1,3 +1,4 @@
+use Rattle.std.proofs.Common.{arith}
 use Rattle.report_form.proofs.Whole.{no_rows, no_words, one_description}
 use Rattle.report_form.proofs.read_text.Goals as goal
 
@@ -9,4 +10,4 @@ returns-in_err-words c =
     rw c.from_residual-in_err-words.ensures (no_words c.in_ok-n.ensures c.in_ok-rows.ensures c.in_ok-settings.ensures c.in_err-words.ensures)
 
 pub returns : goal.returns
-returns c = one_description _ c.in_ok-n.ensures c.in_ok-rows.ensures.0 c.in_ok-settings.ensures c.in_ok-words.ensures c.requires
+returns c = one_description _ c.in_ok-n.ensures c.in_ok-rows.ensures.0 c.in_ok-settings.ensures c.in_ok-words.ensures (omega arith)

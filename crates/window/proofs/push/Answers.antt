@@ -21,4 +21,4 @@ pub returns : goal.returns
 returns c =
     accepts c.args.width c.args.was c.args.new c.args.ring.now (sym c.in_ok-accept.ensures) (record { window = c.advance.result; ring = c.put.new.ring })
     (takes c.args.width c.args.was c.args.new c.args.ring.now (sym c.is_finished.ensures ∙ c.if-not-is_finished.false) c.slot_of-slot.result c.oldest-old.result c.advance.result
-    c.put.new.ring c.slot_of-slot.ensures c.oldest-old.ensures c.advance.ensures c.put.ensures)
+    c.put.new.ring (rw c.from-w.ensures at c.slot_of-slot.ensures) (rw c.from-w.ensures at c.oldest-old.ensures) (rw c.from-w.ensures at c.advance.ensures) c.put.ensures)

@@ -3,7 +3,7 @@ use Rattle.bch_locator.proofs.Search.{one_hit, one_miss, power_start, power_agai
 use Rattle.bch_locator.proofs.Register.root.Goals as goal
 
 pub loop-p-init : goal.loop-p-init
-loop-p-init c = (power_start, c.new-found.ensures, places_start _ _ _ c.new-found.ensures)
+loop-p-init c = (power_start, c.new-found.ensures, places_start _ _ _ c.new-found.ensures, omega arith)
 
 pub returns-then-x-self : goal.returns-then-x-self
 returns-then-x-self c =
@@ -13,9 +13,10 @@ returns-then-x-self c =
 
 pub loop-p-preserved : goal.loop-p-preserved
 loop-p-preserved c = (
-  power_again c.loop-p.x _ c.loop-p.p (omega arith) c.loop-p.invariant.0 c.fold-x.ensures,
+  power_again c.loop-p.x _ c.loop-p.p c.loop-p.invariant.3 c.loop-p.invariant.0 (rw c.from-in-loop-p.ensures at c.fold-x.ensures),
   c.loop-p.invariant.1,
-  places_miss _ c.args.self.now.c 1 c.loop-p.p c.loop-p.invariant.2 (one_miss c.args.self.now.c c.loop-p.p _ _ c.args.self.now.first c.loop-p.invariant.0 refl (omega arith) (omega arith) c.if-x-self.false),
+  places_miss _ c.args.self.now.c 1 c.loop-p.p c.loop-p.invariant.2 (one_miss c.args.self.now.c c.loop-p.p _ _ c.args.self.now.first c.loop-p.invariant.0 refl c.loop-p.invariant.3 (omega arith) c.if-x-self.false),
+  omega arith,
 )
 
 pub returns : goal.returns

@@ -10,4 +10,4 @@ pub returns : goal.returns
 returns c =
     let r = c.args.self in
     let t = register_at (bit_xor (r.hi / 2 ^ 56) c.args.byte) _ (xor_lt 8 (r.hi / 2 ^ 56) c.args.byte (top_lt r.hi (omega arith)) (omega arith)) in
-    stepped r.hi r.mid r.lo c.args.byte _ _ _ (omega arith) (omega arith) (omega arith) t.0 t.1 t.2
+    rw c.from.ensures (stepped r.hi r.mid r.lo c.args.byte _ _ _ (omega arith) (omega arith) (omega arith) t.0 t.1 t.2)

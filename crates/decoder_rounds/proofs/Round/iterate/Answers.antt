@@ -13,4 +13,4 @@ returns-in-Layered c =
 
 pub returns-in-Sequential : goal.returns-in-Sequential
 returns-in-Sequential c =
-    λ l h. by_sequence _ _ _ _ _ _ _ _ (plain c.args.self.run.plan.offset (search rules)) (ap is_layered c.in-Sequential.is) (c.iteration.ensures.words l h)
+    λ l h. by_sequence _ _ _ _ _ _ _ _ (plain c.args.self.run.plan.offset (search rules)) (ap is_layered c.in-Sequential.is) ((rw (c.code.ensures.lists, c.code.ensures.sizes.0, c.code.ensures.sizes.1) at c.iteration.ensures).words l h)

@@ -3,4 +3,4 @@ use Rattle.fixed_lanes.specs.Part.{PartMasked}
 use Rattle.fixed_lanes.proofs.Block.clear_part.Given as goal
 
 abbrev pub invariant-loop-k : goal.invariant-loop-k
-invariant-loop-k l = PartMasked l.self.u l.lanes l.at l.w l.q l.initial.work l.k l.work
+invariant-loop-k l = PartMasked l.self.u l.lanes l.at l.w l.q.keeps l.initial.work l.k l.work

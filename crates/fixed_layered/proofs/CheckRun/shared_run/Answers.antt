@@ -1,8 +1,8 @@
-use Rattle.std.proofs.Common.{rules, arith, refl, ap, length}
+use Rattle.std.proofs.Common.{rules, arith, ap, length}
 use Rattle.laws.specs.Signed.{plain}
 use Rattle.iteration.specs.Once.{shared_in}
 use Rattle.fixed_layered.specs.RunMemory.{place_first, place_next, place_room}
-use Rattle.fixed_layered.specs.Checks.{checks_start, checks_again, checks_end}
+use Rattle.fixed_layered.specs.Checks.{checks_start, checks_again}
 use Rattle.fixed_layered.proofs.CheckRun.shared_run.Goals as goal
 
 pub loop-x-init : goal.loop-x-init
@@ -36,6 +36,3 @@ loop-x-preserved c =
       checks_again inside check.start check.ends c.loop-x.invariant.1 room c.loop-x.invariant.2
           (rw (check.rows, check.bits, check.lanes, plain t.offset (search rules)) at c.check_shared.ensures),
     )
-
-pub returns : goal.returns
-returns c = checks_end refl (omega arith) c.args.self.in_run c.args.self.shares.once c.loop-x.invariant.2

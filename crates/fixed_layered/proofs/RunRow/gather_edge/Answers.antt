@@ -1,30 +1,13 @@
-use Rattle.std.proofs.Common.{rules, arith, ap, ◌∙◌, ℕ, List, length}
+use Rattle.std.proofs.Common.{arith, ap, ◌∙◌, ℕ, List, length}
 use Rattle.iteration.specs.Lists.{var}
 use Rattle.fixed_layered.specs.Rows.{sums_room, sums_few, edge_done}
 use Rattle.fixed_layered.proofs.RunRow.gather_edge.Goals as goal
-
-pub overflow_sub-j : goal.overflow_sub-j
-overflow_sub-j c = omega (arith, c.requires.edge.2, ap (λ (l : List ℕ). var l c.args.e) c.args.self.run.turns.code.second)
-
-pub offset_bounds-sums-j : goal.offset_bounds-sums-j
-offset_bounds-sums-j c =
-    let h = sums_room _ _ _ _ _ (c.variable.ensures ∙ ap (λ (l : List ℕ). var l c.args.e) c.args.self.run.turns.code.second) c.requires.edge.2 c.requires.edge.3 c.requires.room.1 in search rules
-
-pub slice_bounds-gather-end : goal.slice_bounds-gather-end
-slice_bounds-gather-end c =
-    let h = sums_room _ _ _ _ _ (c.variable.ensures ∙ ap (λ (l : List ℕ). var l c.args.e) c.args.self.run.turns.code.second) c.requires.edge.2 c.requires.edge.3 c.requires.room.1 in search rules
-
-pub bounds-seen-j : goal.bounds-seen-j
-bounds-seen-j c = omega (arith, c.requires.edge.2, c.requires.edge.3, ap (λ (l : List ℕ). var l c.args.e) c.args.self.run.turns.code.second)
 
 pub gather-requires-clause-small : goal.gather-requires-clause-small
 gather-requires-clause-small c =
     let is = c.variable.ensures ∙ ap (λ (l : List ℕ). var l c.args.e) c.args.self.run.turns.code.second in
     sums_few c.args.seen.now _ c.requires.smalls (omega (arith, c.requires.edge.2, c.requires.edge.3, is)) (omega arith)
     (sums_room _ _ _ _ _ is c.requires.edge.2 c.requires.edge.3 c.requires.room.1) (omega (arith, c.requires.edge.1, c.args.self.run.in_run.few_edges))
-
-pub bounds-seen-j-2 : goal.bounds-seen-j-2
-bounds-seen-j-2 c = omega (arith, c.requires.edge.2, c.requires.edge.3, ap (λ (l : List ℕ). var l c.args.e) c.args.self.run.turns.code.second)
 
 pub returns : goal.returns
 returns c =

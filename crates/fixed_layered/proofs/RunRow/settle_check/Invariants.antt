@@ -3,6 +3,6 @@ use Rattle.iteration.specs.Lists.{var, rows_in}
 use Rattle.fixed_layered.specs.Rows.{CheckSettled}
 use Rattle.fixed_layered.proofs.RunRow.settle_check.Given as goal
 
-abbrev pub invariant-loop-k : goal.invariant-loop-k
-invariant-loop-k l =
-    let t = l.self.run.turns in CheckSettled (var (rows_in t.code.p t.code.lists.now)) l.self.base l.s t.lanes l.sums l.initial.work l.k l.work
+abbrev pub invariant-loop-v : goal.invariant-loop-v
+invariant-loop-v l =
+    let t = l.self.run.turns in CheckSettled (var (rows_in t.code.p t.code.lists.now)) l.self.base l.s t.lanes l.sums l.initial.work l.v-index l.work

@@ -1,13 +1,7 @@
-use Rattle.std.proofs.Common.{◌≡◌, ◌-◌, min, arith, refl, length-set, ◌∙◌}
+use Rattle.std.proofs.Common.{◌≡◌, ◌-◌, min, arith}
 use Rattle.std.proofs.lemmas.List.{get_or-replicate}
-use Rattle.fixed_syndrome.specs.Count.{bits_start, bits_again, block_start, block_again, block_room}
+use Rattle.fixed_syndrome.specs.Count.{block_start, block_again, block_room}
 use Rattle.fixed_syndrome.proofs.Words.count_block.Goals as goal
-
-pub loop-k-init : goal.loop-k-init
-loop-k-init c = (refl, bits_start _ _ _)
-
-pub loop-k-preserved : goal.loop-k-preserved
-loop-k-preserved c = (length-set c.loop-k.bits c.loop-k.k _ ∙ c.loop-k.invariant.0, bits_again (omega (arith, c.loop-k.invariant.0)) c.loop-k.invariant.1 c.check_bits.ensures)
 
 pub loop-k-2-init : goal.loop-k-2-init
 loop-k-2-init c =

@@ -1,22 +1,16 @@
 use Rattle.std.proofs.Common.{List, ℕ, ◌++◌, take, refl, ap, arith, ◌∙◌}
-use Rattle.ldpc_shape.proofs.Accepted.{table_rows}
 use Rattle.ldpc_check.specs.Found.{found, all_of}
 use Rattle.ldpc_check.proofs.Loops.{rest_of, rest_start, rest_end, rest_next, list_fits, rows_on, rows_done}
 use Rattle.ldpc_check.proofs.CheckAt.rows.Goals as goal
 
-pub new-row-items-requires-clause-few : goal.new-row-items-requires-clause-few
-new-row-items-requires-clause-few c = (table_rows c.args.of).0
-
-pub new-row-items-requires-clause-whole : goal.new-row-items-requires-clause-whole
-new-row-items-requires-clause-whole c = (table_rows c.args.of).1
-
 pub loop-row-init : goal.loop-row-init
 loop-row-init c =
-    let n = c.new-row-items in
+    let n = c.from-row-items in
+    let g = n.ensures in
     let it = c.into_iter-row-iterator in
     record {
       below = omega arith;
-      all = rest_start c.args.self.q c.args.self.c it.result n.result c.args.of.lens.now c.args.of.addrs.now it.ensures.into_iter_gives n.ensures.first n.ensures.lens n.ensures.addrs;
+      all = rest_start c.args.self.q c.args.self.c it.result n.result c.args.of.lens.now c.args.of.addrs.now it.ensures.into_iter_gives g.0 g.1 g.2;
       kept = refl;
     }
 

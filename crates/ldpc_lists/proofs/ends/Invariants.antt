@@ -1,7 +1,0 @@
--- `ldpc_lists::ends` meets its contract. Assumes nothing.
-use Rattle.std.proofs.Common.{◌≡◌}
-use Rattle.ldpc_lists.specs.Ends.{EndsSet, ending}
-use Rattle.ldpc_lists.proofs.ends.Given as goal
-
-abbrev pub invariant-loop-i : goal.invariant-loop-i
-invariant-loop-i l = record { sum : l.e ≡ ending l.counts l.q l.i; set : EndsSet l.counts l.q l.starts l.i }
