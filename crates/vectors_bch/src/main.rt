@@ -34,7 +34,7 @@ struct Vector<'a> {
 }
 
 impl<'a> Vector<'a> {
-    // The vector that these bytes are. Numbers of several bytes stand lowest byte first. Of the thirty places so many count as `errors` says, and
+    // The vector that these bytes are. Numbers of several bytes stand lowest byte first. Of the thirty places so many count as `errors` says, modulo 31, and
     // 255 bits corrected stand for uncorrectable.
     fn read(bytes: &'a [u8; 148]) -> Option<Vector<'a>> {
         let (n, rest) = bytes.split_first_chunk()?;
@@ -57,7 +57,7 @@ impl<'a> Vector<'a> {
             encoded: u64::from_le_bytes(*encoded),
             decoded: u64::from_le_bytes(*decoded),
             shift: u32::from_le_bytes(*shift),
-            places: places.as_chunks().0.get(..usize::from(*errors))?,
+            places: places.as_chunks().0.get(..usize::from(*errors % 31))?,
             pattern: *pattern,
             front: *rest.first_chunk()?,
         })
