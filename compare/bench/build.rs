@@ -1,5 +1,5 @@
 //! The compiler that builds this, for the line that says where figures come from; and the archive that `RAXDOV_BEFORE` names, if it does, with its
-//! functions renamed `before_raxdov_..`, so that `bench beside` can time it and the present one in one process.
+//! functions renamed `before_raxdov_..`, so that `bench beside` and `bench bch` can time it and the present one in one process.
 
 use std::env;
 use std::path::PathBuf;
@@ -20,7 +20,14 @@ fn main() {
     };
     let to = PathBuf::from(env::var("OUT_DIR").unwrap());
     let mut objcopy = Command::new("objcopy");
-    for name in ["run", "record_words", "tally_words"] {
+    for name in [
+        "run",
+        "record_words",
+        "tally_words",
+        "bch_parity",
+        "bch_encode",
+        "bch_decode",
+    ] {
         objcopy.arg(format!("--redefine-sym=raxdov_{name}=before_raxdov_{name}"));
         objcopy.arg(format!("--keep-global-symbol=before_raxdov_{name}"));
     }

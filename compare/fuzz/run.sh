@@ -29,7 +29,7 @@ clang=${CLANG:-clang-22} opt=${OPT:-opt-22} objcopy=${OBJCOPY:-llvm-objcopy-22}
 mkdir -p "$out"
 if [ -z "$module" ]; then
     [ -f "$top/crates/raxdov/out/libraxdov.a" ] || (cd "$top/crates/raxdov" && rt lib)
-    cc -O2 -I"$top/bindings/c" "$here/$target.c" "$here/scope.c" "$top/crates/raxdov/out/libraxdov.a" -pthread -lm -o "$out/$target"
+    cc -O2 -I"$top/bindings/c" "$here/$target.c" "$here/scope.c" "$top/crates/raxdov/out/libraxdov.a" -pthread -lm -Wl,-z,now -o "$out/$target"
     "$out/$target" "$seconds"
     exit
 fi

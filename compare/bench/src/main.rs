@@ -1,6 +1,8 @@
 //! Times the archive and the original on the same input in one process, in turn, and writes tables and charts. See docs/BENCH.md.
 
 #[cfg(before)]
+mod bch;
+#[cfg(before)]
 mod beside;
 mod chart;
 mod codes;
@@ -13,7 +15,7 @@ mod windows;
 
 const USAGE: &str =
     "bench codes | growth | windows | runs [CHART.svg] [SCHEDULE] [LANES] | noise [CHART.svg] [WORDS]
-bench beside [SCHEDULE] [LANES]: built with RAXDOV_BEFORE, an earlier libraxdov.a";
+bench beside [SCHEDULE] [LANES] | bch: built with RAXDOV_BEFORE, an earlier libraxdov.a";
 
 fn main() {
     let words: Vec<String> = std::env::args().skip(1).collect();
@@ -30,6 +32,8 @@ fn main() {
             words.get(2).map_or("", String::as_str),
             words.get(3).and_then(|w| w.parse().ok()),
         ),
+        #[cfg(before)]
+        Some("bch") => bch::bench(),
         #[cfg(before)]
         Some("beside") => beside::bench(
             words.get(1).map_or("", String::as_str),

@@ -179,7 +179,7 @@ pub fn compare(r: &mut Random, counts: &mut Counts) -> Result<(), String> {
     Ok(())
 }
 
-/// Parity and codeword of a message.
+/// Parity and codeword of a message of some length.
 pub fn written(r: &mut Random, counts: &mut Counts) -> Result<(), String> {
     let k = match r.below(40) {
         0 => r.pick(&[65_343, 65_344, 65_345, 70_000]),
@@ -187,11 +187,16 @@ pub fn written(r: &mut Random, counts: &mut Counts) -> Result<(), String> {
         2 => 0,
         _ => r.below(800),
     };
+    message(r, k, true, counts)
+}
+
+/// Parity and codeword of a message of k bits, into an output that is now and then too short if `short`.
+pub fn message(r: &mut Random, k: usize, short: bool, counts: &mut Counts) -> Result<(), String> {
     let bytes = if r.one_in(2) { r.bytes(k) } else { r.bits(k) };
     let message = Lent::of(&bytes, r);
     for whole in [false, true] {
         let need = if whole { k + 192 } else { 192 };
-        let size = if r.one_in(6) {
+        let size = if short && r.one_in(6) {
             r.below(need)
         } else {
             need + r.below(30)

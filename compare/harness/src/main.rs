@@ -9,10 +9,11 @@ use std::rc::Rc;
 use std::sync::atomic::Ordering;
 use std::time::{Duration, Instant};
 
-const USAGE: &str = "harness [--seed N] [--seconds N] [--only quantise|ldpc|bch|run|window] [--exact] [--selftest] [--largest]
+const USAGE: &str = "harness [--seed N] [--seconds N] [--only quantise|ldpc|bch|run|window] [--exact] [--selftest] [--largest] [--lengths]
   --exact     each lent slice is an allocation of its own, for a memory checker
   --selftest  spoil each result of the archive in turn, and see that it is found
-  --largest   only the accepted code with the most edges, every function and four runs";
+  --largest   only the accepted code with the most edges, every function and four runs
+  --lengths   only BCH parity and encode: messages of every length from 0 to 600, ten of each, of 500 random lengths and of 65,343";
 
 struct Seen {
     quantise: (u64, u64, u64),
@@ -141,6 +142,20 @@ fn tell(seen: &Seen, seed: u64, time: Duration) {
     );
 }
 
+/// Parity and encode of messages of every length from 0 to 600, of random lengths, and of the longest. None is refused.
+fn lengths(r: &mut Random) {
+    let mut counts = bch::Counts::default();
+    let short = (0..=600).flat_map(|k| [k; 10]);
+    let long: Vec<usize> = (0..500).map(|_| r.below(65_344)).collect();
+    for k in short.chain(long).chain([65_343]) {
+        bch::message(r, k, false, &mut counts).unwrap_or_else(|e| fail(&e));
+    }
+    println!(
+        "messages of 0 to 600 bits, and up to 65,343: {} parities and {} codewords agree",
+        counts.parity, counts.encode
+    );
+}
+
 /// Every function on the accepted code with the most edges, and runs of it.
 fn largest(r: &mut Random) {
     let plan = Rc::new(Plan::largest());
@@ -237,7 +252,7 @@ fn main() {
             }
             "--only" => only = words.next().unwrap_or_default(),
             "--exact" => EXACT.store(true, Ordering::Relaxed),
-            "--selftest" | "--largest" => modes.push(word),
+            "--selftest" | "--largest" | "--lengths" => modes.push(word),
             _ => {
                 println!("{USAGE}");
                 exit(2);
@@ -252,10 +267,10 @@ fn main() {
         fail("record_words, tally_words, window_words");
     }
     for mode in &modes {
-        if mode == "--selftest" {
-            selftest(&mut r)
-        } else {
-            largest(&mut r)
+        match mode.as_str() {
+            "--selftest" => selftest(&mut r),
+            "--largest" => largest(&mut r),
+            _ => lengths(&mut r),
         }
     }
     if !modes.is_empty() {

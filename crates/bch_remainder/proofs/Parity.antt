@@ -1,42 +1,43 @@
--- Remainders a byte at a time, and a word's last 192 bits as three words.
+-- Remainders sixteen bits at a time, and a word's last 192 bits as three words.
 -- Assumes nothing.
-use Rattle.std.proofs.Common.{◌≡◌, sym, ap, ap₂, ◌∙◌, List, ◌++◌, append_assoc, ℕ, ◌+◌, ◌-◌, ◌*◌, ◌%◌, ◌^◌, ◌≤◌, ◌<◌, lt_of_lt_of_le, arith, bit_xor, pow_mono, length, take, drop, length-append, length-drop, take-append-drop, take-add, length-take-le}
+use Rattle.std.proofs.Common.{◌≡◌, sym, ap, ap₂, ◌∙◌, List, [], ◌++◌, append_assoc, ℕ, ◌+◌, ◌-◌, ◌*◌, ◌%◌, ◌^◌, ◌≤◌, ◌⊎◌, inl, inr, arith, length, take, drop, length-append, length-drop, take-append-drop, take-add, length-take-le}
 use Rattle.std.proofs.Math.Nat.{add-sub_cancel_left}
 use Rattle.laws.specs.Definitions.{◌⊕◌}
 use Rattle.bch_table.specs.Step.{joined, step_of}
-use Rattle.bch_table.specs.Words.{xored}
 use Rattle.bch_remainder.specs.Word.{number, parity_of, remainder_of}
-use Rattle.bch_remainder.specs.Laws.{number_lt, number_append, parity_start, parity_step, remainder_split}
+use Rattle.bch_remainder.specs.Laws.{number_append, parity_none, parity_start, parity_step, remainder_split}
 
--- ---- parity_register: v is the remainder of the bits passed, and whole bytes are left
+-- ---- more: a step of sixteen bits, or the first one
+pub more_is : (c : List ℕ) (v v' n : ℕ) → length c ≤ 16 → n ≡ number c → v' ≡ step_of v n
+    → (m : List ℕ) → (length c ≡ 16) ⊎ (m ≡ []) → v ≡ parity_of m → v' ≡ parity_of (m ++ c)
+more_is c v v' n h en ev m (inl whole) e = ev ∙ ap₂ step_of e en ∙ sym (parity_step m c whole)
+more_is c v v' n h en ev m (inr none) e =
+    ev ∙ ap₂ step_of (e ∙ ap parity_of none ∙ parity_none) en ∙ sym (parity_start c h) ∙ ap (λ (l : List ℕ). parity_of (l ++ c)) (sym none)
+
+-- ---- parity_register: v is the parity of the bits passed, and whole sixteens are left
 pub record Divided (m : List ℕ) (v : ℕ) (rest : List ℕ) : Type 0 where
   pub passed : List ℕ
   pub split : passed ++ rest ≡ m
-  pub left : length rest % 8 ≡ 0
+  pub left : length rest % 16 ≡ 0
   pub done : v ≡ parity_of passed
 
-pub packed_lt : (w : List ℕ) (k : ℕ) → length w ≤ k → number w < 2 ^ k
-packed_lt w k h = lt_of_lt_of_le (number_lt w) (pow_mono h)
-
-pub divide_start : (m front back : List ℕ) (v b : ℕ) → front ≡ take (length m % 8) m → back ≡ drop (length m % 8) m → b ≡ number front → v ≡ step_of (joined 0 0 0) b
-    → Divided m v back
-unfolding joined
-divide_start m front back v b ef eb eb' ev =
+pub divide_start : (m front back : List ℕ) (v : ℕ) → front ≡ take (length m % 16) m → back ≡ drop (length m % 16) m → v ≡ parity_of front → Divided m v back
+divide_start m front back v ef eb ev =
     record {
       passed = front;
-      split = ap₂ ◌++◌ ef eb ∙ take-append-drop (length m % 8) m;
-      left = omega (arith, ap length eb, length-drop (length m % 8) m);
-      done = ev ∙ ap (step_of 0) eb' ∙ sym (parity_start front (omega (arith, ap length ef, length-take-le (length m % 8) m (omega arith))));
+      split = ap₂ ◌++◌ ef eb ∙ take-append-drop (length m % 16) m;
+      left = omega (arith, ap length eb, length-drop (length m % 16) m);
+      done = ev;
     }
 
-pub divide_again : (m : List ℕ) (v v' : ℕ) (rest byte rest' : List ℕ) → Divided m v rest → rest ≡ byte ++ rest' → length byte ≡ 8 → v' ≡ step_of v (number byte)
+pub divide_again : (m : List ℕ) (v v' : ℕ) (rest bits rest' : List ℕ) (s : Divided m v rest) → rest ≡ bits ++ rest' → length bits ≡ 16 → v' ≡ parity_of (s.passed ++ bits)
     → Divided m v' rest'
-divide_again m v v' rest byte rest' s e h ev =
+divide_again m v v' rest bits rest' s e h ev =
     record {
-      passed = s.passed ++ byte;
-      split = append_assoc s.passed byte rest' ∙ ap (λ (l : List ℕ). s.passed ++ l) (sym e) ∙ s.split;
-      left = omega (arith, length-append byte rest', ap length e, s.left);
-      done = ev ∙ ap (λ (x : ℕ). step_of x (number byte)) s.done ∙ sym (parity_step s.passed byte h);
+      passed = s.passed ++ bits;
+      split = append_assoc s.passed bits rest' ∙ ap (λ (l : List ℕ). s.passed ++ l) (sym e) ∙ s.split;
+      left = omega (arith, length-append bits rest', ap length e, s.left);
+      done = ev;
     }
 
 -- ---- remainder: the last 192 bits are three words
@@ -61,16 +62,10 @@ last_words d e =
     long_C : length C ≡ 64
     long_C = length-drop 128 d ∙ ap (λ (n : ℕ). n - 128) e
 
-pub remainder_is : (w front back : List ℕ) (k a b c h m l : ℕ) → length w ≡ k + 192 → front ≡ take k w → back ≡ drop k w
-    → b < 2 ^ 64 → c < 2 ^ 64 → joined a b c ≡ parity_of front
-    → h ≡ number (take 64 back) → m ≡ number (take 64 (drop 64 back)) → l ≡ number (drop 128 back)
-    → joined (bit_xor a h) (bit_xor b m) (bit_xor c l) ≡ remainder_of w
-unfolding ◌⊕◌
-remainder_is w front back k a b c h m l e ef eb hb hc ep eh em el =
-    ap₂ (λ (x y : ℕ). joined (bit_xor a h) (bit_xor b x) (bit_xor c y)) em el
-    ∙ xored a b c h (number (take 64 (drop 64 back))) (number (drop 128 back)) hb hc
-    (packed_lt _ 64 (omega (arith, length-take-le 64 (drop 64 back) (omega (arith, length-drop 64 back, long))))) (packed_lt _ 64 (omega (arith, length-drop 128 back, long)))
-    ∙ ap₂ (λ (x y : ℕ). bit_xor x y) ep (ap (λ (x : ℕ). joined x (number (take 64 (drop 64 back))) (number (drop 128 back))) eh ∙ sym (last_words back long))
+pub remainder_is : (w front back : List ℕ) (k v h m l r : ℕ) → length w ≡ k + 192 → front ≡ take k w → back ≡ drop k w → v ≡ parity_of front
+    → h ≡ number (take 64 back) → m ≡ number (take 64 (drop 64 back)) → l ≡ number (drop 128 back) → r ≡ v ⊕ joined h m l → r ≡ remainder_of w
+remainder_is w front back k v h m l r e ef eb ev eh em el er =
+    er ∙ ap₂ ◌⊕◌ ev ((λ i. joined (eh i) (em i) (el i)) ∙ sym (last_words back long))
     ∙ sym (remainder_split front back long) ∙ ap remainder_of (ap₂ ◌++◌ ef eb ∙ take-append-drop k w)
   where
     long : length back ≡ 192

@@ -1,6 +1,6 @@
 -- Words put together, and what that makes of their remainders. Encoding gives a codeword; remainder 0 and being divided by g are the same.
 --
--- In order: numbers of words (`number_append`, `number_digit`); the digits of a remainder; remainders a byte at a time; codewords
+-- In order: numbers of words (`number_append`, `number_digit`); the digits of a remainder; remainders sixteen bits at a time; codewords
 -- (`remainder_codeword`, `codeword_remainder`, `encoded_codeword`).
 --
 -- Not here: division by a polynomial (laws, Poly).
@@ -12,7 +12,7 @@ use Rattle.std.proofs.Math.Pow.{high}
 use Rattle.std.proofs.lemmas.Nat.{mod-pow-add}
 use Rattle.laws.specs.Xor.{⊕-lt, ⊕-self, zero-⊕, two_pos}
 use Rattle.laws.specs.Definitions.{◌⊕◌, rem}
-use Rattle.laws.specs.Poly.{rem_lt, rem_add, rem_small, rem_digits, rem_shift, ⊕-join, ⊕-shift, divides_rem, rem_divides}
+use Rattle.laws.specs.Poly.{rem_lt, rem_zero, rem_add, rem_small, rem_digits, rem_shift, ⊕-join, ⊕-shift, divides_rem, rem_divides}
 use Rattle.bch_table.specs.Generator.{generator}
 use Rattle.bch_table.specs.GeneratorLaws.{generator_top}
 use Rattle.bch_table.specs.Step.{step_of}
@@ -42,6 +42,9 @@ number_lt [] = omega arith
 number_lt (b ∷ w) =
     subst (λ (n : ℕ). n < 2 ^ suc (length w)) (sym (number_one_more b w))
     (subst (λ (n : ℕ). b % 2 * 2 ^ length w + number w < n) (mul_comm 2 (2 ^ length w) ∙ sym (pow-suc 2 (length w))) (digits_lt (mod-lt b two_pos) (number_lt w)))
+
+pub number_fits : (w : List ℕ) (k : ℕ) → length w ≤ k → number w < 2 ^ k
+number_fits w k h = lt_of_lt_of_le (number_lt w) (pow_mono h)
 
 number_from_append : (a : ℕ) (m d : List ℕ) → number_from a (m ++ d) ≡ number_from (number_from a m) d
 unfolding number_from
@@ -105,38 +108,42 @@ parity_lt : (m : List ℕ) → parity_of m < 2 ^ 192
 unfolding parity_of
 parity_lt m = rem_lt 192 generator (length m + 192) (number m * 2 ^ 192) generator_top
 
--- a first short byte
-pub parity_start : (c : List ℕ) → length c ≤ 8 → parity_of c ≡ step_of 0 (number c)
+pub parity_none : parity_of [] ≡ 0
+unfolding parity_of number number_from
+parity_none = rem_zero 192 generator 192
+
+-- the first bits, sixteen or fewer
+pub parity_start : (c : List ℕ) → length c ≤ 16 → parity_of c ≡ step_of 0 (number c)
 unfolding parity_of step_of
 parity_start c h =
-    rem_digits 192 generator (length c + 192) 200 (number c * 2 ^ 192) here (lt_of_lt_of_le here (pow_mono reach))
-    ∙ ap (rem 192 generator 200) (sym (ap (λ (n : ℕ). n ⊕ (number c * 2 ^ 192)) (zero-mul (2 ^ 8)) ∙ zero-⊕ (number c * 2 ^ 192)))
+    rem_digits 192 generator (length c + 192) 208 (number c * 2 ^ 192) here (lt_of_lt_of_le here (pow_mono reach))
+    ∙ ap (rem 192 generator 208) (sym (ap (λ (n : ℕ). n ⊕ (number c * 2 ^ 192)) (zero-mul (2 ^ 16)) ∙ zero-⊕ (number c * 2 ^ 192)))
   where
     here : number c * 2 ^ 192 < 2 ^ (length c + 192)
     here = shl_lt (length c) 192 (number_lt c)
 
-    reach : length c + 192 ≤ 200
+    reach : length c + 192 ≤ 208
     reach = omega arith
 
--- one byte more
-pub parity_step : (m c : List ℕ) → length c ≡ 8 → parity_of (m ++ c) ≡ step_of (parity_of m) (number c)
+-- sixteen bits more
+pub parity_step : (m c : List ℕ) → length c ≡ 16 → parity_of (m ++ c) ≡ step_of (parity_of m) (number c)
 unfolding parity_of step_of
 parity_step m c h =
     ap₂ (λ (n x : ℕ). rem 192 generator (n + 192) (x * 2 ^ 192)) (length-append m c ∙ ap (λ (n : ℕ). length m + n) h) (number-append-⊕ m c ∙ ap (λ (n : ℕ). (number m * 2 ^ n) ⊕ number c) h)
-    ∙ ap (rem 192 generator (length m + 8 + 192)) (⊕-shift (number m * 2 ^ 8) (number c) 192 ∙ ap (λ (x : ℕ). x ⊕ (number c * 2 ^ 192)) (around (number m) (2 ^ 8) (2 ^ 192)))
-    ∙ rem_shift 192 generator (length m + 192) 8 (length m + 8 + 192) (number m * 2 ^ 192) (number c * 2 ^ 192) generator_top (shl_lt (length m) 192 (number_lt m)) (omega arith) (omega arith)
-    ∙ rem_digits 192 generator (length m + 8 + 192) 200 ((parity_of m * 2 ^ 8) ⊕ (number c * 2 ^ 192)) (lt_of_lt_of_le small (pow_mono reach)) small
+    ∙ ap (rem 192 generator (length m + 16 + 192)) (⊕-shift (number m * 2 ^ 16) (number c) 192 ∙ ap (λ (x : ℕ). x ⊕ (number c * 2 ^ 192)) (around (number m) (2 ^ 16) (2 ^ 192)))
+    ∙ rem_shift 192 generator (length m + 192) 16 (length m + 16 + 192) (number m * 2 ^ 192) (number c * 2 ^ 192) generator_top (shl_lt (length m) 192 (number_lt m)) (omega arith) (omega arith)
+    ∙ rem_digits 192 generator (length m + 16 + 192) 208 ((parity_of m * 2 ^ 16) ⊕ (number c * 2 ^ 192)) (lt_of_lt_of_le small (pow_mono reach)) small
   where
     around : (a b c : ℕ) → a * b * c ≡ a * c * b
     around a b c = omega arith
 
-    byte : number c < 2 ^ 8
-    byte = subst (λ (n : ℕ). number c < 2 ^ n) h (number_lt c)
+    sixteen : number c < 2 ^ 16
+    sixteen = subst (λ (n : ℕ). number c < 2 ^ n) h (number_lt c)
 
-    small : (parity_of m * 2 ^ 8) ⊕ (number c * 2 ^ 192) < 2 ^ 200
-    small = ⊕-lt 200 (shl_lt 192 8 (parity_lt m)) (shl_lt 8 192 byte)
+    small : (parity_of m * 2 ^ 16) ⊕ (number c * 2 ^ 192) < 2 ^ 208
+    small = ⊕-lt 208 (shl_lt 192 16 (parity_lt m)) (shl_lt 16 192 sixteen)
 
-    reach : 200 ≤ length m + 8 + 192
+    reach : 208 ≤ length m + 16 + 192
     reach = omega arith
 
 -- the remainder of a word, from its message and its last 192 bits

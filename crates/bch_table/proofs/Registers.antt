@@ -1,4 +1,4 @@
--- The table's rule: its entries are the words of the registers. antt computes one test over the whole table:
+-- The rule of each table: its entries are the words of the registers. antt computes one test over the whole table:
 -- the register of 0 is 0, that of 2 ^ (i + 1) is that of 2 ^ i shifted once, and that of t is that of t without its top digit, with that of its top digit added.
 -- Laws on remainders turn what it shows into t(x) times x^e mod g, whatever e is.
 -- Assumes nothing.
@@ -13,8 +13,10 @@ use Rattle.laws.specs.Definitions.{◌⊕◌, rem, into, shifted}
 use Rattle.laws.specs.Poly.{rem_zero, rem_add, rem_digits, ⊕-join, ⊕-shift}
 use Rattle.bch_table.specs.Generator.{generator}
 use Rattle.bch_table.specs.GeneratorLaws.{generator_is}
-use Rattle.bch_table.specs.Table.{times_power, word_of, table_from, byte_table, table_at}
-use Rattle.bch_table.specs.declared.TheConstants.{TABLE}
+use Rattle.bch_table.specs.Table.{times_power, word_of, table_from, byte_table, upper_table, entry_at}
+use Rattle.bch_table.specs.Step.{joined}
+use Rattle.bch_table.specs.Words as three
+use Rattle.bch_table.specs.declared.TheConstants.{TABLE, UPPER}
 
 -- a list, and after it the same with r added to each
 unfoldable both_halves : ℕ → List ℕ → List ℕ
@@ -53,6 +55,19 @@ first_of = refl
 first : times_power 192 1 ≡ 0x3b92f15b3078b68d77aa6c59656e8a4cfba9211137981c4b
 unfolding times_power
 first = ap (λ (g : ℕ). rem 192 g 200 (2 ^ 192)) generator_is ∙ first_of
+
+-- the same of the second table, from x^200 mod g on
+upper_is : words (registers 0x13b92f15b3078b68d77aa6c59656e8a4cfba9211137981c4b 0x1c79c8e652fd374aa9291cc3e1a0ce66a228eced1f0ead32 8) ≡ words_of UPPER
+unfolding words words_of registers both_halves doubled word_of into shifted ◌⊕◌
+upper_is = refl
+
+upper_first_of : rem 192 0x13b92f15b3078b68d77aa6c59656e8a4cfba9211137981c4b 208 (2 ^ 200) ≡ 0x1c79c8e652fd374aa9291cc3e1a0ce66a228eced1f0ead32
+unfolding rem into shifted ◌⊕◌
+upper_first_of = refl
+
+upper_first : times_power 200 1 ≡ 0x1c79c8e652fd374aa9291cc3e1a0ce66a228eced1f0ead32
+unfolding times_power
+upper_first = ap (λ (g : ℕ). rem 192 g 208 (2 ^ 200)) generator_is ∙ upper_first_of
 
 -- ---- the registers
 power_zero : (e : ℕ) → times_power e 0 ≡ 0
@@ -142,18 +157,26 @@ words_from e t (r ∷ rs) h =
     ap₂ (λ (x : ℕ) (l : List ℕ). word_of 0 x ∷ word_of 1 x ∷ word_of 2 x ∷ l) (h 0 (omega arith) ∙ ap (times_power e) (add-zero t))
     (words_from e (suc t) rs (λ i g. h (suc i) (omega arith) ∙ ap (times_power e) (add-suc t i ∙ sym (suc-add t i))))
 
-pub table_rule : words_of TABLE ≡ byte_table
-unfolding byte_table
-table_rule =
-    sym table_is ∙ ap₂ (λ (g r : ℕ). words (registers g r 8)) (sym generator_is) (sym first)
-    ∙ words_from 192 0 rs (λ i h. registers_at 192 8 (le_refl 8) i (subst (λ (n : ℕ). i < n) long h) ∙ ap (times_power 192) (sym (zero-add i)))
-    ∙ ap (table_from 192 0) long
+-- a table that the test shows to be the words of the registers from r on, where r is x^e mod g
+rule : (e r : ℕ) (table : List (List ℕ)) → times_power e 1 ≡ r → words (registers 0x13b92f15b3078b68d77aa6c59656e8a4cfba9211137981c4b r 8) ≡ words_of table → words_of table ≡ table_from e 0 256
+rule e r table one is =
+    sym is ∙ ap₂ (λ (g r : ℕ). words (registers g r 8)) (sym generator_is) (sym one)
+    ∙ words_from e 0 rs (λ i h. registers_at e 8 (le_refl 8) i (subst (λ (n : ℕ). i < n) long h) ∙ ap (times_power e) (sym (zero-add i)))
+    ∙ ap (table_from e 0) long
   where
     rs : List ℕ
-    rs = registers generator (times_power 192 1) 8
+    rs = registers generator (times_power e 1) 8
 
     long : length rs ≡ 256
-    long = registers_length generator (times_power 192 1) 8
+    long = registers_length generator (times_power e 1) 8
+
+pub table_rule : words_of TABLE ≡ byte_table
+unfolding byte_table
+table_rule = rule 192 _ TABLE first table_is
+
+pub upper_rule : words_of UPPER ≡ upper_table
+unfolding upper_table
+upper_rule = rule 200 _ UPPER upper_first upper_is
 
 -- ---- the register of a byte
 word_in : (l : List (List ℕ)) (t : ℕ) (d : List ℕ) → t < length l
@@ -167,10 +190,19 @@ word_in (r ∷ l) (suc t) d h = let w = word_in l t d (le_of_suc-le-suc h) in (p
     past : (k : ℕ) {x : ℕ} → get_or (words_of l) (t * 3 + k) 0 ≡ x → get_or (words_of (r ∷ l)) (suc t * 3 + k) 0 ≡ x
     past k e = let three : suc t * 3 + k ≡ suc (suc (suc (t * 3 + k))) = omega arith in ap (λ (m : ℕ). get_or (words_of (r ∷ l)) m 0) three ∙ e
 
-pub register_at : (t : ℕ) (d : List ℕ) → t < 256
-    → (get_or (get_or TABLE t d) 0 0 ≡ word_of 0 (times_power 192 t)) × (get_or (get_or TABLE t d) 1 0 ≡ word_of 1 (times_power 192 t))
-    × (get_or (get_or TABLE t d) 2 0 ≡ word_of 2 (times_power 192 t))
-register_at t d h = let w = word_in TABLE t d h in (at 0 (lit< tt) w.0, at 1 (lit< tt) w.1, at 2 (lit< tt) w.2)
+register_at : (e : ℕ) (table : List (List ℕ)) → words_of table ≡ table_from e 0 256 → (t : ℕ) (d : List ℕ) → t < length table → t < 256
+    → joined (get_or (get_or table t d) 0 0) (get_or (get_or table t d) 1 0) (get_or (get_or table t d) 2 0) ≡ times_power e t
+register_at e table right t d h small =
+    let w = word_in table t d h in
+    (λ i. joined (at 0 (lit< tt) w.0 i) (at 1 (lit< tt) w.1 i) (at 2 (lit< tt) w.2 i)) ∙ three.words (times_power e t)
   where
-    at : (k : ℕ) {x : ℕ} → k < 3 → get_or (words_of TABLE) (t * 3 + k) 0 ≡ x → x ≡ word_of k (times_power 192 t)
-    at k hk e = sym e ∙ ap (λ (l : List ℕ). get_or l (t * 3 + k) 0) table_rule ∙ table_at t k h hk
+    at : (k : ℕ) {x : ℕ} → k < 3 → get_or (words_of table) (t * 3 + k) 0 ≡ x → x ≡ word_of k (times_power e t)
+    at k hk same = sym same ∙ ap (λ (l : List ℕ). get_or l (t * 3 + k) 0) right ∙ entry_at e t k small hk
+
+pub lower_at : (t : ℕ) (d : List ℕ) → t < 256 → joined (get_or (get_or TABLE t d) 0 0) (get_or (get_or TABLE t d) 1 0) (get_or (get_or TABLE t d) 2 0) ≡ times_power 192 t
+unfolding byte_table
+lower_at t d h = register_at 192 TABLE table_rule t d h h
+
+pub upper_at : (t : ℕ) (d : List ℕ) → t < 256 → joined (get_or (get_or UPPER t d) 0 0) (get_or (get_or UPPER t d) 1 0) (get_or (get_or UPPER t d) 2 0) ≡ times_power 200 t
+unfolding upper_table
+upper_at t d h = register_at 200 UPPER upper_rule t d h h

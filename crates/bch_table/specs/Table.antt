@@ -1,10 +1,10 @@
--- The registers of the table that divides a byte at a time: "256 registers of three u64", each t(x) times x^192 mod g.
+-- The registers of the table that divides, "256 registers of three u64", each t(x) times x^192 mod g, and of the second table beside it.
 use Rattle.std.specs.Prelude.{◌≡◌, refl, List, [], ◌∷◌, ℕ, zero, suc, ◌+◌, ◌*◌, ◌/◌, ◌%◌, ◌^◌, ◌<◌, length, get_or}
 use Rattle.std.proofs.Common.{sym, ap, ◌∙◌, not-suc-le-zero, le_of_suc-le-suc, add-zero, zero-add, add-suc, suc-add, arith}
 use Rattle.laws.specs.Definitions.{rem}
 use Rattle.bch_table.specs.Generator.{generator}
 
--- t(x) times x^e mod g, for a byte t. The table's exponent is 192
+-- t(x) times x^e mod g, for a byte t
 unfoldable pub times_power : ℕ → ℕ → ℕ
 times_power e t = rem 192 generator (e + 8) (t * 2 ^ e)
 
@@ -19,9 +19,13 @@ unfoldable pub table_from : ℕ → ℕ → ℕ → List ℕ
 table_from e t zero = []
 table_from e t (suc n) = word_of 0 (times_power e t) ∷ word_of 1 (times_power e t) ∷ word_of 2 (times_power e t) ∷ table_from e (suc t) n
 
--- the table
+-- the table: its exponent is 192
 unfoldable pub byte_table : List ℕ
 byte_table = table_from 192 0 256
+
+-- the second: "entry t is t(x) times x^200 mod g"
+unfoldable pub upper_table : List ℕ
+upper_table = table_from 200 0 256
 
 -- ---- its length, and what stands at each place
 length_from : (e t n : ℕ) → length (table_from e t n) ≡ n * 3
@@ -51,6 +55,5 @@ at_from e t₀ (suc n) (suc t) w h hw =
     ap (λ (m : ℕ). get_or (table_from e t₀ (suc n)) m 0) (after_three t w) ∙ at_from e (suc t₀) n t w (le_of_suc-le-suc h) hw
     ∙ ap (λ (m : ℕ). word_of w (times_power e m)) (suc-add t₀ t ∙ sym (add-suc t₀ t))
 
-pub table_at : (t w : ℕ) → t < 256 → w < 3 → get_or byte_table (t * 3 + w) 0 ≡ word_of w (times_power 192 t)
-unfolding byte_table
-table_at t w ht hw = at_from 192 0 256 t w ht hw ∙ ap (λ (m : ℕ). word_of w (times_power 192 m)) (zero-add t)
+pub entry_at : (e t w : ℕ) → t < 256 → w < 3 → get_or (table_from e 0 256) (t * 3 + w) 0 ≡ word_of w (times_power e t)
+entry_at e t w ht hw = at_from e 0 256 t w ht hw ∙ ap (λ (m : ℕ). word_of w (times_power e m)) (zero-add t)

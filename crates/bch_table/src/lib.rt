@@ -1,10 +1,11 @@
-// The generator of the BCH code from Table 3.4-1, and the 256 registers of three u64 that divide by it a byte at a time.
+// The generator of the BCH code from Table 3.4-1, and two tables of 256 registers of three u64 that divide by it, sixteen bits at a time.
 #![tactic(auto)]
 
-ghost use Rattle.std.specs.Prelude.{◌≡◌, ◌*◌, ◌<◌, length};
+ghost use Rattle.std.specs.Prelude.{◌≡◌, ◌*◌, ◌%◌, ◌^◌, ◌<◌, length};
 ghost use Rattle.laws.specs.Definitions.{◌⊕◌, clmul};
 ghost use Rattle.bch_table.specs.Generator.{generator};
 ghost use Rattle.bch_table.specs.Digits.{digits_of, poly_of};
+ghost use Rattle.bch_table.specs.Table.{times_power};
 ghost use Rattle.bch_table.specs.Step.{value_of, step_of};
 
 // Table 3.4-1: the twelve polynomials, bit e of an entry set where x^e occurs.
@@ -53,12 +54,13 @@ pub fn generator() -> [u8; 193]
     g
 }
 
-// The 192-bit remainder, the highest word first. (Three names and no array of three: each word of a step takes its low byte from the next.)
+// The 192-bit remainder. (Three names and no array of three: each word of a step takes its low bits from the next. The lowest word lies first: with the
+// highest first the compiler keeps it and the next as a pair in one vector register, and a step takes a fifth more time.)
 #[derive(Clone, Copy, Debug, PartialEq, Eq)]
 pub struct Reg {
-    pub hi: u64,
-    pub mid: u64,
     pub lo: u64,
+    pub mid: u64,
+    pub hi: u64,
 }
 
 impl Reg {
@@ -69,17 +71,53 @@ impl Reg {
         lo: 0,
     };
 
-    // The remainder after one more byte of the message.
-    pub fn step(self, byte: u8) -> Reg
-        ensures { value_of result ≡ step_of (value_of self) byte }
+    // The sum of two remainders.
+    pub fn add(self, other: Reg) -> Reg
+        ensures { value_of result ≡ value_of self ⊕ value_of other }
     {
-        let [hi, mid, lo] = TABLE[usize::from((self.hi >> 56) as u8 ^ byte)];
         Reg {
-            hi: (self.hi << 8) ^ (self.mid >> 56) ^ hi,
-            mid: (self.mid << 8) ^ (self.lo >> 56) ^ mid,
-            lo: (self.lo << 8) ^ lo,
+            hi: self.hi ^ other.hi,
+            mid: self.mid ^ other.mid,
+            lo: self.lo ^ other.lo,
         }
     }
+
+    // Shifted by sixteen bits; the upper two bytes leave.
+    fn shifted(self) -> Reg
+        ensures { value_of result ≡ value_of self * 2 ^ 16 % 2 ^ 192 }
+    {
+        Reg {
+            hi: (self.hi << 16) ^ (self.mid >> 48),
+            mid: (self.mid << 16) ^ (self.lo >> 48),
+            lo: self.lo << 16,
+        }
+    }
+
+    // The remainder after sixteen more bits of the message: shifted once, and of the two bytes that leave the tables have what they leave behind.
+    pub fn step(self, bits: u16) -> Reg
+        ensures { value_of result ≡ step_of (value_of self) bits }
+    {
+        let leaving = (self.hi >> 48) as u16 ^ bits;
+        self.shifted()
+            .add(upper((leaving >> 8) as u8))
+            .add(lower((leaving % 256) as u8))
+    }
+}
+
+// What the lower of two bytes that leave a register leaves behind.
+fn lower(byte: u8) -> Reg
+    ensures { value_of result ≡ times_power 192 byte }
+{
+    let [hi, mid, lo] = TABLE[usize::from(byte)];
+    Reg { hi, mid, lo }
+}
+
+// What the upper one leaves behind.
+fn upper(byte: u8) -> Reg
+    ensures { value_of result ≡ times_power 200 byte }
+{
+    let [hi, mid, lo] = UPPER[usize::from(byte)];
+    Reg { hi, mid, lo }
 }
 
 // The register of each byte t: the remainder of t(x) x^192, the highest word first.
@@ -340,4 +378,264 @@ static TABLE: [[u64; 3]; 256] = [
     [0x830d5aebaea58023, 0x77b3d30c6a42aebb, 0x96b5e67965ca5c78],
     [0xcfba4906fe2c5bb4, 0xef4d67e7c5f1306e, 0x9a4e854a3d6278a5],
     [0xf428b85dce54ed39, 0x98e70bbea09fba22, 0x61e7a45b0afa64ee],
+];
+
+// The same eight bits further up: the remainder of t(x) x^200.
+static UPPER: [[u64; 3]; 256] = [
+    [0x0000000000000000, 0x0000000000000000, 0x0000000000000000],
+    [0x1c79c8e652fd374a, 0xa9291cc3e1a0ce66, 0xa228eced1f0ead32],
+    [0x38f391cca5fa6e95, 0x52523987c3419ccd, 0x4451d9da3e1d5a64],
+    [0x248a592af70759df, 0xfb7b254422e152ab, 0xe67935372113f756],
+    [0x71e723994bf4dd2a, 0xa4a4730f8683399a, 0x88a3b3b47c3ab4c8],
+    [0x6d9eeb7f1909ea60, 0x0d8d6fcc6723f7fc, 0x2a8b5f59633419fa],
+    [0x4914b255ee0eb3bf, 0xf6f64a8845c2a557, 0xccf26a6e4227eeac],
+    [0x556d7ab3bcf384f5, 0x5fdf564ba4626b31, 0x6eda86835d29439e],
+    [0xe3ce473297e9ba55, 0x4948e61f0d067335, 0x11476768f8756990],
+    [0xffb78fd4c5148d1f, 0xe061fadceca6bd53, 0xb36f8b85e77bc4a2],
+    [0xdb3dd6fe3213d4c0, 0x1b1adf98ce47eff8, 0x5516beb2c66833f4],
+    [0xc7441e1860eee38a, 0xb233c35b2fe7219e, 0xf73e525fd9669ec6],
+    [0x922964abdc1d677f, 0xedec95108b854aaf, 0x99e4d4dc844fdd58],
+    [0x8e50ac4d8ee05035, 0x44c589d36a2584c9, 0x3bcc38319b41706a],
+    [0xaadaf56779e709ea, 0xbfbeac9748c4d662, 0xddb50d06ba52873c],
+    [0xb6a33d812b1a3ea0, 0x1697b054a9641804, 0x7f9de1eba55c2a0e],
+    [0xfc0e7f3e1fabc227, 0xe53ba0677f626c26, 0xd927efc0c772cf6b],
+    [0xe077b7d84d56f56d, 0x4c12bca49ec2a240, 0x7b0f032dd87c6259],
+    [0xc4fdeef2ba51acb2, 0xb76999e0bc23f0eb, 0x9d76361af96f950f],
+    [0xd8842614e8ac9bf8, 0x1e4085235d833e8d, 0x3f5edaf7e661383d],
+    [0x8de95ca7545f1f0d, 0x419fd368f9e155bc, 0x51845c74bb487ba3],
+    [0x9190944106a22847, 0xe8b6cfab18419bda, 0xf3acb099a446d691],
+    [0xb51acd6bf1a57198, 0x13cdeaef3aa0c971, 0x15d585ae855521c7],
+    [0xa963058da35846d2, 0xbae4f62cdb000717, 0xb7fd69439a5b8cf5],
+    [0x1fc0380c88427872, 0xac73467872641f13, 0xc86088a83f07a6fb],
+    [0x03b9f0eadabf4f38, 0x055a5abb93c4d175, 0x6a48644520090bc9],
+    [0x2733a9c02db816e7, 0xfe217fffb12583de, 0x8c315172011afc9f],
+    [0x3b4a61267f4521ad, 0x5708633c50854db8, 0x2e19bd9f1e1451ad],
+    [0x6e271b95c3b6a558, 0x08d73577f4e72689, 0x40c33b1c433d1233],
+    [0x725ed373914b9212, 0xa1fe29b41547e8ef, 0xe2ebd7f15c33bf01],
+    [0x56d48a59664ccbcd, 0x5a850cf037a6ba44, 0x0492e2c67d204857],
+    [0x4aad42bf34b1fc87, 0xf3ac1033d6067422, 0xa6ba0e2b622ee565],
+    [0xc38e0f270f2f32c2, 0xbddd2c979baa5201, 0x49e6fe90b97d829d],
+    [0xdff7c7c15dd20588, 0x14f430547a0a9c67, 0xebce127da6732faf],
+    [0xfb7d9eebaad55c57, 0xef8f151058ebcecc, 0x0db7274a8760d8f9],
+    [0xe704560df8286b1d, 0x46a609d3b94b00aa, 0xaf9fcba7986e75cb],
+    [0xb2692cbe44dbefe8, 0x19795f981d296b9b, 0xc1454d24c5473655],
+    [0xae10e4581626d8a2, 0xb050435bfc89a5fd, 0x636da1c9da499b67],
+    [0x8a9abd72e121817d, 0x4b2b661fde68f756, 0x851494fefb5a6c31],
+    [0x96e37594b3dcb637, 0xe2027adc3fc83930, 0x273c7813e454c103],
+    [0x2040481598c68897, 0xf495ca8896ac2134, 0x58a199f84108eb0d],
+    [0x3c3980f3ca3bbfdd, 0x5dbcd64b770cef52, 0xfa8975155e06463f],
+    [0x18b3d9d93d3ce602, 0xa6c7f30f55edbdf9, 0x1cf040227f15b169],
+    [0x04ca113f6fc1d148, 0x0feeefccb44d739f, 0xbed8accf601b1c5b],
+    [0x51a76b8cd33255bd, 0x5031b987102f18ae, 0xd0022a4c3d325fc5],
+    [0x4ddea36a81cf62f7, 0xf918a544f18fd6c8, 0x722ac6a1223cf2f7],
+    [0x6954fa4076c83b28, 0x02638000d36e8463, 0x9453f396032f05a1],
+    [0x752d32a624350c62, 0xab4a9cc332ce4a05, 0x367b1f7b1c21a893],
+    [0x3f8070191084f0e5, 0x58e68cf0e4c83e27, 0x90c111507e0f4df6],
+    [0x23f9b8ff4279c7af, 0xf1cf90330568f041, 0x32e9fdbd6101e0c4],
+    [0x0773e1d5b57e9e70, 0x0ab4b5772789a2ea, 0xd490c88a40121792],
+    [0x1b0a2933e783a93a, 0xa39da9b4c6296c8c, 0x76b824675f1cbaa0],
+    [0x4e6753805b702dcf, 0xfc42ffff624b07bd, 0x1862a2e40235f93e],
+    [0x521e9b66098d1a85, 0x556be33c83ebc9db, 0xba4a4e091d3b540c],
+    [0x7694c24cfe8a435a, 0xae10c678a10a9b70, 0x5c337b3e3c28a35a],
+    [0x6aed0aaaac777410, 0x0739dabb40aa5516, 0xfe1b97d323260e68],
+    [0xdc4e372b876d4ab0, 0x11ae6aefe9ce4d12, 0x81867638867a2466],
+    [0xc037ffcdd5907dfa, 0xb887762c086e8374, 0x23ae9ad599748954],
+    [0xe4bda6e722972425, 0x43fc53682a8fd1df, 0xc5d7afe2b8677e02],
+    [0xf8c46e01706a136f, 0xead54fabcb2f1fb9, 0x67ff430fa769d330],
+    [0xada914b2cc99979a, 0xb50a19e06f4d7488, 0x0925c58cfa4090ae],
+    [0xb1d0dc549e64a0d0, 0x1c2305238eedbaee, 0xab0d2961e54e3d9c],
+    [0x955a857e6963f90f, 0xe7582067ac0ce845, 0x4d741c56c45dcaca],
+    [0x89234d983b9ece45, 0x4e713ca44dac2623, 0xef5cf0bbdb5367f8],
+    [0xbc8eef152e26d308, 0x0c103576523a2e4e, 0x6864dc3045631971],
+    [0xa0f727f37cdbe442, 0xa53929b5b39ae028, 0xca4c30dd5a6db443],
+    [0x847d7ed98bdcbd9d, 0x5e420cf1917bb283, 0x2c3505ea7b7e4315],
+    [0x9804b63fd9218ad7, 0xf76b103270db7ce5, 0x8e1de9076470ee27],
+    [0xcd69cc8c65d20e22, 0xa8b44679d4b917d4, 0xe0c76f843959adb9],
+    [0xd110046a372f3968, 0x019d5aba3519d9b2, 0x42ef83692657008b],
+    [0xf59a5d40c02860b7, 0xfae67ffe17f88b19, 0xa496b65e0744f7dd],
+    [0xe9e395a692d557fd, 0x53cf633df658457f, 0x06be5ab3184a5aef],
+    [0x5f40a827b9cf695d, 0x4558d3695f3c5d7b, 0x7923bb58bd1670e1],
+    [0x433960c1eb325e17, 0xec71cfaabe9c931d, 0xdb0b57b5a218ddd3],
+    [0x67b339eb1c3507c8, 0x170aeaee9c7dc1b6, 0x3d726282830b2a85],
+    [0x7bcaf10d4ec83082, 0xbe23f62d7ddd0fd0, 0x9f5a8e6f9c0587b7],
+    [0x2ea78bbef23bb477, 0xe1fca066d9bf64e1, 0xf18008ecc12cc429],
+    [0x32de4358a0c6833d, 0x48d5bca5381faa87, 0x53a8e401de22691b],
+    [0x16541a7257c1dae2, 0xb3ae99e11afef82c, 0xb5d1d136ff319e4d],
+    [0x0a2dd294053ceda8, 0x1a878522fb5e364a, 0x17f93ddbe03f337f],
+    [0x4080902b318d112f, 0xe92b95112d584268, 0xb14333f08211d61a],
+    [0x5cf958cd63702665, 0x400289d2ccf88c0e, 0x136bdf1d9d1f7b28],
+    [0x787301e794777fba, 0xbb79ac96ee19dea5, 0xf512ea2abc0c8c7e],
+    [0x640ac901c68a48f0, 0x1250b0550fb910c3, 0x573a06c7a302214c],
+    [0x3167b3b27a79cc05, 0x4d8fe61eabdb7bf2, 0x39e08044fe2b62d2],
+    [0x2d1e7b542884fb4f, 0xe4a6fadd4a7bb594, 0x9bc86ca9e125cfe0],
+    [0x0994227edf83a290, 0x1fdddf99689ae73f, 0x7db1599ec03638b6],
+    [0x15edea988d7e95da, 0xb6f4c35a893a2959, 0xdf99b573df389584],
+    [0xa34ed719a664ab7a, 0xa063730e205e315d, 0xa00454987a64bf8a],
+    [0xbf371ffff4999c30, 0x094a6fcdc1feff3b, 0x022cb875656a12b8],
+    [0x9bbd46d5039ec5ef, 0xf2314a89e31fad90, 0xe4558d424479e5ee],
+    [0x87c48e335163f2a5, 0x5b18564a02bf63f6, 0x467d61af5b7748dc],
+    [0xd2a9f480ed907650, 0x04c70001a6dd08c7, 0x28a7e72c065e0b42],
+    [0xced03c66bf6d411a, 0xadee1cc2477dc6a1, 0x8a8f0bc11950a670],
+    [0xea5a654c486a18c5, 0x56953986659c940a, 0x6cf63ef638435126],
+    [0xf623adaa1a972f8f, 0xffbc2545843c5a6c, 0xceded21b274dfc14],
+    [0x7f00e0322109e1ca, 0xb1cd19e1c9907c4f, 0x218222a0fc1e9bec],
+    [0x637928d473f4d680, 0x18e405222830b229, 0x83aace4de31036de],
+    [0x47f371fe84f38f5f, 0xe39f20660ad1e082, 0x65d3fb7ac203c188],
+    [0x5b8ab918d60eb815, 0x4ab63ca5eb712ee4, 0xc7fb1797dd0d6cba],
+    [0x0ee7c3ab6afd3ce0, 0x15696aee4f1345d5, 0xa921911480242f24],
+    [0x129e0b4d38000baa, 0xbc40762daeb38bb3, 0x0b097df99f2a8216],
+    [0x36145267cf075275, 0x473b53698c52d918, 0xed7048cebe397540],
+    [0x2a6d9a819dfa653f, 0xee124faa6df2177e, 0x4f58a423a137d872],
+    [0x9ccea700b6e05b9f, 0xf885fffec4960f7a, 0x30c545c8046bf27c],
+    [0x80b76fe6e41d6cd5, 0x51ace33d2536c11c, 0x92eda9251b655f4e],
+    [0xa43d36cc131a350a, 0xaad7c67907d793b7, 0x74949c123a76a818],
+    [0xb844fe2a41e70240, 0x03fedabae6775dd1, 0xd6bc70ff2578052a],
+    [0xed298499fd1486b5, 0x5c218cf1421536e0, 0xb866f67c785146b4],
+    [0xf1504c7fafe9b1ff, 0xf5089032a3b5f886, 0x1a4e1a91675feb86],
+    [0xd5da155558eee820, 0x0e73b5768154aa2d, 0xfc372fa6464c1cd0],
+    [0xc9a3ddb30a13df6a, 0xa75aa9b560f4644b, 0x5e1fc34b5942b1e2],
+    [0x830e9f0c3ea223ed, 0x54f6b986b6f21069, 0xf8a5cd603b6c5487],
+    [0x9f7757ea6c5f14a7, 0xfddfa5455752de0f, 0x5a8d218d2462f9b5],
+    [0xbbfd0ec09b584d78, 0x06a4800175b38ca4, 0xbcf414ba05710ee3],
+    [0xa784c626c9a57a32, 0xaf8d9cc2941342c2, 0x1edcf8571a7fa3d1],
+    [0xf2e9bc957556fec7, 0xf052ca89307129f3, 0x70067ed44756e04f],
+    [0xee90747327abc98d, 0x597bd64ad1d1e795, 0xd22e923958584d7d],
+    [0xca1a2d59d0ac9052, 0xa200f30ef330b53e, 0x3457a70e794bba2b],
+    [0xd663e5bf8251a718, 0x0b29efcd12907b58, 0x967f4be366451719],
+    [0x60c0d83ea94b99b8, 0x1dbe5f99bbf4635c, 0xe9e2aa08c3193d17],
+    [0x7cb910d8fbb6aef2, 0xb497435a5a54ad3a, 0x4bca46e5dc179025],
+    [0x583349f20cb1f72d, 0x4fec661e78b5ff91, 0xadb373d2fd046773],
+    [0x444a81145e4cc067, 0xe6c57add991531f7, 0x0f9b9f3fe20aca41],
+    [0x1127fba7e2bf4492, 0xb91a2c963d775ac6, 0x614119bcbf2389df],
+    [0x0d5e3341b04273d8, 0x10333055dcd794a0, 0xc369f551a02d24ed],
+    [0x29d46a6b47452a07, 0xeb481511fe36c60b, 0x2510c066813ed3bb],
+    [0x35ada28d15b81d4d, 0x426109d21f96086d, 0x87382c8b9e307e89],
+    [0x428f2f716c35109d, 0x6f8a06b5c11ad6d0, 0x2b609971bd5e2ea9],
+    [0x5ef6e7973ec827d7, 0xc6a31a7620ba18b6, 0x8948759ca250839b],
+    [0x7a7cbebdc9cf7e08, 0x3dd83f32025b4a1d, 0x6f3140ab834374cd],
+    [0x6605765b9b324942, 0x94f123f1e3fb847b, 0xcd19ac469c4dd9ff],
+    [0x33680ce827c1cdb7, 0xcb2e75ba4799ef4a, 0xa3c32ac5c1649a61],
+    [0x2f11c40e753cfafd, 0x62076979a639212c, 0x01ebc628de6a3753],
+    [0x0b9b9d24823ba322, 0x997c4c3d84d87387, 0xe792f31fff79c005],
+    [0x17e255c2d0c69468, 0x305550fe6578bde1, 0x45ba1ff2e0776d37],
+    [0xa1416843fbdcaac8, 0x26c2e0aacc1ca5e5, 0x3a27fe19452b4739],
+    [0xbd38a0a5a9219d82, 0x8febfc692dbc6b83, 0x980f12f45a25ea0b],
+    [0x99b2f98f5e26c45d, 0x7490d92d0f5d3928, 0x7e7627c37b361d5d],
+    [0x85cb31690cdbf317, 0xddb9c5eeeefdf74e, 0xdc5ecb2e6438b06f],
+    [0xd0a64bdab02877e2, 0x826693a54a9f9c7f, 0xb2844dad3911f3f1],
+    [0xccdf833ce2d540a8, 0x2b4f8f66ab3f5219, 0x10aca140261f5ec3],
+    [0xe855da1615d21977, 0xd034aa2289de00b2, 0xf6d59477070ca995],
+    [0xf42c12f0472f2e3d, 0x791db6e1687eced4, 0x54fd789a180204a7],
+    [0xbe81504f739ed2ba, 0x8ab1a6d2be78baf6, 0xf24776b17a2ce1c2],
+    [0xa2f898a92163e5f0, 0x2398ba115fd87490, 0x506f9a5c65224cf0],
+    [0x8672c183d664bc2f, 0xd8e39f557d39263b, 0xb616af6b4431bba6],
+    [0x9a0b096584998b65, 0x71ca83969c99e85d, 0x143e43865b3f1694],
+    [0xcf6673d6386a0f90, 0x2e15d5dd38fb836c, 0x7ae4c5050616550a],
+    [0xd31fbb306a9738da, 0x873cc91ed95b4d0a, 0xd8cc29e81918f838],
+    [0xf795e21a9d906105, 0x7c47ec5afbba1fa1, 0x3eb51cdf380b0f6e],
+    [0xebec2afccf6d564f, 0xd56ef0991a1ad1c7, 0x9c9df0322705a25c],
+    [0x5d4f177de47768ef, 0xc3f940cdb37ec9c3, 0xe30011d982598852],
+    [0x4136df9bb68a5fa5, 0x6ad05c0e52de07a5, 0x4128fd349d572560],
+    [0x65bc86b1418d067a, 0x91ab794a703f550e, 0xa751c803bc44d236],
+    [0x79c54e5713703130, 0x38826589919f9b68, 0x057924eea34a7f04],
+    [0x2ca834e4af83b5c5, 0x675d33c235fdf059, 0x6ba3a26dfe633c9a],
+    [0x30d1fc02fd7e828f, 0xce742f01d45d3e3f, 0xc98b4e80e16d91a8],
+    [0x145ba5280a79db50, 0x350f0a45f6bc6c94, 0x2ff27bb7c07e66fe],
+    [0x08226dce5884ec1a, 0x9c261686171ca2f2, 0x8dda975adf70cbcc],
+    [0x81012056631a225f, 0xd2572a225ab084d1, 0x628667e10423ac34],
+    [0x9d78e8b031e71515, 0x7b7e36e1bb104ab7, 0xc0ae8b0c1b2d0106],
+    [0xb9f2b19ac6e04cca, 0x800513a599f1181c, 0x26d7be3b3a3ef650],
+    [0xa58b797c941d7b80, 0x292c0f667851d67a, 0x84ff52d625305b62],
+    [0xf0e603cf28eeff75, 0x76f3592ddc33bd4b, 0xea25d455781918fc],
+    [0xec9fcb297a13c83f, 0xdfda45ee3d93732d, 0x480d38b86717b5ce],
+    [0xc81592038d1491e0, 0x24a160aa1f722186, 0xae740d8f46044298],
+    [0xd46c5ae5dfe9a6aa, 0x8d887c69fed2efe0, 0x0c5ce162590aefaa],
+    [0x62cf6764f4f3980a, 0x9b1fcc3d57b6f7e4, 0x73c10089fc56c5a4],
+    [0x7eb6af82a60eaf40, 0x3236d0feb6163982, 0xd1e9ec64e3586896],
+    [0x5a3cf6a85109f69f, 0xc94df5ba94f76b29, 0x3790d953c24b9fc0],
+    [0x46453e4e03f4c1d5, 0x6064e9797557a54f, 0x95b835bedd4532f2],
+    [0x132844fdbf074520, 0x3fbbbf32d135ce7e, 0xfb62b33d806c716c],
+    [0x0f518c1bedfa726a, 0x9692a3f130950018, 0x594a5fd09f62dc5e],
+    [0x2bdbd5311afd2bb5, 0x6de986b5127452b3, 0xbf336ae7be712b08],
+    [0x37a21dd748001cff, 0xc4c09a76f3d49cd5, 0x1d1b860aa17f863a],
+    [0x7d0f5f687cb1e078, 0x376c8a4525d2e8f7, 0xbba18821c351635f],
+    [0x6176978e2e4cd732, 0x9e459686c4722691, 0x198964ccdc5fce6d],
+    [0x45fccea4d94b8eed, 0x653eb3c2e693743a, 0xfff051fbfd4c393b],
+    [0x598506428bb6b9a7, 0xcc17af010733ba5c, 0x5dd8bd16e2429409],
+    [0x0ce87cf137453d52, 0x93c8f94aa351d16d, 0x33023b95bf6bd797],
+    [0x1091b41765b80a18, 0x3ae1e58942f11f0b, 0x912ad778a0657aa5],
+    [0x341bed3d92bf53c7, 0xc19ac0cd60104da0, 0x7753e24f81768df3],
+    [0x286225dbc042648d, 0x68b3dc0e81b083c6, 0xd57b0ea29e7820c1],
+    [0x9ec1185aeb585a2d, 0x7e246c5a28d49bc2, 0xaae6ef493b240acf],
+    [0x82b8d0bcb9a56d67, 0xd70d7099c97455a4, 0x08ce03a4242aa7fd],
+    [0xa63289964ea234b8, 0x2c7655ddeb95070f, 0xeeb73693053950ab],
+    [0xba4b41701c5f03f2, 0x855f491e0a35c969, 0x4c9fda7e1a37fd99],
+    [0xef263bc3a0ac8707, 0xda801f55ae57a258, 0x22455cfd471ebe07],
+    [0xf35ff325f251b04d, 0x73a903964ff76c3e, 0x806db01058101335],
+    [0xd7d5aa0f0556e992, 0x88d226d26d163e95, 0x661485277903e463],
+    [0xcbac62e957abded8, 0x21fb3a118cb6f0f3, 0xc43c69ca660d4951],
+    [0xfe01c0644213c395, 0x639a33c39320f89e, 0x43044541f83d37d8],
+    [0xe278088210eef4df, 0xcab32f00728036f8, 0xe12ca9ace7339aea],
+    [0xc6f251a8e7e9ad00, 0x31c80a4450616453, 0x07559c9bc6206dbc],
+    [0xda8b994eb5149a4a, 0x98e11687b1c1aa35, 0xa57d7076d92ec08e],
+    [0x8fe6e3fd09e71ebf, 0xc73e40cc15a3c104, 0xcba7f6f584078310],
+    [0x939f2b1b5b1a29f5, 0x6e175c0ff4030f62, 0x698f1a189b092e22],
+    [0xb7157231ac1d702a, 0x956c794bd6e25dc9, 0x8ff62f2fba1ad974],
+    [0xab6cbad7fee04760, 0x3c456588374293af, 0x2ddec3c2a5147446],
+    [0x1dcf8756d5fa79c0, 0x2ad2d5dc9e268bab, 0x5243222900485e48],
+    [0x01b64fb087074e8a, 0x83fbc91f7f8645cd, 0xf06bcec41f46f37a],
+    [0x253c169a70001755, 0x7880ec5b5d671766, 0x1612fbf33e55042c],
+    [0x3945de7c22fd201f, 0xd1a9f098bcc7d900, 0xb43a171e215ba91e],
+    [0x6c28a4cf9e0ea4ea, 0x8e76a6d318a5b231, 0xdae0919d7c72ea80],
+    [0x70516c29ccf393a0, 0x275fba10f9057c57, 0x78c87d70637c47b2],
+    [0x54db35033bf4ca7f, 0xdc249f54dbe42efc, 0x9eb14847426fb0e4],
+    [0x48a2fde56909fd35, 0x750d83973a44e09a, 0x3c99a4aa5d611dd6],
+    [0x020fbf5a5db801b2, 0x86a193a4ec4294b8, 0x9a23aa813f4ff8b3],
+    [0x1e7677bc0f4536f8, 0x2f888f670de25ade, 0x380b466c20415581],
+    [0x3afc2e96f8426f27, 0xd4f3aa232f030875, 0xde72735b0152a2d7],
+    [0x2685e670aabf586d, 0x7ddab6e0cea3c613, 0x7c5a9fb61e5c0fe5],
+    [0x73e89cc3164cdc98, 0x2205e0ab6ac1ad22, 0x1280193543754c7b],
+    [0x6f91542544b1ebd2, 0x8b2cfc688b616344, 0xb0a8f5d85c7be149],
+    [0x4b1b0d0fb3b6b20d, 0x7057d92ca98031ef, 0x56d1c0ef7d68161f],
+    [0x5762c5e9e14b8547, 0xd97ec5ef4820ff89, 0xf4f92c026266bb2d],
+    [0xe1c1f868ca51bbe7, 0xcfe975bbe144e78d, 0x8b64cde9c73a9123],
+    [0xfdb8308e98ac8cad, 0x66c0697800e429eb, 0x294c2104d8343c11],
+    [0xd93269a46fabd572, 0x9dbb4c3c22057b40, 0xcf351433f927cb47],
+    [0xc54ba1423d56e238, 0x349250ffc3a5b526, 0x6d1df8dee6296675],
+    [0x9026dbf181a566cd, 0x6b4d06b467c7de17, 0x03c77e5dbb0025eb],
+    [0x8c5f1317d3585187, 0xc2641a7786671071, 0xa1ef92b0a40e88d9],
+    [0xa8d54a3d245f0858, 0x391f3f33a48642da, 0x4796a787851d7f8f],
+    [0xb4ac82db76a23f12, 0x903623f045268cbc, 0xe5be4b6a9a13d2bd],
+    [0x3d8fcf434d3cf157, 0xde471f54088aaa9f, 0x0ae2bbd14140b545],
+    [0x21f607a51fc1c61d, 0x776e0397e92a64f9, 0xa8ca573c5e4e1877],
+    [0x057c5e8fe8c69fc2, 0x8c1526d3cbcb3652, 0x4eb3620b7f5def21],
+    [0x19059669ba3ba888, 0x253c3a102a6bf834, 0xec9b8ee660534213],
+    [0x4c68ecda06c82c7d, 0x7ae36c5b8e099305, 0x824108653d7a018d],
+    [0x5011243c54351b37, 0xd3ca70986fa95d63, 0x2069e4882274acbf],
+    [0x749b7d16a33242e8, 0x28b155dc4d480fc8, 0xc610d1bf03675be9],
+    [0x68e2b5f0f1cf75a2, 0x8198491face8c1ae, 0x64383d521c69f6db],
+    [0xde418871dad54b02, 0x970ff94b058cd9aa, 0x1ba5dcb9b935dcd5],
+    [0xc238409788287c48, 0x3e26e588e42c17cc, 0xb98d3054a63b71e7],
+    [0xe6b219bd7f2f2597, 0xc55dc0ccc6cd4567, 0x5ff40563872886b1],
+    [0xfacbd15b2dd212dd, 0x6c74dc0f276d8b01, 0xfddce98e98262b83],
+    [0xafa6abe891219628, 0x33ab8a44830fe030, 0x93066f0dc50f681d],
+    [0xb3df630ec3dca162, 0x9a82968762af2e56, 0x312e83e0da01c52f],
+    [0x97553a2434dbf8bd, 0x61f9b3c3404e7cfd, 0xd757b6d7fb123279],
+    [0x8b2cf2c26626cff7, 0xc8d0af00a1eeb29b, 0x757f5a3ae41c9f4b],
+    [0xc181b07d52973370, 0x3b7cbf3377e8c6b9, 0xd3c5541186327a2e],
+    [0xddf8789b006a043a, 0x9255a3f0964808df, 0x71edb8fc993cd71c],
+    [0xf97221b1f76d5de5, 0x692e86b4b4a95a74, 0x97948dcbb82f204a],
+    [0xe50be957a5906aaf, 0xc0079a7755099412, 0x35bc6126a7218d78],
+    [0xb06693e41963ee5a, 0x9fd8cc3cf16bff23, 0x5b66e7a5fa08cee6],
+    [0xac1f5b024b9ed910, 0x36f1d0ff10cb3145, 0xf94e0b48e50663d4],
+    [0x88950228bc9980cf, 0xcd8af5bb322a63ee, 0x1f373e7fc4159482],
+    [0x94eccaceee64b785, 0x64a3e978d38aad88, 0xbd1fd292db1b39b0],
+    [0x224ff74fc57e8925, 0x7234592c7aeeb58c, 0xc28233797e4713be],
+    [0x3e363fa99783be6f, 0xdb1d45ef9b4e7bea, 0x60aadf946149be8c],
+    [0x1abc66836084e7b0, 0x206660abb9af2941, 0x86d3eaa3405a49da],
+    [0x06c5ae653279d0fa, 0x894f7c68580fe727, 0x24fb064e5f54e4e8],
+    [0x53a8d4d68e8a540f, 0xd6902a23fc6d8c16, 0x4a2180cd027da776],
+    [0x4fd11c30dc776345, 0x7fb936e01dcd4270, 0xe8096c201d730a44],
+    [0x6b5b451a2b703a9a, 0x84c213a43f2c10db, 0x0e7059173c60fd12],
+    [0x77228dfc798d0dd0, 0x2deb0f67de8cdebd, 0xac58b5fa236e5020],
 ];

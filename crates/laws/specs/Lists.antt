@@ -1,11 +1,13 @@
 -- Parts of lists and lists of zeros, beside the kit's lib.Seq and lib.ListN.
 --
 -- In order: a part taken first and dropped from (`drop_take`); a list of zeros at any index; the part of a slice from n on, as it is lent and as it
--- comes back (`lent_from`, `back_from`).
+-- comes back (`lent_from`, `back_from`); lists joined (`concat_chunks`, `concat_push`).
 --
 -- Not here: stores (Stores).
-use Rattle.std.specs.Prelude.{◌≡◌, refl, List, [], ◌∷◌, ◌++◌, ℕ, zero, suc, ◌-◌, length, get_or, take, drop, replicate}
-use Rattle.std.proofs.Common.{sym, ap, ◌∙◌, append-nil, arith, take_all, length-drop, drop_of_length-le}
+use Rattle.std.specs.Prelude.{◌≡◌, refl, List, [], ◌∷◌, ◌++◌, ℕ, zero, suc, ◌+◌, ◌-◌, ◌*◌, length, get_or, take, drop, replicate}
+use Rattle.std.proofs.Common.{sym, ap, ◌∙◌, append-nil, append_assoc, arith, take_all, take-add, zero-mul, length-drop, drop_of_length-le}
+use Rattle.std.specs.List.{concat}
+use Rattle.std.specs.Simd.{first_chunks}
 use Rattle.std.proofs.Math.Seq.{take-nil}
 
 -- a part taken first and dropped from, or dropped from first
@@ -29,3 +31,14 @@ module _ {A : Type 0} (n : ℕ) (x : List A) where
   back_from y =
       ap (λ (z : List A). take n x ++ z)
       (ap (λ (z : List A). y ++ z) (drop_of_length-le (drop n x) {i = length x - n} (omega (arith, length-drop n x))) ∙ append-nil y)
+
+-- chunks joined again, and one more list joined
+pub concat_chunks : (n k : ℕ) (xs : List ℕ) → concat (first_chunks n k xs) ≡ take (k * n) xs
+concat_chunks n zero xs = ap (λ (m : ℕ). take m xs) (sym (zero-mul n))
+concat_chunks n (suc k) xs =
+    let more : n + k * n ≡ suc k * n = omega arith in
+    ap (λ ys. take n xs ++ ys) (concat_chunks n k (drop n xs)) ∙ sym (take-add n (k * n) xs) ∙ ap (λ (m : ℕ). take m xs) more
+
+pub concat_push : (xs : List (List ℕ)) (x : List ℕ) → concat (xs ++ x ∷ []) ≡ concat xs ++ x
+concat_push [] x = append-nil x
+concat_push (y ∷ xs) x = ap (λ (l : List ℕ). y ++ l) (concat_push xs x) ∙ sym (append_assoc y (concat xs) x)

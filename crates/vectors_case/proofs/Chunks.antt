@@ -1,17 +1,10 @@
--- The chunks of a list, joined again and one alone.
-use Rattle.std.proofs.Common.{◌≡◌, ℕ, zero, suc, ◌+◌, ◌-◌, ◌*◌, ◌<◌, ◌≤◌, List, [], ◌++◌, length, get_or, take, drop, refl, sym, ap, ◌∙◌, arith, length-drop, take-append-drop}
+-- A chunk of a list, alone.
+use Rattle.std.proofs.Common.{◌≡◌, ℕ, zero, suc, ◌+◌, ◌-◌, ◌*◌, ◌<◌, ◌≤◌, List, [], get_or, take, drop, refl, ap, ◌∙◌, arith}
 use Rattle.std.proofs.Math.Nat.{mul-zero}
-use Rattle.std.proofs.lemmas.List.{nil_from_length, drop-drop, drop-take, take-take}
-use Rattle.std.specs.List.{concat}
+use Rattle.std.proofs.lemmas.List.{drop-drop, drop-take, take-take}
 use Rattle.std.specs.Int.{from_le_bytes, w32}
 use Rattle.vectors_case.specs.Format.{number}
 use Rattle.std.specs.Simd.{first_chunks}
-
-pub concat-first_chunks : (n k : ℕ) (xs : List ℕ) → length xs ≡ k * n → concat (first_chunks n k xs) ≡ xs
-concat-first_chunks n zero xs e = sym (nil_from_length xs (omega (arith, e)))
-concat-first_chunks n (suc k) xs e =
-    let rest : length (drop n xs) ≡ k * n = omega (arith, length-drop n xs) in
-    ap (λ ys. take n xs ++ ys) (concat-first_chunks n k (drop n xs) rest) ∙ take-append-drop n xs
 
 pub get_or-first_chunks : (n k i : ℕ) (xs : List ℕ) → i < k → get_or (first_chunks n k xs) i [] ≡ take n (drop (n * i) xs)
 get_or-first_chunks n zero i xs h = absurd (omega arith)

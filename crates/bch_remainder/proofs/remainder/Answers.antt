@@ -15,5 +15,5 @@ pack-requires c = omega (arith, length-take-le 64 c.split_at.result.1.now (omega
 pub returns : goal.returns
 returns c =
     let long : length c.args.word.now ≡ length c.args.word.now - 192 + 192 = omega arith in
-    remainder_is _ _ _ _ c.parity_register-r.result.hi c.parity_register-r.result.mid c.parity_register-r.result.lo _ _ _ long c.split_at.ensures.front c.split_at.ensures.back
-    (omega arith) (omega arith) c.parity_register-r.ensures c.pack.ensures c.pack-2.ensures (c.pack-3.ensures ∙ ap number (lent_from 128 c.split_at.result.1.now))
+    remainder_is _ _ _ _ _ _ _ _ _ long c.split_at.ensures.front c.split_at.ensures.back c.parity_register.ensures
+    c.pack.ensures c.pack-2.ensures (c.pack-3.ensures ∙ ap number (lent_from 128 c.split_at.result.1.now)) c.add.ensures

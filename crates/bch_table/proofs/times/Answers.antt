@@ -1,13 +1,9 @@
-use Rattle.std.proofs.Common.{refl, ◌-◌, ◌/◌, ◌^◌, replicate}
-use Rattle.bch_table.specs.Digits.{bit_lt}
+use Rattle.std.proofs.Common.{refl, replicate}
 use Rattle.bch_table.proofs.Product.{times_start, times_again}
 use Rattle.bch_table.proofs.times.Goals as goal
 
 pub loop-j-init : goal.loop-j-init
 loop-j-init c = times_start c.args.mask c.args.g (replicate 193 0) refl
-
-pub next_digit-next-requires : goal.next_digit-next-requires
-next_digit-next-requires c = bit_lt (c.args.mask / 2 ^ (c.loop-j.j - 1))
 
 pub loop-j-preserved : goal.loop-j-preserved
 loop-j-preserved c = times_again c.args.mask c.args.g c.loop-j.out c.next_digit-next.result c.loop-j.j c.loop-j.invariant c.loop-j-test.true c.next_digit-next.ensures
