@@ -1,4 +1,4 @@
-//! BCH by the present archive beside an earlier one (build.rs renames the earlier one's functions), and beside the original.
+//! BCH by the present archive beside an earlier one (build.rs renames the earlier one's functions); clean words beside the original too.
 
 use crate::time::{Pair, pair};
 use harness::archive;
@@ -124,7 +124,7 @@ pub fn bench() {
         line("decode, clean", right.len(), &p, "the archive before");
         let mut theirs = right.clone();
         let p = pair(101, turns.min(50), now, || {
-            black_box(oracle::bch::decode(&mut theirs).is_ok());
+            assert!(black_box(oracle::bch::decode(&mut theirs)).is_ok());
         });
         line("decode, clean", right.len(), &p, "the original");
     }

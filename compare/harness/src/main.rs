@@ -270,7 +270,8 @@ fn main() {
         match mode.as_str() {
             "--selftest" => selftest(&mut r),
             "--largest" => largest(&mut r),
-            _ => lengths(&mut r),
+            "--lengths" => lengths(&mut r),
+            _ => unreachable!(),
         }
     }
     if !modes.is_empty() {
