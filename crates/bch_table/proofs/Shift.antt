@@ -1,4 +1,4 @@
--- Three words as one number: shifted by sixteen places, and its top two bytes; and what those leave behind. `omega` takes no number of more than 38 digits, so 2 ^ 64 is a variable B in what it shows.
+-- Three words as one number: shifted by sixteen places, and its top two bytes; and what those leave behind.
 -- Assumes nothing.
 use Rattle.std.proofs.Common.{◌≡◌, sym, ◌∙◌, ap, ap₂, subst, ℕ, ◌+◌, ◌*◌, ◌/◌, ◌%◌, ◌^◌, ◌<◌, mod-eq_of_lt, mod-lt, add_comm, lt_of_lt_of_le, div-add-mod', arith, lit<, lit≤, bit_xor, shl_lt}
 use Rattle.std.proofs.lemmas.Nat.{xor_lt}
@@ -34,7 +34,7 @@ up_lt x y h = up_lt' (x % 2 ^ 48) (y / 2 ^ 48) (mod-lt x (lit< tt)) (top_lt y h)
 last_lt : (x : ℕ) → x % 2 ^ 48 * 65536 < 2 ^ 64
 last_lt x = subst (λ (n : ℕ). n < 2 ^ 64) (last_up x) (mod-lt (x * 65536) (lit< tt))
 
--- ---- three words, with B for 2 ^ 64: h = h₁ 2^48 + h₀ and so on, so 65536 h = h₁ B + 65536 h₀
+-- ---- three words, with B for 2 ^ 64: 65536 h = h₁ B + h₀ with h₁ of sixteen bits, and so on
 up_sum : (B h h₁ h₀ m m₁ m₀ l l₁ l₀ : ℕ) → h * 65536 ≡ h₁ * B + h₀ → m * 65536 ≡ m₁ * B + m₀ → l * 65536 ≡ l₁ * B + l₀
     → ((h * B + m) * B + l) * 65536 ≡ (((h₀ + m₁) * B + (m₀ + l₁)) * B + l₀) + h₁ * (B * B * B)
 up_sum B h h₁ h₀ m m₁ m₀ l l₁ l₀ eh em el =

@@ -1,5 +1,5 @@
 -- The registers of the table that divides, "256 registers of three u64", each t(x) times x^192 mod g, and of the second table beside it.
-use Rattle.std.specs.Prelude.{◌≡◌, refl, List, [], ◌∷◌, ℕ, zero, suc, ◌+◌, ◌*◌, ◌/◌, ◌%◌, ◌^◌, ◌<◌, length, get_or}
+use Rattle.std.specs.Prelude.{◌≡◌, List, [], ◌∷◌, ℕ, zero, suc, ◌+◌, ◌*◌, ◌/◌, ◌%◌, ◌^◌, ◌<◌, get_or}
 use Rattle.std.proofs.Common.{sym, ap, ◌∙◌, not-suc-le-zero, le_of_suc-le-suc, add-zero, zero-add, add-suc, suc-add, arith}
 use Rattle.laws.specs.Definitions.{rem}
 use Rattle.bch_table.specs.Generator.{generator}
@@ -27,19 +27,7 @@ byte_table = table_from 192 0 256
 unfoldable pub upper_table : List ℕ
 upper_table = table_from 200 0 256
 
--- ---- its length, and what stands at each place
-length_from : (e t n : ℕ) → length (table_from e t n) ≡ n * 3
-unfolding table_from
-length_from e t zero = refl
-length_from e t (suc n) = ap (λ (m : ℕ). suc (suc (suc m))) (length_from e (suc t) n) ∙ more
-  where
-    more : suc (suc (suc (n * 3))) ≡ suc n * 3
-    more = omega arith
-
-pub table_length : length byte_table ≡ 768
-unfolding byte_table
-table_length = length_from 192 0 256
-
+-- ---- what stands at each place
 -- word w of the register after that of t
 after_three : (t w : ℕ) → suc t * 3 + w ≡ suc (suc (suc (t * 3 + w)))
 after_three t w = omega arith

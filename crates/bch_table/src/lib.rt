@@ -1,7 +1,7 @@
 // The generator of the BCH code from Table 3.4-1, and two tables of 256 registers of three u64 that divide by it, sixteen bits at a time.
 #![tactic(auto)]
 
-ghost use Rattle.std.specs.Prelude.{◌≡◌, ◌*◌, ◌%◌, ◌^◌, ◌<◌, length};
+ghost use Rattle.std.specs.Prelude.{◌≡◌, ◌*◌, ◌%◌, ◌^◌, ◌<◌};
 ghost use Rattle.laws.specs.Definitions.{◌⊕◌, clmul};
 ghost use Rattle.bch_table.specs.Generator.{generator};
 ghost use Rattle.bch_table.specs.Digits.{digits_of, poly_of};
@@ -55,7 +55,7 @@ pub fn generator() -> [u8; 193]
 }
 
 // The 192-bit remainder. (Three names and no array of three: each word of a step takes its low bits from the next. The lowest word lies first: with the
-// highest first the compiler keeps it and the next as a pair in one vector register, and a step takes a fifth more time.)
+// highest first the compiler keeps it and the next as a pair in one vector register, and a step takes nearly a third more time.)
 #[derive(Clone, Copy, Debug, PartialEq, Eq)]
 pub struct Reg {
     pub lo: u64,
@@ -93,7 +93,8 @@ impl Reg {
         }
     }
 
-    // The remainder after sixteen more bits of the message: shifted once, and of the two bytes that leave the tables have what they leave behind.
+    // The remainder after sixteen more bits of the message: shifted once. The bits are added to the two bytes that leave, and what those leave behind is in
+    // the tables.
     pub fn step(self, bits: u16) -> Reg
         ensures { value_of result ≡ step_of (value_of self) bits }
     {
