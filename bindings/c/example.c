@@ -34,10 +34,10 @@ static void accepted(const char *call, uint32_t number)
     }
 }
 
-/* The same numbers on every machine. */
+/* The same numbers on every machine. (Begun at 82, the lost word is one in which isdb-rs would leave a bit changed.) */
 static uint32_t draw(uint32_t below)
 {
-    static uint32_t state = 1;
+    static uint32_t state = 82;
     state = state * UINT32_C(1664525) + UINT32_C(1013904223);
     return (state >> 8) % below;
 }
@@ -104,7 +104,7 @@ static void run(uint32_t limit, uint32_t rounds)
 
 int main(void)
 {
-    size_t i, wrong = 0;
+    size_t i, wrong = 0, other = 0;
 
     if (raxdov_record_words() != RAXDOV_RECORD_COUNT || raxdov_tally_words() != RAXDOV_TALLY_COUNT ||
         raxdov_window_words() != RAXDOV_WINDOW_COUNT) {
@@ -126,7 +126,11 @@ int main(void)
     printf("%u bits sent, %u received wrong\n", (unsigned)N, (unsigned)wrong);
     run(50, UINT32_MAX); /* every check is met */
     run(4, UINT32_MAX);  /* checks are left, and BCH corrects the rest */
-    run(0, UINT32_MAX);  /* too many are left */
+    run(0, UINT32_MAX);  /* too many are left: the word is lost, and goes out as it came to BCH */
+    for (i = 0; i < N; i++) {
+        other += (soft[i] < 0) != out[i];
+    }
+    printf("  of the lost word, %u bits are not as received\n", (unsigned)other);
     run(50, 2);          /* the round limit comes first: the word is held, and the window passes it over */
     run(50, UINT32_MAX);
     run(4, UINT32_MAX); /* the lost word leaves the window */

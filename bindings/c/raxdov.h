@@ -102,8 +102,8 @@ enum raxdov_record {
 enum raxdov_state {
     RAXDOV_WAITING = 0, /* no lane took the word: a record of zeros, output bits left as they were */
     RAXDOV_HELD = 1,    /* a lane holds the word: its hard decisions are written, without BCH */
-    RAXDOV_MET = 2,     /* finished with every check met, then corrected by BCH */
-    RAXDOV_UNMET = 3    /* finished at the iteration limit with checks unmet, then corrected by BCH */
+    RAXDOV_MET = 2,     /* finished with every check met, then corrected by BCH or lost */
+    RAXDOV_UNMET = 3    /* finished at the iteration limit with checks unmet, then corrected by BCH or lost */
 };
 
 /* The tally: tally[RAXDOV_TALLY_ROUNDS] .. */
@@ -182,7 +182,7 @@ uint32_t raxdov_bch_parity(const uint8_t *message, size_t message_len, uint8_t *
 uint32_t raxdov_bch_encode(const uint8_t *message, size_t message_len, uint8_t *out, size_t out_len);
 
 /* Corrects a word of 193 to 65,535 bits in place, exactly if a codeword lies within 12 bits of it. result gets how
-   many bits were changed, or RAXDOV_LOST; a lost word may have bits changed. Refused by 11. */
+   many bits were changed, or RAXDOV_LOST: then every byte of the word is as it came in. Refused by 11. */
 uint32_t raxdov_bch_decode(uint8_t *word, size_t word_len, uint32_t *result);
 
 /* RAXDOV_RECORD_COUNT and RAXDOV_TALLY_COUNT of the archive that is linked: compare them with this header's, as a later
@@ -203,7 +203,8 @@ uint32_t raxdov_run_sizes(uint32_t n, const uint32_t *lens, size_t lens_len, con
    offset   subtracted from the magnitude of every message
    rounds   round limit: no more rounds than this, 0 too; UINT32_MAX never stops a run early
    first, length   the BCH part of every word: bits first to first + length - 1
-   out      gets n bits a word: n * words elements
+   out      n * words elements: gets n bits of each word that a lane took. A lost word's are its n hard decisions at its
+            end, of which BCH changes none
    records  gets enum raxdov_record for each word, one word after the other: 6 * words elements
    tally    gets enum raxdov_tally, counted afresh
    ending   gets enum raxdov_ending

@@ -11,7 +11,7 @@
 
 static const uint8_t *at, *end;
 static const char *function;
-static uint64_t counts[16][15], executions, states[5], endings[2], changed_words[4], corrected, too_long;
+static uint64_t counts[16][15], executions, states[5], endings[2], changed_words[4], corrected, lost_outside, too_long;
 static uint64_t series, altered_series, passed_over, oldest_left, of_runs;
 static const char *const names[16] = {"quantise", "ldpc_sizes", "ldpc_new", "ldpc_check", "ldpc_parity", "ldpc_encode", "ldpc_syndrome_weight", "bch_parity", "bch_encode", "bch_decode", "record_words", "tally_words", "run_sizes", "run", "window_words", "window_push"};
 __attribute__((section("__libfuzzer_extra_counters"), used)) static uint8_t features[4096];
@@ -391,7 +391,7 @@ static void test_bch_decode(void)
 {
     sow();
     size_t size = bch_size(0);
-    uint32_t refused = size < 193 || size > 65535 ? 11 : 0, kind = byte(), flips = 0;
+    uint32_t refused = size < 193 || size > 65535 ? 11 : 0, kind = byte(), flips = 0, outside = 0;
     Slice word = lend(size, 1), result = lend(1, 4), sent = {0};
     if (!(kind & 1))
         for (size_t i = 0; i < size; i++) word.p[i] &= 1;
@@ -401,6 +401,16 @@ static void test_bch_decode(void)
         memcpy(sent.p, word.p, size);
         flips = (kind >> 3) % 15;
         for (uint32_t i = 0; i < flips; i++) word.p[kind & 4 ? chance((uint32_t)size) : size - 1 - chance(193)] ^= 1;
+        /* an error outside the word, at a power p from its length on: x^p mod g */
+        if ((byte() & 1) && size < 65535) {
+            uint8_t remainder[192], *one;
+            outside = (uint32_t)size + chance(size + 500 < 65535 ? 500 : 65535 - (uint32_t)size);
+            one = calloc(outside - 191, 1);
+            one[0] = 1;
+            bch_parity(one, outside - 191, remainder);
+            for (int i = 0; i < 192; i++) word.p[size - 192 + (size_t)i] ^= remainder[i];
+            free(one);
+        }
     }
     keep(&word);
     answered(9, raxdov_bch_decode(word.p, size, (uint32_t *)result.p), refused);
@@ -411,14 +421,18 @@ static void test_bch_decode(void)
         uint8_t *model = malloc(size);
         memcpy(model, word.copy + word.front, size);
         if (got != bch_decode(model, size)) wrong("another result");
+        if (got == LOST && memcmp(word.p, word.copy + word.front, size)) wrong("a lost word that is not as it came");
         if (memcmp(model, word.p, size)) wrong("other bits");
         if (got != LOST && got > 12) wrong("too many corrected");
-        if (sent.p && flips <= 12 && (got == LOST || memcmp(word.p, sent.p, size))) wrong("up to 12 errors not corrected");
+        if (outside && flips <= 11 && got != LOST) wrong("an error outside the word, and not lost");
+        if (sent.p && !outside && flips <= 12 && (got == LOST || memcmp(word.p, sent.p, size))) wrong("up to 12 errors not corrected");
         free(model);
         unchanged_from(word, size, "");
         unchanged_from(result, 4, "");
         features[1024 + (got == LOST ? 15 : got)]++;
+        features[1040 + (outside && flips <= 11 ? flips : 15)]++;
         corrected += got != LOST && got > 0;
+        lost_outside += outside && flips <= 11;
     }
     if (sent.p) give_back(sent);
     give_back(word);
@@ -699,6 +713,7 @@ static int test_run(void)
             if (r[5] != word->changed) wrong("another count of bits changed by LDPC");
             if (word->unsatisfied ? r[3] >= l.p || !unmet(l, word->before, r[3]) : r[3] != 0) wrong("a named check that is met");
             const uint8_t *bits = out.p + w * n;
+            if (r[4] == LOST && memcmp(bits, word->before, n)) wrong("a lost word that is not as LDPC left it");
             if (memcmp(bits, word->state ? word->bits : out.copy + out.front + w * n, n)) wrong("other bits");
             sums[1] += r[0] > 0;
             sums[2] += r[1];
@@ -753,8 +768,8 @@ static void tell(void)
             if (counts[f][i]) fprintf(stderr, " %d: %lu", i, counts[f][i]);
         fprintf(stderr, "\n");
     }
-    fprintf(stderr, "counts: runs finished %lu, stopped %lu; words: waiting %lu, held %lu, met %lu, unmet %lu, of them lost %lu; with bits changed by LDPC: held %lu, met %lu, unmet %lu; BCH words corrected %lu\n"
-                    "counts: windows %lu, %lu of them altered; records passed over %lu; pushes where the oldest left %lu; records of runs pushed %lu\n", endings[0], endings[1], states[0], states[1], states[2], states[3], states[4], changed_words[1], changed_words[2], changed_words[3], corrected, series, altered_series, passed_over, oldest_left, of_runs);
+    fprintf(stderr, "counts: runs finished %lu, stopped %lu; words: waiting %lu, held %lu, met %lu, unmet %lu, of them lost %lu; with bits changed by LDPC: held %lu, met %lu, unmet %lu; BCH words corrected %lu, lost by an error outside %lu\n"
+                    "counts: windows %lu, %lu of them altered; records passed over %lu; pushes where the oldest left %lu; records of runs pushed %lu\n", endings[0], endings[1], states[0], states[1], states[2], states[3], states[4], changed_words[1], changed_words[2], changed_words[3], corrected, lost_outside, series, altered_series, passed_over, oldest_left, of_runs);
 }
 
 int LLVMFuzzerInitialize(int *argc, char ***argv)

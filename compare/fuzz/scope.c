@@ -107,17 +107,18 @@ uint32_t bch_decode(uint8_t *word, size_t size)
             since++;
     }
     if (length > 12) return LOST;
-    size_t flips = 0;
+    /* the places of the roots: no more than the register is long */
+    size_t flips = 0, places[12];
     for (size_t p = 0; p < size; p++) {
         uint16_t at = 0;
         for (size_t i = 0; i < 26; i++)
             if (c[i]) at ^= power[(logarithm[c[i]] + (65535 - p % 65535) % 65535 * i) % 65535];
-        if (at == 0) {
-            word[size - 1 - p] ^= 1;
-            flips++;
-        }
+        if (at == 0) places[flips++] = size - 1 - p;
     }
-    return flips < length ? LOST : (uint32_t)flips;
+    /* "When BCH calls a word uncorrectable, every byte of it must be as it came in" */
+    if (flips < length) return LOST;
+    for (size_t i = 0; i < flips; i++) word[places[i]] ^= 1;
+    return (uint32_t)flips;
 }
 
 /* ---- soft values ---- */

@@ -58,7 +58,7 @@ int unmet(Lists lists, const uint8_t *bits, size_t c);
 void ldpc_parity(Lists lists, const uint8_t *info, uint8_t *parity);
 int8_t soft_value(float llr, float scale);
 void bch_parity(const uint8_t *message, size_t size, uint8_t parity[192]);
-/* The corrected count or LOST. */
+/* The corrected count, or LOST, which leaves the word as it came. */
 uint32_t bch_decode(uint8_t *word, size_t size);
 uint32_t run_refusal(Code code, size_t soft, Settings set, Lent lent);
 /* An accepted run; TOO_LONG if it needs more than `budget` edges, else 0. */

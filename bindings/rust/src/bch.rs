@@ -120,13 +120,23 @@ pub fn encode(msg: &[u8]) -> Vec<u8> {
 }
 
 /// Corrects a word in place; the number of bits corrected. A word within 12 bits of a codeword of its length becomes
-/// that codeword, and any other is uncorrectable; an uncorrectable word may have bits changed.
+/// that codeword. Any other is uncorrectable, and every byte of it is left as it was; the original leaves some of these
+/// words with bits changed.
 ///
 /// ```
+/// use raxdov::bch;
+///
 /// let mut word = [0; 193];
 /// word[0] = 1;
-/// assert_eq!(raxdov::bch::decode(&mut word), Ok(1));
+/// assert_eq!(bch::decode(&mut word), Ok(1));
 /// assert_eq!(word, [0; 193]);
+///
+/// // the first bit of a codeword is missing, and the last one is wrong
+/// let mut word = bch::encode(&[1, 0]).split_off(1);
+/// word[192] ^= 1;
+/// let before = word.clone();
+/// assert_eq!(bch::decode(&mut word), Err(bch::Uncorrectable));
+/// assert_eq!(word, before);
 /// ```
 ///
 /// # Panics

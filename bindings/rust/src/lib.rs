@@ -3,7 +3,8 @@
 //! `libraxdov.a`, whose functions are proved to meet their contracts; this crate lends them memory.
 //!
 //! - [`ldpc`] and [`bch`] have the names, signatures and results of isdb-rs (`isdb_fec::ldpc`, `isdb_fec::bch`), so
-//!   that a program changes over by its imports. What differs is said at each item.
+//!   that a program changes over by its imports. One result differs: [`bch::decode`] leaves an uncorrectable word as it
+//!   was, where isdb-rs leaves bits changed in some. What else differs is said at each item.
 //! - [`run`] decodes and corrects in one go and records each word; its [`run::Window`] keeps figures over the last
 //!   finished words of many runs.
 //!

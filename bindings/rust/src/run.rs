@@ -1,6 +1,7 @@
 //! A run: words of soft values decoded side by side in lanes, each finished word's BCH part corrected, with a round
 //! limit, a record of every word and a tally. What a finished word gets does not depend on the other words, on the lanes or
-//! on the round limit; a held word has the bits and the count of changed bits that it has alone after its iterations.
+//! on the round limit; a held word has the bits and the count of changed bits that it has alone after its iterations. A
+//! word that BCH can't correct is lost, and goes out as LDPC left it.
 //! A [`Window`] looks at the last finished words of many runs.
 //!
 //! ```
@@ -143,7 +144,8 @@ pub struct Record {
     pub unsatisfied: u32,
     /// One of those checks, whichever; 0 if there is none.
     pub check: u32,
-    /// Bits that BCH corrected, or that the word is lost; 0 before it is finished.
+    /// Bits that BCH corrected, or that the word is lost: then its output bits are its hard decisions at its end, all n.
+    /// 0 before it is finished.
     pub bch: Result<u32, Uncorrectable>,
     /// Bits changed by LDPC: the positions, of all n, where the word's hard decisions before BCH differ from those of its
     /// soft values. A held word's so far.
@@ -251,7 +253,8 @@ impl Runner {
     }
 
     /// Runs the words of `soft` (n values a word, one word after the other; a negative value speaks for a 1). `out` gets
-    /// n bits a word; what is longer is left as it was. A run needs about 140 KB of stack.
+    /// n bits of each word that a lane took: its hard decisions, corrected by BCH if it is finished and not lost. What is
+    /// longer is left as it was. A run needs about 140 KB of stack.
     ///
     /// ```
     /// use raxdov::Refusal;

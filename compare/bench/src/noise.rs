@@ -8,6 +8,7 @@ use harness::lent::Lent;
 use harness::random::Random;
 use harness::run::params;
 use harness::scope::RECORD;
+use oracle::decode_or_leave;
 use oracle::ldpc::Code;
 use oracle::ldpc::fixed::{Decoder, quantise};
 
@@ -49,9 +50,9 @@ pub fn bench(file: Option<&str>, words: usize) {
         "words lost, of each",
     );
     println!(
-        "| Es/N0, dB | schedule | lost by Raxdov | lost by isdb-rs | words that differ | iterations a word |"
+        "| Es/N0, dB | schedule | lost by Raxdov | lost by isdb-rs | of them with flips taken back | words that differ | iterations a word |"
     );
-    println!("|---|---|---|---|---|---|");
+    println!("|---|---|---|---|---|---|---|");
     let lanes = 16;
     for (name, layered, step) in [("sequential", 0, 0), ("layered 374", 1, 374)] {
         let (mut ours, mut theirs) = (Vec::new(), Vec::new());
@@ -73,17 +74,19 @@ pub fn bench(file: Option<&str>, words: usize) {
             assert_eq!(archive::run(&table, &lent, set, &mut to), 0);
             let list: Vec<&[i8]> = soft.chunks(n).collect();
             let answers = Decoder::<16>::default().decode_all(&code, &list, params(set));
-            let (mut lost, mut other) = (0, 0);
+            let (mut lost, mut flips, mut other) = (0, 0, 0);
             for (w, (_, mut bits)) in answers.into_iter().enumerate() {
-                let fails = oracle::bch::decode(&mut bits[..k]).is_err();
+                let answer = decode_or_leave(&mut bits[..k]);
+                let fails = answer.is_err();
                 lost += u32::from(fails);
+                flips += u32::from(answer.is_err_and(|lost| lost.flips > 0));
                 let same = bits == to.out.now()[w * n..w * n + n]
                     && fails == (to.records.now()[RECORD * w + 4] == LOST);
                 other += u32::from(!same);
             }
             let tally = to.tally.now();
             println!(
-                "| {snr:.2} | {name} | {} | {lost} | {other} | {:.1} |",
+                "| {snr:.2} | {name} | {} | {lost} | {flips} | {other} | {:.1} |",
                 tally[4],
                 f64::from(tally[2]) / words as f64
             );

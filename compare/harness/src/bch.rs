@@ -3,7 +3,8 @@
 use crate::archive::{self, LOST};
 use crate::lent::{Lent, same};
 use crate::random::Random;
-use oracle::bch::{TABLE_3_4_1, decode, encode, parity};
+use oracle::bch::{TABLE_3_4_1, encode, parity};
+use oracle::{Lost, decode_or_leave};
 use std::sync::OnceLock;
 
 #[derive(Default)]
@@ -13,8 +14,9 @@ pub struct Counts {
     pub decode: u64,
     pub clean: u64,
     pub corrected: [u64; 13],
-    pub unchanged: u64,
-    pub flipped: u64,
+    /// Uncorrectable: without flips of the original, and with flips that were taken back.
+    pub no_flips: u64,
+    pub taken_back: u64,
     pub refused: u64,
 }
 
@@ -56,6 +58,14 @@ fn product(entries: usize) -> Vec<u8> {
     })
 }
 
+/// An error outside a shortened word, at power p: its remainder is added to the parity.
+pub fn outside(word: &mut [u8], p: usize) {
+    let x = powers()[p];
+    for (i, byte) in word.iter_mut().rev().take(192).enumerate() {
+        *byte ^= (x[i / 64] >> (i % 64) & 1) as u8;
+    }
+}
+
 fn length(r: &mut Random) -> usize {
     match r.below(160) {
         0 | 1 => r.within(193, 65_535),
@@ -89,19 +99,15 @@ pub fn word(r: &mut Random) -> Vec<u8> {
         word[r.below(n)] ^= 1;
     }
     match r.below(6) {
-        // errors outside the shortened word: their remainders are added to its parity
+        // errors outside the shortened word
         0 | 1 if n < 65_535 => {
-            let outside = r.pick(&[1, 1, 2, 3, 5, 9, 12]);
-            for _ in 0..outside {
+            for _ in 0..r.pick(&[1, 1, 2, 3, 5, 9, 12]) {
                 let p = if r.one_in(3) {
                     n + r.below((65_535 - n).min(8))
                 } else {
                     r.within(n, 65_534)
                 };
-                let x = powers()[p];
-                for i in 0..192 {
-                    word[n - 1 - i] ^= (x[i / 64] >> (i % 64) & 1) as u8;
-                }
+                outside(&mut word, p);
             }
         }
         // a multiple of the first six entries, whose first twelve syndromes vanish: the register is longer than 12
@@ -130,10 +136,16 @@ fn hex(bytes: &[u8]) -> String {
     bytes.iter().map(|b| format!("{b:02x}")).collect()
 }
 
-pub fn decoded(r: &mut Random, bytes: &[u8], counts: &mut Counts) -> Result<(), String> {
+/// A word through `decode`; with the original's flips left in it if `spoilt`, to see that the comparison finds them.
+fn decoded(r: &mut Random, bytes: &[u8], counts: &mut Counts, spoilt: bool) -> Result<(), String> {
     let mut word = Lent::of(bytes, r);
     let mut result = Lent::filled(1, r);
     let number = archive::bch_decode(&mut word, &mut result);
+    if spoilt {
+        let mut flipped = bytes.to_vec();
+        let _ = oracle::bch::decode(&mut flipped);
+        word.copy_from(&flipped);
+    }
     counts.decode += 1;
     if bytes.len() < 193 || bytes.len() > 65_535 {
         counts.refused += 1;
@@ -142,12 +154,12 @@ pub fn decoded(r: &mut Random, bytes: &[u8], counts: &mut Counts) -> Result<(), 
         return result.unchanged("result");
     }
     let mut right = bytes.to_vec();
-    let answer = decode(&mut right);
+    let answer = decode_or_leave(&mut right);
     match answer {
         Ok(0) => counts.clean += 1,
         Ok(m) => counts.corrected[m] += 1,
-        Err(_) if right == bytes => counts.unchanged += 1,
-        Err(_) => counts.flipped += 1,
+        Err(Lost { flips: 0 }) => counts.no_flips += 1,
+        Err(_) => counts.taken_back += 1,
     }
     same("answer", number, 0)?;
     result.holds("result", &[answer.map_or(LOST, |m| m as u32)], 1)?;
@@ -166,7 +178,7 @@ pub fn compare(r: &mut Random, counts: &mut Counts) -> Result<(), String> {
     } else {
         r.bits(bytes)
     };
-    decoded(r, &bytes, counts).map_err(|e| {
+    decoded(r, &bytes, counts, false).map_err(|e| {
         format!(
             "bch decode: {e}; word of {} bytes {}",
             bytes.len(),
@@ -175,6 +187,26 @@ pub fn compare(r: &mut Random, counts: &mut Counts) -> Result<(), String> {
     })?;
     if r.one_in(8) {
         written(r, counts).map_err(|e| format!("bch {e}"))?;
+    }
+    Ok(())
+}
+
+/// The original's flips left in a lost word are found: so many such words.
+pub fn selftest(r: &mut Random, words: usize) -> Result<(), String> {
+    let mut done = 0;
+    while done < words {
+        let bytes = word(r);
+        let mut counts = Counts::default();
+        decoded(r, &bytes, &mut counts, false)?;
+        if counts.taken_back == 1 {
+            if decoded(r, &bytes, &mut counts, true).is_ok() {
+                return Err(format!(
+                    "selftest: flips left in a lost word were not found: {}",
+                    hex(&bytes)
+                ));
+            }
+            done += 1;
+        }
     }
     Ok(())
 }

@@ -1,6 +1,7 @@
 //! Codes and soft words made from random numbers.
 
 use crate::archive::Table;
+use crate::bch;
 use crate::lent::Lent;
 use crate::random::Random;
 use crate::scope;
@@ -125,7 +126,8 @@ pub enum Kind {
     Constant,
 }
 
-/// Soft words of a code. Where the BCH part lies in the information bits, it is a BCH word, damaged now and then by up to 16 bits.
+/// Soft words of a code. Where the BCH part lies in the information bits, it is a BCH word, damaged now and then by up to 16 bits, and
+/// one in four of these by an error outside it too.
 pub fn soft(
     r: &mut Random,
     code: &Code,
@@ -150,6 +152,10 @@ pub fn soft(
                     };
                     for _ in 0..errors {
                         info[first + r.below(length)] ^= 1;
+                    }
+                    if errors > 0 && r.one_in(4) {
+                        let p = r.within(length, 65_534);
+                        bch::outside(&mut info[first..first + length], p);
                     }
                 }
                 let deviation = if r.one_in(10) { 0.0 } else { deviation };

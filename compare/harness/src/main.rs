@@ -88,17 +88,17 @@ fn tell(seen: &Seen, seed: u64, time: Duration) {
         b.parity, b.encode
     );
     println!(
-        "| `raxdov_bch_decode` | {} | {} (with parity and encode) | {} codewords; corrected by 1 to 12 bits: {:?}; uncorrectable: {} unchanged, {} with flips left |",
+        "| `raxdov_bch_decode` | {} | {} (with parity and encode) | {} codewords; corrected by 1 to 12 bits: {:?}; uncorrectable: {} without flips of the original, {} with flips of the original taken back |",
         b.decode,
         b.refused,
         b.clean,
         &b.corrected[1..],
-        b.unchanged,
-        b.flipped
+        b.no_flips,
+        b.taken_back
     );
     let refused: u64 = u.refused[1..].iter().sum();
     println!(
-        "| `raxdov_run` | {} | {refused} (by 2 to 13: {:?}) | {} words: {} met, {} unmet, {} held, {} waiting; {} lost, {} corrected by BCH; LDPC changed bits in {} finished and {} held words, and in {} BCH would alter that count; {} iterations, at most {} of a word; {} runs stopped by the round limit, {} layered |",
+        "| `raxdov_run` | {} | {refused} (by 2 to 13: {:?}) | {} words: {} met, {} unmet, {} held, {} waiting; {} lost, {} of them with flips of the original taken back, {} corrected by BCH; LDPC changed bits in {} finished and {} held words, and in {} BCH would alter that count; {} iterations, at most {} of a word; {} runs stopped by the round limit, {} layered |",
         u.runs,
         &u.refused[2..],
         u.words,
@@ -107,6 +107,7 @@ fn tell(seen: &Seen, seed: u64, time: Duration) {
         u.held,
         u.waiting,
         u.lost,
+        u.taken_back,
         u.bch_corrected,
         u.changed,
         u.changed_held,
@@ -230,6 +231,35 @@ fn selftest(r: &mut Random) {
         spoilt = window::selftest(r).unwrap_or_else(|e| fail(&e));
     }
     println!("selftest: {spoilt} spoilt results found in each of 20 pushes onto a full window");
+    flips_left(r);
+}
+
+/// The original's flips left in a lost word, of BCH alone and of a run.
+fn flips_left(r: &mut Random) {
+    bch::selftest(r, 20).unwrap_or_else(|e| fail(&e));
+    let mut done = 0;
+    while done < 20 {
+        let units = r.within(2, 4);
+        let plan = Rc::new(Plan::random(r, units));
+        let code = Rc::new(plan.code());
+        let case = run::case(r, &plan, &code);
+        let mut counts = run::Counts::default();
+        disagree(&case, &mut counts);
+        if counts.taken_back == 0 {
+            continue;
+        }
+        let spoilt = Some(run::Spoil::Flips);
+        if run::compare(&case, &mut counts, spoilt).is_ok() {
+            fail(&format!(
+                "selftest: flips left in a lost word were not found\n{}",
+                run::text(&case)
+            ));
+        }
+        done += 1;
+    }
+    println!(
+        "selftest: the original's flips left in a lost word found in each of 20 BCH words and 20 runs"
+    );
 }
 
 fn main() {

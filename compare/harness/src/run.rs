@@ -7,6 +7,7 @@ use crate::ldpc::spoilt;
 use crate::lent::{Lent, same};
 use crate::random::Random;
 use crate::scope::{self, Lengths, RECORD, Rounds, Status};
+use oracle::decode_or_leave;
 use oracle::ldpc::Code;
 use oracle::ldpc::fixed::{Decoder, LaneResult, Params, Schedule};
 use std::collections::BTreeMap;
@@ -25,6 +26,8 @@ pub struct Counts {
     pub held: u64,
     pub waiting: u64,
     pub lost: u64,
+    /// Lost words with flips of the original taken back.
+    pub taken_back: u64,
     pub bch_corrected: u64,
     /// Finished and held words with bits changed by LDPC, and finished ones whose count would be another behind BCH.
     pub changed: u64,
@@ -75,6 +78,8 @@ pub enum Spoil {
     GuardBefore,
     GuardBehind,
     Soft,
+    /// The original's flips in lost words; not in `SPOILS`, as most runs have no such word.
+    Flips,
 }
 
 pub const SPOILS: [Spoil; 24] = [
@@ -148,6 +153,19 @@ fn spoil(what: Spoil, case: &Case, answer: &mut u32, soft: &mut Lent<i8>, to: &m
             to.work.spoil(n, to.work.guard_value(n) ^ 1);
         }
         Spoil::Soft => soft.spoil(0, soft.now()[0] ^ 1),
+        Spoil::Flips => {
+            let n = case.plan.n as usize;
+            for w in 0..case.soft.len() / n {
+                if to.records.now()[RECORD * w + 4] == LOST {
+                    let from = n * w + case.set.first as usize;
+                    let mut part = to.out.now()[from..from + case.set.length as usize].to_vec();
+                    let _ = oracle::bch::decode(&mut part);
+                    for (i, &bit) in part.iter().enumerate() {
+                        to.out.spoil((from + i) as isize, bit);
+                    }
+                }
+            }
+        }
     }
 }
 
@@ -212,11 +230,13 @@ fn original_traced(
     with_lanes!(set.lanes, traced, code, words, params(set), f)
 }
 
-/// A word as its record tells it, without the named check; its bits before BCH, and after.
+/// A word as its record tells it, without the named check; its bits before BCH, and after; whether it is lost and the original
+/// flipped bits of it.
 struct Word {
     record: [u32; RECORD],
     before: Vec<u8>,
     after: Vec<u8>,
+    taken_back: bool,
 }
 
 /// The hard decisions of a word's soft values.
@@ -276,6 +296,7 @@ fn words_of(case: &Case, code: &Code) -> (Rounds, Vec<Option<Word>>) {
                     record: [1, *i, unmet, 0, 0, changed(soft, &before)],
                     after: before.clone(),
                     before,
+                    taken_back: false,
                 })
             }
             Status::Finished => {
@@ -284,13 +305,15 @@ fn words_of(case: &Case, code: &Code) -> (Rounds, Vec<Option<Word>>) {
                     Err(e) => (3, e.iterations, e.unsatisfied),
                 };
                 let mut after = bits.clone();
-                let bch = oracle::bch::decode(&mut after[first..first + length])
-                    .map_or(LOST, |m| m as u32);
+                let bch = decode_or_leave(&mut after[first..first + length]);
+                let taken_back = bch.is_err_and(|lost| lost.flips > 0);
+                let bch = bch.map_or(LOST, |m| m as u32);
                 let changed = changed(soft, &bits);
                 Some(Word {
                     record: [state, iterations as u32, unmet as u32, 0, bch, changed],
                     before: bits,
                     after,
+                    taken_back,
                 })
             }
         })
@@ -396,6 +419,7 @@ pub fn compare(case: &Case, counts: &mut Counts, spoils: Option<Spoil>) -> Resul
             counts.other_behind_bch += u64::from(record[5] != behind);
             if record[4] == LOST {
                 lost += 1;
+                counts.taken_back += u64::from(word.taken_back);
             } else {
                 kept += 1;
                 counts.bch_corrected += u64::from(record[4] > 0);

@@ -1,7 +1,8 @@
 //! What a run with a round limit gives: the scope's round rule over the original's own answers. `decode_all_traced` has each
-//! word's hard decisions after each of its iterations, and how it ended; `bch::decode` what becomes of its BCH part.
+//! word's hard decisions after each of its iterations, and how it ended; `bch::decode` what becomes of its BCH part, which is left as
+//! it was if it is lost.
 
-use crate::bch;
+use crate::decode_or_leave;
 use crate::ldpc::Code;
 use crate::ldpc::fixed::{Decoder, Params, Schedule};
 use std::collections::BTreeMap;
@@ -37,8 +38,8 @@ pub struct Word {
     pub bch: Option<usize>,
     /// None of a word that waits.
     pub bits: Option<Vec<u8>>,
-    /// Whether BCH changed a bit.
-    pub flipped: bool,
+    /// Whether it is lost and the original flipped bits of it.
+    pub taken_back: bool,
     /// Positions where its bits before BCH differ from the input's hard decisions.
     pub changed: usize,
     /// That number by wrong readings.
@@ -260,12 +261,12 @@ fn word(code: &Code, own: &[i8], seen: &[Vec<u8>], iterations: usize, s: &Settin
     let part = s.first as usize..(s.first + s.length) as usize;
     let mut bits = before.clone();
     let (state, bch) = if iterations + 1 < seen.len() {
-        (State::Held, Some(0))
+        (State::Held, Ok(0))
     } else {
-        let fixed = bch::decode(&mut bits[part.clone()]).ok();
+        let fixed = decode_or_leave(&mut bits[part.clone()]);
         (if left.is_empty() { State::Met } else { State::Unmet }, fixed)
     };
-    let flipped = bits != *before;
+    let (bch, taken_back) = (bch.ok(), bch.is_err_and(|lost| lost.flips > 0));
     let changed = differ(begun, before);
     let ones: Vec<u8> = own.iter().map(|&x| u8::from(x <= 0)).collect();
     let misread = Misread {
@@ -274,7 +275,7 @@ fn word(code: &Code, own: &[i8], seen: &[Vec<u8>], iterations: usize, s: &Settin
         turns: seen[..=iterations].windows(2).map(|two| differ(&two[0], &two[1])).sum(),
         zeros: differ(&ones, before),
     };
-    Word { state, iterations, unsatisfied: left, bch, bits: Some(bits), flipped, changed, misread }
+    Word { state, iterations, unsatisfied: left, bch, bits: Some(bits), taken_back, changed, misread }
 }
 
 /// A run that is not refused. How many rounds it makes without a limit is the second answer.
@@ -300,7 +301,7 @@ pub fn run(code: &Code, soft: &[i8], s: &Settings) -> (Ran, u32) {
         unsatisfied: Vec::new(),
         bch: Some(0),
         bits: None,
-        flipped: false,
+        taken_back: false,
         changed: 0,
         misread: Misread::default(),
     };

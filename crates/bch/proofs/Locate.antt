@@ -24,13 +24,13 @@ unfolding syndrome remainder_of
 of_remainder w v j e h = ap (λ (r : ℕ). ev R16 192 r (pow R16 α (j + 1))) e ∙ sym (by_remainder (length w) (number w) j (number_lt w) h)
 
 module _ (w s c : List ℕ) (l : ℕ) (syn : (j : ℕ) → j < 24 → poly s j ≡ syndrome w j) (R : RegisterOf s c l) where
-  -- every register is of length over 12: uncorrectable, word unchanged
+  -- every register is of length over 12: uncorrectable
   pub too_long : 12 < l → Located w w None
   unfolding answer_by left_by
   too_long h =
       record {
         answer = λ c' l' S. sym (if_neg (dec_le l' 12) (long c' l' S) _ None);
-        word = λ c' l' S. sym (if_neg (dec_le l' 12) (long c' l' S) (flipped c' l' w) w);
+        word = λ c' l' S. sym (if_neg (dec_le l' 12) (long c' l' S) _ w);
       }
     where
       long : (c' : ℕ → El 15) (l' : ℕ) → Shortest R16 (syndrome w) 24 c' l' → l' ≤ 12 → ⊥
@@ -39,23 +39,30 @@ module _ (w s c : List ℕ) (l : ℕ) (syn : (j : ℕ) → j < 24 → poly s j �
           omega arith
 
   module _ (fit : l ≤ 12) (at : List ℕ) (P : PlacesOf at c l (length w)) where
-    -- the register that was found is a shortest one, and answers so
-    found : (r : Option ℕ) → r ≡ ite (ℕ_discrete (flips (poly c) l (length w)) l) (Some l) None → Located w (flip_all w (λ i. get_or at i 0) (length at)) r
+    -- the register that was found is a shortest one: what it answers and leaves is so by every one
+    found : (r : Option ℕ) (w' : List ℕ) → r ≡ ite (ℕ_discrete (flips (poly c) l (length w)) l) (Some l) None
+        → w' ≡ ite (ℕ_discrete (flips (poly c) l (length w)) l) (flipped (poly c) l w) w → Located w w' r
     unfolding answer_by left_by
-    found r e =
-        located_by w _ r (poly c) l (shortest_ext R16 (poly s) (syndrome w) 24 (poly c) l syn (record { gen = R.gen fit; short = R.short }))
-        (e ∙ sym (if_pos (dec_le l 12) fit (ite (ℕ_discrete (flips (poly c) l (length w)) l) (Some l) None) None))
-        (flip_all_flipped (poly c) l w (λ i. get_or at i 0) (length at) P.inside (λ i j a b e. let t = P.in_order i j a b in omega arith) P.root P.all
-        ∙ sym (if_pos (dec_le l 12) fit (flipped (poly c) l w) w))
+    found r w' e f =
+        located_by w w' r (poly c) l (shortest_ext R16 (poly s) (syndrome w) 24 (poly c) l syn (record { gen = R.gen fit; short = R.short }))
+        (e ∙ sym (if_pos (dec_le l 12) fit _ None)) (f ∙ sym (if_pos (dec_le l 12) fit _ w))
 
     counted : flips (poly c) l (length w) ≡ length at
     unfolding flips
     counted = sym P.many
 
-    -- as many flips as the register is long: corrected
-    pub all_found : length at ≡ l → Located w (flip_all w (λ i. get_or at i 0) (length at)) (Some l)
-    all_found e = found _ (sym (if_pos (ℕ_discrete (flips (poly c) l (length w)) l) (counted ∙ e) (Some l) None))
+    flipped_all : flip_all w (λ i. get_or at i 0) (length at) ≡ flipped (poly c) l w
+    flipped_all =
+        flip_all_flipped (poly c) l w (λ i. get_or at i 0) (length at) P.inside (λ i j a b e. let t = P.in_order i j a b in omega arith) P.root P.all
 
-    -- fewer: uncorrectable, flips left in place
-    pub some_missing : length at ≢ l → Located w (flip_all w (λ i. get_or at i 0) (length at)) None
-    some_missing ne = found _ (sym (if_neg (ℕ_discrete (flips (poly c) l (length w)) l) (λ e. ne (sym counted ∙ e)) (Some l) None))
+    -- as many present roots as the register is long: corrected
+    pub all_found : length at ≡ l → Located w (flip_all w (λ i. get_or at i 0) (length at)) (Some l)
+    all_found e =
+        found (Some l) _ (sym (if_pos (ℕ_discrete (flips (poly c) l (length w)) l) (counted ∙ e) (Some l) None))
+        (flipped_all ∙ sym (if_pos (ℕ_discrete (flips (poly c) l (length w)) l) (counted ∙ e) (flipped (poly c) l w) w))
+
+    -- fewer: uncorrectable
+    pub some_missing : length at ≢ l → Located w w None
+    some_missing ne =
+        found None w (sym (if_neg (ℕ_discrete (flips (poly c) l (length w)) l) (λ e. ne (sym counted ∙ e)) (Some l) None))
+        (sym (if_neg (ℕ_discrete (flips (poly c) l (length w)) l) (λ e. ne (sym counted ∙ e)) (flipped (poly c) l w) w))

@@ -1,6 +1,7 @@
 -- What decoding a word gives, in the words of the scope: "A codeword gives 0. Otherwise take the shortest register generating syndromes
 -- S1 to S24. Length over 12: uncorrectable, word unchanged. Otherwise flip each present position whose root it has; if fewer flips
--- than its length, uncorrectable, flips left in place."
+-- than its length, uncorrectable"; and of a later request, in place of flips left there: "When BCH calls a word uncorrectable, every byte
+-- of it must be as it came in."
 use Rattle.std.specs.Prelude.{◌≡◌, List, [], ◌∷◌, ℕ, ◌+◌, length, Option, Some, None}
 use Rattle.std.proofs.Math.Logic.{ite}
 use Rattle.std.proofs.Math.Decide.{ℕ_discrete, dec_le}
@@ -25,16 +26,17 @@ unfoldable pub flipped : (ℕ → El 15) → ℕ → List ℕ → List ℕ
 flipped c l [] = []
 flipped c l (b ∷ w) = where_root c l (length w) (b ⊕ 1) b ∷ flipped c l w
 
--- how many of the positions of powers below n are flipped
+-- at how many of the positions of powers below n the register has the root: so many are flipped, if any
 unfoldable pub flips : (ℕ → El 15) → ℕ → ℕ → ℕ
 flips c l n = zeros gf16 n (value_at c l)
 
--- "Length over 12: uncorrectable, word unchanged. Otherwise flip ..": the answer by a shortest register c of length l, and the bytes that it leaves
+-- "Length over 12: uncorrectable, word unchanged. Otherwise flip ..": the answer by a shortest register c of length l, and the bytes that it leaves,
+-- flipped or "as it came in"
 unfoldable pub answer_by : (ℕ → El 15) → ℕ → List ℕ → Option ℕ
 answer_by c l w = ite (dec_le l 12) (ite (ℕ_discrete (flips c l (length w)) l) (Some l) None) None
 
 unfoldable pub left_by : (ℕ → El 15) → ℕ → List ℕ → List ℕ
-left_by c l w = ite (dec_le l 12) (flipped c l w) w
+left_by c l w = ite (dec_le l 12) (ite (ℕ_discrete (flips c l (length w)) l) (flipped c l w) w) w
 
 -- "Otherwise take the shortest register": whichever shortest one is taken, r is its answer to w, and w' are the bytes that it leaves. There
 -- always is one (algebra, Massey: `shortest_exists`).

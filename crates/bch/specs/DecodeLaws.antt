@@ -31,7 +31,7 @@ module _ (w : List ℕ) (c : ℕ → El 15) (l : ℕ) (c' : ℕ → El 15) (l' :
 
   same_left : left_by c l w ≡ left_by c' l' w
   unfolding left_by
-  same_left = same_by (λ c l. flipped c l w) w w c l c' l' S S'
+  same_left = same_by (λ c l. ite (ℕ_discrete (flips c l (length w)) l) (flipped c l w) w) w w c l c' l' S S'
 
 pub any_answer : (w : List ℕ) (c : ℕ → El 15) (l : ℕ) → Shortest R16 (syndrome w) 24 c l → answer_by (register w).0 (register w).1 w ≡ answer_by c l w
 any_answer w c l S = same_answer w (register w).0 (register w).1 c l (register w).2 S

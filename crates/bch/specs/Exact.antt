@@ -1,5 +1,6 @@
--- What is exact in decoding: it corrects exactly when a codeword of that length lies within 12 bits, and to the only such codeword.
-use Rattle.std.specs.Prelude.{◌≡◌, ◌↔◌, List, ℕ, ◌≤◌, length, Option, Some}
+-- What is exact in decoding: it corrects exactly when a codeword of that length lies within 12 bits, and to the only such codeword; any other
+-- word it leaves as it came in.
+use Rattle.std.specs.Prelude.{◌≡◌, ◌↔◌, List, ℕ, ◌≤◌, length, Option, Some, None}
 use Rattle.bch_remainder.specs.Word.{Codeword}
 use Rattle.bch.specs.Distance.{distance, low_bits, high_bits}
 
@@ -18,5 +19,7 @@ pub record Exact (w w' : List ℕ) (r : Option ℕ) : Type 0 where
   pub count : (k : ℕ) → r ≡ Some k → Near w w' × (distance w w' ≡ k)
   -- and that codeword is the only one within 12 (a fact of the code, whatever was answered: `minimum_distance`);
   pub only : (u v : List ℕ) → Near w u → Near w v → low_bits u ≡ low_bits v
-  -- the other bits of its bytes are as they were
+  -- the other bits of its bytes are as they were;
   pub rest : high_bits w' ≡ high_bits w
+  -- and "when BCH calls a word uncorrectable, every byte of it must be as it came in"
+  pub untouched : r ≡ None → w' ≡ w

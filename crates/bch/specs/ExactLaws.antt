@@ -66,12 +66,26 @@ module _ (w : List ℕ) (size : length w ≤ 65535) where
 
   rest_by_register : high_bits (left_of w) ≡ high_bits w
   unfolding left_of left_by c l
-  rest_by_register = pick (ℕ_discrete (remainder_of w) 0) (dec_le l 12)
+  rest_by_register = pick (ℕ_discrete (remainder_of w) 0) (dec_le l 12) (ℕ_discrete (flips c l (length w)) l)
     where
-      pick : (d : Dec (remainder_of w ≡ 0)) (e : Dec (l ≤ 12)) → high_bits (ite d w (ite e (flipped c l w) w)) ≡ high_bits w
-      pick (yes z) e = refl
-      pick (no z) (yes e) = flipped_rest c l w
-      pick (no z) (no e) = refl
+      pick : (d : Dec (remainder_of w ≡ 0)) (e : Dec (l ≤ 12)) (f : Dec (flips c l (length w) ≡ l))
+          → high_bits (ite d w (ite e (ite f (flipped c l w) w) w)) ≡ high_bits w
+      pick (yes z) e f = refl
+      pick (no z) (yes e) (yes f) = flipped_rest c l w
+      pick (no z) (yes e) (no f) = refl
+      pick (no z) (no e) f = refl
+
+  -- uncorrectable: by a register that is too long, or that has too few present roots
+  untouched_by_register : answer_of w ≡ None → left_of w ≡ w
+  unfolding answer_of left_of answer_by left_by c l
+  untouched_by_register = pick (ℕ_discrete (remainder_of w) 0) (dec_le l 12) (ℕ_discrete (flips c l (length w)) l)
+    where
+      pick : (d : Dec (remainder_of w ≡ 0)) (e : Dec (l ≤ 12)) (f : Dec (flips c l (length w) ≡ l))
+          → ite d (Some 0) (ite e (ite f (Some l) None) None) ≡ None → ite d w (ite e (ite f (flipped c l w) w) w) ≡ w
+      pick (yes z) e f q = refl
+      pick (no z) (yes e) (yes f) q = let t : ◌≡◌ {A = ℕ} 0 1 = cc in absurd (omega arith)
+      pick (no z) (yes e) (no f) q = refl
+      pick (no z) (no e) f q = refl
 
   -- corrected: by a clean word, or by a register with all its roots
   counted : (k : ℕ) → answer_of w ≡ Some k → Near w (left_of w) × (distance w (left_of w) ≡ k)
@@ -80,7 +94,7 @@ module _ (w : List ℕ) (size : length w ≤ 65535) where
     where
       pick : (d : Dec (remainder_of w ≡ 0)) (e : Dec (l ≤ 12)) (f : Dec (flips c l (length w) ≡ l))
           → ite d (Some 0) (ite e (ite f (Some l) None) None) ≡ Some k
-          → Near w (ite d w (ite e (flipped c l w) w)) × (distance w (ite d w (ite e (flipped c l w) w)) ≡ k)
+          → Near w (ite d w (ite e (ite f (flipped c l w) w) w)) × (distance w (ite d w (ite e (ite f (flipped c l w) w) w)) ≡ k)
       pick (yes z) e f q = let t : 0 ≡ k = cc in (itself (remainder_codeword w z), distance_self w ∙ t)
       pick (no z) (yes e) (yes f) q =
           let t : l ≡ k = cc in
@@ -97,6 +111,7 @@ module _ (w : List ℕ) (size : length w ≤ 65535) where
         count = counted;
         only = λ u v M N. sym (near_bits u M) ∙ near_bits v N;
         rest = rest_by_register;
+        untouched = untouched_by_register;
       }
 
 -- ---- by themselves: every pattern of up to 12 errors on a codeword is corrected

@@ -67,4 +67,6 @@ module _ (w v : List ℕ) (size : length w ≤ 65535) (same : length v ≡ lengt
 
   pub within_bits : low_bits (left_by c l w) ≡ low_bits v
   unfolding left_by ε
-  within_bits = ap low_bits (if_pos (dec_le l 12) short (flipped c l w) w) ∙ flipped_bits c l w v same hit miss
+  within_bits =
+      ap low_bits (if_pos (dec_le l 12) short _ w ∙ if_pos (ℕ_discrete (flips c l (length w)) l) flips_are (flipped c l w) w)
+      ∙ flipped_bits c l w v same hit miss

@@ -55,7 +55,7 @@ pub fn encode(message: &[u8], out: &mut [u8]) -> Result<(), Refusal>
 }
 
 // A word is corrected in place: exactly when a codeword of its length lies within 12 bits, and to the only such codeword. How many of its bits
-// were changed, or None where there is no such codeword.
+// were changed, or None where there is no such codeword; the word is then as it was, byte for byte.
 pub fn decode(word: &mut [u8]) -> Result<Option<u32>, Refusal>
     ensures { Decodes word.old word.new result }
 {
@@ -70,19 +70,18 @@ pub fn decode(word: &mut [u8]) -> Result<Option<u32>, Refusal>
     Ok(correct(word, r))
 }
 
-// A word that is no codeword, by its remainder: the shortest register's roots are flipped.
+// A word that is no codeword, by its remainder: the shortest register's roots are flipped, if they are as many as it is long.
 fn correct(word: &mut [u8], r: Reg) -> Option<u32>
     requires { (193 ≤ length word.old) × (length word.old ≤ 65535) × (value_of r ≡ remainder_of word.old) }
     ensures { Located word.old word.new result }
 {
     let register = Register::shortest(bch_locator::syndromes(r))?;
     let found = register.chien(word.len());
-    flip(word, found.as_slice());
-    if found.len() == register.len {
-        Some(register.len as u32)
-    } else {
-        None
+    if found.len() != register.len {
+        return None;
     }
+    flip(word, found.as_slice());
+    Some(register.len as u32)
 }
 
 // The low bits of the positions of these powers turned.

@@ -1,21 +1,21 @@
--- The BCH part of a word: what its correction inside the word gives. Proofs, not specs, since a wrong `part_of` shall be refused for what it means
--- (must-fail/bch_part_one_byte_on.edit) and not for these theorems.
-use Rattle.std.proofs.Common.{◌≡◌, ◌≢◌, ◌↔◌, ◌⊎◌, ℕ, ◌+◌, ◌-◌, ◌≤◌, length, take, Option, Some, None, Result, Ok, ◌∙◌, arith, length-append, length-take, length-drop, drop-drop, drop_at, List, ◌++◌}
+-- The BCH part of a word: what its correction inside the word gives. Proofs, not specs, since a wrong `part_of` (must-fail/bch_part_one_byte_on.edit) makes
+-- them false.
+use Rattle.std.proofs.Common.{◌≡◌, ◌≢◌, ◌↔◌, ◌⊎◌, ℕ, ◌+◌, ◌-◌, ◌≤◌, length, take, Option, Some, None, Result, Ok, IfOk, ◌∙◌, arith, length-append, length-take, length-drop, drop-drop, drop_at, List, ◌++◌}
 use Rattle.std.proofs.Math.Path.{refl, sym, ap, subst}
 use Rattle.std.proofs.Math.Logic.{inl, inr}
 use Rattle.std.proofs.Math.ListN.{drop}
 use Rattle.std.proofs.Math.Seq.{take_at}
+use Rattle.std.proofs.lemmas.List.{take-append-drop}
 use Rattle.bch.specs.Distance.{distance}
-use Rattle.bch.specs.Decode.{answer_of, left_of}
+use Rattle.bch.specs.Decode.{answer_of}
 use Rattle.bch.specs.Exact.{Near, Exact}
-use Rattle.bch.specs.ExactLaws.{exact}
 use Rattle.bch.specs.Answers.{word_refusal, decoded_of, word_out}
-use Rattle.bch.specs.AnswersLaws.{fair_word, changed}
+use Rattle.bch.specs.AnswersLaws.{fair_word}
+use Rattle.bch.proofs.Decodes.{decodes, word_length}
 use Rattle.refusal.specs.declared.Refusal.{Refusal}
 use Rattle.refusal.specs.NumberLaws.{accepted}
 use Rattle.decoder_plan.specs.declared.Part.{Part}
 use Rattle.outcome.specs.Outcome.{part_of, corrected, lost, bch_result, bch_of}
-use Rattle.outcome.specs.Laws.{word_length}
 use Rattle.outcome.specs.Corrected.{PartInside}
 
 pub corrected_length : (part : Part) (b : List ℕ) → length (corrected part b) ≡ length b
@@ -61,13 +61,10 @@ module _ (part : Part) (b : List ℕ) (P : PartInside part b) where
   unfolding decoded_of
   answered = accepted (word_refusal (length bits)) (answer_of bits) fair
 
-  left : word_out bits ≡ left_of bits
-  unfolding word_out
-  left = sym (changed (word_refusal (length bits)) (left_of bits) bits fair)
-
-  -- it is corrected exactly when a codeword of its length lies within 12 bits, and to that codeword
+  -- as `bch::decode` promises: it is corrected exactly when a codeword of its length lies within 12 bits, and to that codeword, and otherwise it is left as it
+  -- came in
   part_exact : Exact bits (word_out bits) (answer_of bits)
-  part_exact = subst (λ (x : List ℕ). Exact bits x (answer_of bits)) (sym left) (exact bits (omega (arith, part_length, P.most)))
+  part_exact = subst (λ (r : Result (Option ℕ) Refusal). IfOk r (Exact bits (word_out bits))) answered (decodes bits).exact
 
   result : bch_of part b ≡ bch_result (Ok (answer_of bits))
   unfolding bch_of
@@ -96,6 +93,20 @@ module _ (part : Part) (b : List ℕ) (P : PartInside part b) where
 
       back : (k : ℕ) × (answer_of bits ≡ Some k) → bch_result (Ok (answer_of bits)) ≢ lost
       back h q = let e : h.0 ≡ 4294967295 = sym (ap (λ d. bch_result (Ok d)) h.1) ∙ q in omega (arith, e, few h.0 h.1)
+
+  -- a lost word is as it was, every byte of it
+  pub lost_untouched : bch_of part b ≡ lost → corrected part b ≡ b
+  unfolding corrected bch_result lost
+  lost_untouched q =
+      let first = part.first in
+      let size = part.length in
+      ap (λ (x : List ℕ). take first b ++ (x ++ drop (first + size) b)) (part_exact.untouched (go (answer_of bits) refl))
+      ∙ ap (λ (x : List ℕ). take first b ++ (bits ++ x)) (sym (drop-drop size first b))
+      ∙ ap (λ (x : List ℕ). take first b ++ x) (take-append-drop size (drop first b)) ∙ take-append-drop first b
+    where
+      go : (d : Option ℕ) → answer_of bits ≡ d → answer_of bits ≡ None
+      go (Some k) e = let m : k ≡ 4294967295 = sym (ap (λ d. bch_result (Ok d)) e) ∙ sym result ∙ q in absurd (omega (arith, m, few k e))
+      go None e = e
 
   -- the part that stands in the word at the end
   part_out : part_of part (corrected part b) ≡ word_out bits

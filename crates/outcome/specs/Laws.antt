@@ -1,14 +1,8 @@
--- What holds of a word's bits, of its corrected bits, and of words kept and lost.
-use Rattle.std.specs.Prelude.{◌≡◌, refl, Bool, true, false, cond, List, [], ◌∷◌, ◌++◌, ℕ, zero, suc, ◌+◌, ◌≤◌, ◌<◌, length, get_or, take, set}
+-- What holds of a word's bits, and of words kept and lost.
+use Rattle.std.specs.Prelude.{◌≡◌, refl, Bool, true, false, cond, List, [], ◌∷◌, ◌++◌, ℕ, zero, suc, ◌+◌, ◌<◌, length, get_or, take, set}
 use Rattle.std.proofs.Common.{sym, ap, ap₂, ◌∙◌, arith, add-one, take-suc-set}
-use Rattle.std.proofs.Math.Logic.{if_pos, if_neg}
-use Rattle.std.proofs.Math.Decide.{ℕ_discrete, dec_le}
 use Rattle.iteration.specs.Check.{Word}
 use Rattle.iteration.specs.Iteration.{hard}
-use Rattle.bch_remainder.specs.Word.{remainder_of}
-use Rattle.bch.specs.Decode.{register, left_by, left_of, flipped}
-use Rattle.bch.specs.Flips.{flipped_length}
-use Rattle.bch.specs.Answers.{out_if, word_refusal, word_out}
 use Rattle.outcome.specs.Outcome.{bits_from, bits_of, is_finished, is_lost, lost_of, kept_of}
 
 -- ---- hard decisions
@@ -52,27 +46,6 @@ bits_again x i b out h e f =
     ∙ ap₂ (λ (l : List ℕ) (y : ℕ). l ++ (y ∷ [])) e (f ∙ ap (λ (k : ℕ). hard (x.L k)) (sym z))
     ∙ sym (bits_from_snoc x 0 i)
     ∙ ap (λ (k : ℕ). bits_from x 0 k) (sym (add-one i))
-
--- ---- BCH keeps a word's length
-left_length : (w : List ℕ) → length (left_of w) ≡ length w
-unfolding left_of left_by
-left_length w = whole (ℕ_discrete (remainder_of w) 0)
-  where
-    by : Dec ((register w).1 ≤ 12) → length (left_by (register w).0 (register w).1 w) ≡ length w
-    by (yes h) = ap length (if_pos (dec_le (register w).1 12) h (flipped (register w).0 (register w).1 w) w) ∙ flipped_length (register w).0 (register w).1 w
-    by (no h) = ap length (if_neg (dec_le (register w).1 12) h (flipped (register w).0 (register w).1 w) w)
-
-    whole : Dec (remainder_of w ≡ 0) → length (left_of w) ≡ length w
-    whole (yes h) = ap length (if_pos (ℕ_discrete (remainder_of w) 0) h w (left_by (register w).0 (register w).1 w))
-    whole (no h) = ap length (if_neg (ℕ_discrete (remainder_of w) 0) h w (left_by (register w).0 (register w).1 w)) ∙ by (dec_le (register w).1 12)
-
-pub word_length : (w : List ℕ) → length (word_out w) ≡ length w
-unfolding word_out out_if
-word_length w = go (ℕ_discrete (word_refusal (length w)) 0)
-  where
-    go : Dec (word_refusal (length w) ≡ 0) → length (out_if (word_refusal (length w)) (left_of w) w) ≡ length w
-    go (yes h) = ap length (if_pos (ℕ_discrete (word_refusal (length w)) 0) h (left_of w) w) ∙ left_length w
-    go (no h) = ap length (if_neg (ℕ_discrete (word_refusal (length w)) 0) h (left_of w) w)
 
 -- ---- a finished word is kept or lost, and no other is either
 pub kept_or_lost : (state bch : ℕ) → kept_of state bch + lost_of state bch ≡ cond (is_finished state) 1 0

@@ -1,6 +1,6 @@
 // Writes the generator, then replays the Rust's BCH answers. Standard input has vectors of 148 bytes, described in
 // compare/oracle/src/bin/bch.rs: how to make a word, and what the Rust's `encode` and `decode` made of
-// it.
+// it. An uncorrectable word stays as it came, where the Rust leaves flips in some.
 #![tactic(auto)]
 
 use std::io::{self, Read, Stdin};
@@ -13,7 +13,7 @@ enum HighBits {
     Clear,
 }
 
-// A vector: how to make a word, and what the Rust's `encode` and `decode` made of it.
+// A vector: how to make a word, what the Rust's `encode` and `decode` made of it, and the word after decoding.
 #[derive(Clone, Copy)]
 struct Vector<'a> {
     n: usize,
@@ -103,7 +103,7 @@ impl<'a> Vector<'a> {
             && front.all(|(i, byte)| byte % 2 == u8::from(bit(&self.front, i)))
     }
 
-    // Whether a word is encoded and decoded as the Rust did, in the front of the two buffers.
+    // Whether a word is encoded and decoded as the vector says, in the front of the two buffers.
     fn replay(self, message: &mut [u8; 65343], word: &mut [u8; 65535]) -> bool {
         if !(193..=65535).contains(&self.n) {
             return false;

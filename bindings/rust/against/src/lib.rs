@@ -56,6 +56,29 @@ impl Draw {
     }
 }
 
+/// 193 bits whose register has roots at `absent` places outside the word, 1 or more, and at `present` inside, at most 12
+/// in all: BCH gives it up, and the original leaves `present` bits changed.
+pub fn given_up(d: &mut Draw, present: usize, absent: usize) -> Vec<u8> {
+    let mut word = [0; 193];
+    for i in 0..absent {
+        // x^p mod g for a place p past the word
+        let mut message = vec![0; 100 + 100 * i + d.below(100)];
+        message[0] = 1;
+        for (w, r) in word[1..].iter_mut().zip(oracle::bch::parity(&message)) {
+            *w ^= r;
+        }
+    }
+    let mut left = present;
+    while left > 0 {
+        let at = d.below(193);
+        if word[at] < 2 {
+            word[at] = 2 + (word[at] ^ 1);
+            left -= 1;
+        }
+    }
+    word.iter().map(|b| b & 1).collect()
+}
+
 /// A table as `Code::new` takes it.
 pub fn rows(table: &[Vec<u16>]) -> Vec<&[u16]> {
     table.iter().map(Vec::as_slice).collect()

@@ -1,18 +1,19 @@
-//! A run against the original's `decode_all_traced` with its `bch::decode` after it: records, bits and tally, at every
-//! kind of round limit.
+//! A run against the original's `decode_all_traced` with its `bch::decode` after it, but that lost words stay as they
+//! were: records, bits and tally, at every kind of round limit.
 
-use against::{Draw, rows, words};
+use against::{Draw, given_up, rows, words};
 use oracle::ldpc::fixed::{Decoder, Params, Schedule};
 use raxdov::bch::Uncorrectable;
 use raxdov::run::{Ending, Ran, Runner, Settings, State};
 
-/// A word of the original: its bits after 0, 1, 2, .. iterations; whether it met every check; what BCH left of its last
-/// bits, and what it said.
+/// A word of the original: its bits after 0, 1, 2, .. iterations; whether it met every check; its last bits, corrected by
+/// BCH if it is not lost; what BCH said, and how many bits of a lost word it left changed.
 struct Alone {
     bits: Vec<Vec<u8>>,
     met: bool,
     after: Vec<u8>,
     bch: Result<u32, Uncorrectable>,
+    flips: usize,
 }
 
 fn alone(code: &oracle::ldpc::Code, soft: &[i8], settings: &Settings) -> Alone {
@@ -29,12 +30,13 @@ fn alone(code: &oracle::ldpc::Code, soft: &[i8], settings: &Settings) -> Alone {
         Decoder::<1>::default().decode_all_traced(code, &[soft], p, |_, b| bits.push(b.to_vec()));
     let (result, mut after) = results[0].clone();
     let part = settings.first as usize..(settings.first + settings.length) as usize;
-    let bch = oracle::bch::decode(&mut after[part]);
+    let bch = oracle::decode_or_leave(&mut after[part]);
     Alone {
         bits,
         met: result.is_ok(),
         after,
         bch: bch.map(|count| count as u32).map_err(|_| Uncorrectable),
+        flips: bch.err().map_or(0, |lost| lost.flips),
     }
 }
 
@@ -129,6 +131,8 @@ fn runs() {
     let mut runner = Runner::new();
     let mut states = [0; 4];
     let (mut corrected, mut lost) = (0, 0);
+    // lost words with bits that the original's BCH leaves changed, by state
+    let mut flipped = [0; 4];
     // words with bits changed by LDPC, by state; those where it counts that BCH comes behind
     let (mut changed, mut before_bch) = ([0; 4], 0);
     for _ in 0..150 {
@@ -138,7 +142,7 @@ fn runs() {
         let n = 374 * groups;
         let code = oracle::ldpc::Code::new(n, &rows(&table));
         let ours = raxdov::ldpc::Code::new(n, &rows(&table));
-        let length = 193 + d.below(n - 193 + 1).min(d.below(400));
+        let length = 193 + d.below(2) * d.below(n - 193 + 1).min(d.below(400));
         let settings = Settings {
             lanes: [1, 2, 3, 8, 16, 33, 64][d.below(7)],
             limit: [0, 1, 3, 8][d.below(4)],
@@ -155,12 +159,19 @@ fn runs() {
         };
         let soft: Vec<Vec<i8>> = (0..d.below(24))
             .map(|_| {
-                // a BCH word in its part, where it lies in the information; else whatever comes
+                // a BCH word in its part, where it lies in the information, or one that BCH gives up; else whatever
+                // comes
                 let mut info = d.bytes(code.k(), false);
                 let part = settings.first as usize..(settings.first as usize + length);
                 if part.end <= info.len() {
                     let message = info[part.start..part.end - 192].to_vec();
-                    info[part].copy_from_slice(&oracle::bch::encode(&message));
+                    let (present, absent) = (1 + d.below(6), 1 + d.below(6));
+                    let word = if length == 193 && d.below(2) == 0 {
+                        given_up(&mut d, present, absent)
+                    } else {
+                        oracle::bch::encode(&message)
+                    };
+                    info[part].copy_from_slice(&word);
                 }
                 let noise = [0, 4, 7, 10][d.below(4)];
                 d.soft(&code.encode(&info), 20, noise)
@@ -178,14 +189,16 @@ fn runs() {
             states[record.state as usize] += 1;
             corrected += usize::from(matches!(record.bch, Ok(1..)));
             lost += usize::from(record.bch.is_err());
+            let finished = matches!(record.state, State::Met | State::Unmet);
+            flipped[record.state as usize] += usize::from(finished && alone[w].flips > 0);
             changed[record.state as usize] += usize::from(record.changed > 0);
             let after = distance(&out[n * w..n * (w + 1)], &alone[w].bits[0]);
-            let finished = matches!(record.state, State::Met | State::Unmet);
             before_bch += usize::from(finished && record.changed as usize != after);
         }
     }
     assert!(states.iter().all(|&count| count > 50), "{states:?}");
     assert!(corrected > 20 && lost > 50, "{corrected} {lost}");
+    assert!(flipped[2..].iter().all(|&count| count > 10), "{flipped:?}");
     assert!(changed[1..].iter().all(|&count| count > 50), "{changed:?}");
     assert!(before_bch > 20, "{before_bch}");
 }

@@ -268,8 +268,8 @@ impl<const W: usize> Decoder<W> {
             .collect()
     }
 
-    /// The words of one run. Lanes that are done take further words, and the words whose bits BCH may have changed
-    /// beyond repair are decoded again.
+    /// The words of one run. Lanes that are done take further words, and the words whose bits before BCH can't be told
+    /// are decoded again.
     fn decode_some(&mut self, code: &Code, words: &[&[i8]], p: Params) -> Vec<Word> {
         let lanes = W.min(LANES);
         if words.len() <= lanes {
@@ -410,27 +410,24 @@ fn calls(lanes: usize, iterations: &[usize]) -> Vec<(usize, usize)> {
     }
 }
 
-/// A word's result and its bits before BCH, from its record and its bits after; none if the bits before can't be told.
+/// A word's result and its bits before BCH, from its record and its bits after; none of a word with checks unmet that
+/// BCH corrected: its bits before can't be told. BCH leaves lost words and held ones as they are.
 fn before_bch(code: &Code, record: &Record, bits: &mut [u8]) -> Option<Word> {
     let (iterations, unsatisfied) = (record.iterations as usize, record.unsatisfied as usize);
-    let not = Err(NotConverged {
-        iterations,
-        unsatisfied,
-    });
-    let part = bits.len() - PART;
+    let corrected = matches!(record.bch, Ok(1..));
     let result = match record.state {
+        State::Waiting => panic!("a word was not taken"),
+        State::Unmet if corrected => return None,
+        State::Unmet | State::Held => Err(NotConverged {
+            iterations,
+            unsatisfied,
+        }),
         State::Met => {
-            if record.bch != Ok(0) {
+            if corrected {
                 meet_last_checks(code, bits);
             }
             Ok(Decoded { iterations })
         }
-        // held: BCH comes when a word is finished
-        State::Held => not,
-        State::Unmet if record.bch == Ok(0) => not,
-        State::Unmet if record.bch.is_err() && surely_unchanged(&bits[part..]) => not,
-        State::Unmet => return None,
-        State::Waiting => panic!("a word was not taken"),
     };
     Some((result, bits.to_vec()))
 }
@@ -442,18 +439,6 @@ fn meet_last_checks(code: &Code, bits: &mut [u8]) {
             bits[last as usize] = others.iter().fold(0, |a, &v| a ^ bits[v as usize]);
         }
     }
-}
-
-/// Whether BCH, which gave this part up, surely changed nothing in it. Had it changed f bits with a register of length L
-/// at most 12, then the part as it is now has a register of length L − f without a present root, so that one more error
-/// would give length L − f + 1, at most 12, with the error's place as only present root, and BCH would take the error
-/// back. So where it does not, nothing was changed. (docs/DECISIONS.md has the reason for the register of length L − f.)
-fn surely_unchanged(part: &[u8]) -> bool {
-    let mut probe = part.to_vec();
-    probe[0] ^= 1;
-    let wrong = probe[0];
-    archive::bch_decode(&mut probe).unwrap_or_else(|refused| panic!("{refused}"));
-    probe[0] == wrong
 }
 
 #[cfg(test)]

@@ -1,5 +1,5 @@
 //! Writes the records that `crates/vectors_bch` replays: how to make a word, and what the original's
-//! `encode` and `decode` make of it.
+//! `encode` and `decode` make of it. A word that `decode` calls uncorrectable is kept as it came.
 //!
 //! A record has 148 bytes, its numbers lowest byte first:
 //!
@@ -22,8 +22,9 @@
 //! low bit alone; their codeword; the errors flipped; the pattern times x^shift added; and, where bytes
 //! have high bits, twice (place mod 128) added to the parity bytes.
 
-use oracle::bch::{PARITY, decode, encode};
+use oracle::bch::{PARITY, encode};
 use oracle::poly::{Poly, add, power, product, times};
+use oracle::{Lost, decode_or_leave};
 use std::io::Write;
 
 const N_MAX: u32 = 65_535;
@@ -86,19 +87,18 @@ impl Case {
 struct Counts {
     clean: u32,
     corrected: u32,
-    unchanged: u32,
-    flipped: u32,
+    no_flips: u32,
+    taken_back: u32,
 }
 
 fn record(case: &Case, counts: &mut Counts) -> Vec<u8> {
-    let before = case.word();
-    let mut word = before.clone();
-    let result = decode(&mut word);
+    let mut word = case.word();
+    let result = decode_or_leave(&mut word);
     *match result {
         Ok(0) => &mut counts.clean,
         Ok(_) => &mut counts.corrected,
-        Err(_) if word == before => &mut counts.unchanged,
-        Err(_) => &mut counts.flipped,
+        Err(Lost { flips: 0 }) => &mut counts.no_flips,
+        Err(_) => &mut counts.taken_back,
     } += 1;
     let mut r = Vec::new();
     r.extend(case.n.to_le_bytes());
@@ -163,6 +163,44 @@ impl Choice {
             pattern: Vec::new(),
         }
     }
+
+    /// Errors inside, and outside: x^p mod g with p at or past the length.
+    fn roots_outside(&mut self, n: u32, high: bool) -> Vec<Case> {
+        let kinds = [
+            (0, vec![n]),
+            (1, vec![N_MAX - 1]),
+            (5, vec![n, n + 1]),
+            (11, vec![n + 7]),
+            (3, Vec::new()),
+        ];
+        let kinds = kinds.into_iter().map(|(inside, outside)| {
+            let mut case = self.case(n, high, inside);
+            case.pattern = vec![0; PARITY];
+            let outside = if outside.is_empty() {
+                (0..9).map(|_| n + self.below(N_MAX - n)).collect()
+            } else {
+                outside
+            };
+            for p in outside {
+                add(&mut case.pattern, &power(p));
+            }
+            case
+        });
+        kinds.collect()
+    }
+}
+
+/// A shortest word that the original leaves changed: x^193 mod g with its last bit turned. The message of seed 0 is the bit 0, so
+/// the codeword is 0.
+fn shortest(high: bool) -> Case {
+    Case {
+        n: 193,
+        seed: 0,
+        high,
+        errors: vec![192],
+        shift: 0,
+        pattern: power(193),
+    }
 }
 
 fn main() {
@@ -185,27 +223,8 @@ fn main() {
             cases.push(choice.case(n, true, errors));
         }
     }
-    // errors inside, and outside: x^p mod g with p at or past the length
     for n in [193, 196, 200, 255, 256, 1000, 31_968, 44_880] {
-        for (inside, outside) in [
-            (0, vec![n]),
-            (1, vec![N_MAX - 1]),
-            (5, vec![n, n + 1]),
-            (11, vec![n + 7]),
-            (3, Vec::new()),
-        ] {
-            let mut case = choice.case(n, false, inside);
-            case.pattern = vec![0; PARITY];
-            let outside = if outside.is_empty() {
-                (0..9).map(|_| n + choice.below(N_MAX - n)).collect()
-            } else {
-                outside
-            };
-            for p in outside {
-                add(&mut case.pattern, &power(p));
-            }
-            cases.push(case);
-        }
+        cases.extend(choice.roots_outside(n, false));
     }
     // multiples of the first six entries: the first twelve syndromes vanish, so the register is longer than 12
     let six = product(6);
@@ -221,18 +240,23 @@ fn main() {
             cases.push(case);
         }
     }
+    // a shortest lost word in which the original leaves a flip, without high bits and with; then roots outside again, with high bits
+    cases.extend([false, true].map(shortest));
+    for n in [193, 200, 256, 1000, 44_880] {
+        cases.extend(choice.roots_outside(n, true));
+    }
     let mut counts = Counts::default();
     let mut out = Vec::new();
     for case in &cases {
         out.extend(record(case, &mut counts));
     }
     eprintln!(
-        "{} words: {} codewords, {} corrected, {} uncorrectable and unchanged, {} uncorrectable with flips",
+        "{} words: {} codewords, {} corrected, {} uncorrectable without flips of the original, {} uncorrectable with flips of the original taken back",
         cases.len(),
         counts.clean,
         counts.corrected,
-        counts.unchanged,
-        counts.flipped
+        counts.no_flips,
+        counts.taken_back
     );
     std::io::stdout().write_all(&out).unwrap();
 }

@@ -12,7 +12,8 @@
 //! it is negated by chance of c in 256, any value by chance of d, one of -128, -1, 0, 1, 127 by chance of e; then clamped.
 //!
 //! In the second file a case has a line, and each of its words one: state, iterations, unsatisfied checks, BCH result, 1 (the
-//! named check is right), and the bits that LDPC changed.
+//! named check is right), and the bits that LDPC changed. A lost word's bits, in the sum over the output, are those that LDPC left:
+//! the original's flips are taken back.
 //!
 //! The output is lent with (7i + 13) mod 251 at place i, work with 77, lists with 777,777,777, and the tally with 901 to 905.
 
@@ -265,11 +266,11 @@ impl Seen {
                         (State::Met, _) => "met after some",
                         _ => "unmet",
                     };
-                    let bch = match (bch, word.flipped) {
+                    let bch = match (bch, word.taken_back) {
                         (Some(0), _) => "clean",
                         (Some(_), _) => "corrected",
-                        (None, false) => "lost unchanged",
-                        (None, true) => "lost with flips",
+                        (None, false) => "lost without flips of the original",
+                        (None, true) => "lost with flips of the original taken back",
                     };
                     format!("{state} {bch}")
                 }
@@ -309,7 +310,7 @@ impl Choice {
         }
     }
 
-    /// A BCH word: with up to 12 errors; or (13) uncorrectable and unchanged; or (14) uncorrectable with flips left.
+    /// A BCH word: with up to 12 errors; or (13) uncorrectable, without flips of the original; or (14) with them.
     fn part(&mut self, length: usize, kind: usize) -> Vec<u8> {
         loop {
             let message = self.bits(length - bch::PARITY);

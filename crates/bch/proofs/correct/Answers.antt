@@ -13,14 +13,13 @@ returns-in_err-register c =
 
 pub returns-then-len-register : goal.returns-then-len-register
 returns-then-len-register c =
+    some_missing c.args.word.now c.syndromes.result c.in_ok-register.register.c c.in_ok-register.register.len
+    (λ j h. c.syndromes.ensures.at j h ∙ of_remainder c.args.word.now (value_of c.args.r) j c.requires.2 h)
+    c.in_ok-register.ensures.0 c.in_ok-register.ensures.1 c.chien-found.result.items c.chien-found.ensures (omega arith)
+
+pub returns : goal.returns
+returns c =
     located_to _ _ (rw c.as_slice.ensures.value at c.flip.ensures)
     (all_found c.args.word.now c.syndromes.result c.in_ok-register.register.c c.in_ok-register.register.len
     (λ j h. c.syndromes.ensures.at j h ∙ of_remainder c.args.word.now (value_of c.args.r) j c.requires.2 h)
     c.in_ok-register.ensures.0 c.in_ok-register.ensures.1 c.chien-found.result.items c.chien-found.ensures (omega arith))
-
-pub returns-else-len-register : goal.returns-else-len-register
-returns-else-len-register c =
-    located_to _ _ (rw c.as_slice.ensures.value at c.flip.ensures)
-    (some_missing c.args.word.now c.syndromes.result c.in_ok-register.register.c c.in_ok-register.register.len
-    (λ j h. c.syndromes.ensures.at j h ∙ of_remainder c.args.word.now (value_of c.args.r) j c.requires.2 h)
-    c.in_ok-register.ensures.0 c.in_ok-register.ensures.1 c.chien-found.result.items c.chien-found.ensures (λ e. c.if-len-register.false (omega arith)))
