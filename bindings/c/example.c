@@ -1,5 +1,5 @@
 /* A message is encoded by BCH and then by LDPC, noise is added, and runs give it back, each with its record. A window
-   looks at the last of them. */
+   looks at the last of them. Then it is received twice, each time in part, and what was received is combined. */
 #include <raxdov.h>
 
 #include <inttypes.h>
@@ -14,6 +14,7 @@
 #define MESSAGE (K - RAXDOV_BCH_PARITY) /* the BCH word fills the information bits */
 #define LANES 1u
 #define WIDTH 2u /* of the window */
+#define TIMES 2u /* at most RAXDOV_COMBINE_MOST */
 
 static const uint32_t lens[ROWS] = {6, 4, 3, 3, 3};
 static const uint16_t addrs[ADDRESSES] = {41,  388, 617,  904, 1276, 1730, 95,  512, 833, 1409,
@@ -22,6 +23,8 @@ static const uint16_t addrs[ADDRESSES] = {41,  388, 617,  904, 1276, 1730, 95,  
 static uint8_t message[MESSAGE], info[K], sent[N], out[N];
 static float llr[N];
 static int8_t soft[N];
+static int8_t received[TIMES * N]; /* one word after the other, */
+static const uint32_t lengths[TIMES] = {N, N}; /* of these lengths */
 static uint64_t window[RAXDOV_WINDOW_COUNT]; /* zeros: empty */
 static uint32_t ring[RAXDOV_WINDOW_RING * WIDTH];
 
@@ -66,7 +69,7 @@ static void print_record(const uint32_t *record)
     printf(", changed by LDPC %u", (unsigned)record[RAXDOV_RECORD_CHANGED]);
 }
 
-/* Window and ring belong together, and are handed on from record to record. (All records here are of one word, for
+/* Window and ring belong together, and are handed on from record to record. (All records here are of one message, for
    show: a window counts what it is given.) */
 static void push_and_print(const uint32_t *record)
 {
@@ -76,7 +79,7 @@ static void push_and_print(const uint32_t *record)
            window[RAXDOV_WINDOW_CORRECTED]);
 }
 
-static void run(uint32_t limit, uint32_t rounds)
+static void run(const int8_t *word, uint32_t limit, uint32_t rounds)
 {
     uint32_t record[RAXDOV_RECORD_COUNT], tally[RAXDOV_TALLY_COUNT], ending;
     size_t needs[RAXDOV_NEEDS_COUNT];
@@ -84,13 +87,13 @@ static void run(uint32_t limit, uint32_t rounds)
     uint32_t *lists;
 
     accepted("sizes", raxdov_run_sizes(N, lens, ROWS, addrs, ADDRESSES, LANES, needs));
-    work = malloc(needs[RAXDOV_NEEDS_WORK] * sizeof *work);
-    lists = malloc(needs[RAXDOV_NEEDS_LISTS] * sizeof *lists);
+    work = (int8_t *)malloc(needs[RAXDOV_NEEDS_WORK] * sizeof *work);
+    lists = (uint32_t *)malloc(needs[RAXDOV_NEEDS_LISTS] * sizeof *lists);
     if (work == NULL || lists == NULL) {
         fprintf(stderr, "no memory\n");
         exit(1);
     }
-    accepted("run", raxdov_run(N, lens, ROWS, addrs, ADDRESSES, soft, N, LANES, limit, /* sequential */ 0, 0,
+    accepted("run", raxdov_run(N, lens, ROWS, addrs, ADDRESSES, word, N, LANES, limit, /* sequential */ 0, 0,
                                /* offset */ 1, rounds, /* BCH part */ 0, K, out, N, record, RAXDOV_RECORD_COUNT, tally,
                                &ending, work, needs[RAXDOV_NEEDS_WORK], lists, needs[RAXDOV_NEEDS_LISTS]));
     free(work);
@@ -102,9 +105,47 @@ static void run(uint32_t limit, uint32_t rounds)
     push_and_print(record);
 }
 
+/* The soft values of what was sent, received with other noise each time. */
+static void receive(int8_t *word)
+{
+    size_t i;
+
+    for (i = 0; i < N; i++) {
+        llr[i] = noisy(sent[i]);
+    }
+    accepted("soft values", raxdov_quantise(llr, N, /* scale */ 8.0f, word, N));
+}
+
+static unsigned wrong(const int8_t *word)
+{
+    unsigned count = 0;
+    size_t i;
+
+    for (i = 0; i < N; i++) {
+        count += (word[i] < 0) != sent[i];
+    }
+    return count;
+}
+
+/* Of the first word the last half is missing, of the second the first third: zeros, which add nothing. (Where
+   its bits are counted or it is run alone, a 0 is taken for a bit 0.) */
+static void combine_and_run(void)
+{
+    receive(received);
+    receive(received + N);
+    memset(received + N / 2, 0, N - N / 2);
+    memset(received + N, 0, N / 3);
+    accepted("combine", raxdov_combine(lengths, TIMES, received, TIMES * N, soft, N));
+    printf("received twice, in part: %u and %u bits wrong, combined %u\n", wrong(received), wrong(received + N),
+           wrong(soft));
+    run(received, 50, UINT32_MAX); /* alone each is lost */
+    run(received + N, 50, UINT32_MAX);
+    run(soft, 50, UINT32_MAX); /* "changed by LDPC" is of the combined word */
+}
+
 int main(void)
 {
-    size_t i, wrong = 0, other = 0;
+    size_t i, other = 0;
 
     if (raxdov_record_words() != RAXDOV_RECORD_COUNT || raxdov_tally_words() != RAXDOV_TALLY_COUNT ||
         raxdov_window_words() != RAXDOV_WINDOW_COUNT) {
@@ -116,23 +157,18 @@ int main(void)
     }
     accepted("BCH", raxdov_bch_encode(message, MESSAGE, info, K));
     accepted("LDPC", raxdov_ldpc_encode(N, lens, ROWS, addrs, ADDRESSES, info, K, sent, N));
-    for (i = 0; i < N; i++) {
-        llr[i] = noisy(sent[i]);
-    }
-    accepted("soft values", raxdov_quantise(llr, N, /* scale */ 8.0f, soft, N));
-    for (i = 0; i < N; i++) {
-        wrong += (soft[i] < 0) != sent[i];
-    }
-    printf("%u bits sent, %u received wrong\n", (unsigned)N, (unsigned)wrong);
-    run(50, UINT32_MAX); /* every check is met */
-    run(4, UINT32_MAX);  /* checks are left, and BCH corrects the rest */
-    run(0, UINT32_MAX);  /* too many are left: the word is lost, and goes out as it came to BCH */
+    receive(soft);
+    printf("%u bits sent, %u received wrong\n", (unsigned)N, wrong(soft));
+    run(soft, 50, UINT32_MAX); /* every check is met */
+    run(soft, 4, UINT32_MAX);  /* checks are left, and BCH corrects the rest */
+    run(soft, 0, UINT32_MAX);  /* too many are left: the word is lost, and goes out as it came to BCH */
     for (i = 0; i < N; i++) {
         other += (soft[i] < 0) != out[i];
     }
     printf("  of the lost word, %u bits are not as received\n", (unsigned)other);
-    run(50, 2);          /* the round limit comes first: the word is held, and the window passes it over */
-    run(50, UINT32_MAX);
-    run(4, UINT32_MAX); /* the lost word leaves the window */
+    run(soft, 50, 2);          /* the round limit comes first: the word is held, and the window passes it over */
+    run(soft, 50, UINT32_MAX);
+    run(soft, 4, UINT32_MAX); /* the lost word leaves the window */
+    combine_and_run();
     return 0;
 }

@@ -13,17 +13,22 @@
                                         The row lengths add up to addrs_len, or else: 5
      llr                                has as many floats as there are to be turned into soft values
      message, word                      are as long as the BCH message or word. Of a length that BCH does not take: 11
-     soft                               is a whole number of words of n values: a longer one is more words. Else: 8
+     soft                               is a whole number of words of n values: a longer one is more words. Else: 8.
+                                        Of raxdov_combine it is the words that have the lengths of `lengths`. Else: 15
+     lengths                            has an element for each word of soft, so 1 to 8 elements. They are equal and
+                                        add up to soft_len. Else: 15
 
    Answers. Every function but raxdov_record_words, raxdov_tally_words and raxdov_window_words returns 0, or the number
    of a refusal (enum raxdov_refusal); a call that is refused has changed nothing. A function lists its refusals in the
-   order in which it looks for them ("2 to 6, 13" or "14, 13"): of several it returns the first of that list.
+   order in which it looks for them ("2 to 6, 13" or "15, 13"): of several it returns the first of that list.
 
    Codes. An LDPC code is n, the number of addresses of each row (lens) and the rows' addresses one after the other
    (addrs). k = 374 * lens_len information bits, P = n - k checks, q = P / 374, E = 374 * addrs_len + 2 * P - 1 edges.
    Information bit 374 * g + j meets check (a + j * q) mod P for each address a of row g.
 
    Bits. A byte is a bit; of a byte that is read only the lowest bit counts.
+
+   Processor. The code needs one of level x86-64-v2.
 
    Memory. No function allocates or keeps anything, so calls on different slices may run in different threads. What a
    call is lent to be written no other thread may read meanwhile, also where it is left as it was.
@@ -57,7 +62,9 @@ enum raxdov_refusal {
     RAXDOV_REFUSED_SIZE = 12,            /* Information is not k long, a hard word not n, or a check number is P or
                                             more. */
     RAXDOV_REFUSED_TOO_SHORT = 13,       /* A lent output or work slice is too short. */
-    RAXDOV_REFUSED_WIDTH = 14            /* A window's width is 0 or above 4,096. */
+    RAXDOV_REFUSED_WIDTH = 14,           /* A window's width is 0 or above 4,096. */
+    RAXDOV_REFUSED_LENGTHS = 15          /* The soft words to combine are not 1 to 8, their lengths are not equal, or
+                                            don't add up to the number of soft values. */
 };
 
 /* The BCH result of a word that is uncorrectable, or lost. */
@@ -68,6 +75,9 @@ enum raxdov_refusal {
 #define RAXDOV_BCH_ERRORS 12
 #define RAXDOV_BCH_SHORTEST 193
 #define RAXDOV_BCH_LONGEST 65535
+
+/* The most soft words that are combined into one. */
+#define RAXDOV_COMBINE_MOST 8
 
 /* What raxdov_ldpc_sizes writes: sizes[RAXDOV_SIZES_K] .. */
 enum raxdov_sizes {
@@ -144,6 +154,21 @@ enum raxdov_window {
    out: llr_len elements. Refused by 13. */
 uint32_t raxdov_quantise(const float *llr, size_t llr_len, float scale, int8_t *out, size_t out_len);
 
+/* One soft word out of 1 to 8, which several receivers have of one transmission: out[i] is the exact sum of the words'
+   values at i, clamped to -127 .. 127 once, at the end. So the order of the words makes no difference, and neither does
+   a word of zeros beside others. One word alone comes out as it is, but a value of -128 as -127 (a run of the word
+   itself reads -128 as it is).
+   A value of 0 adds nothing, so 0 stands for what a receiver does not have. Where the sum is 0 a run takes the bit for
+   a 0. A word of zeros meets every check: a run records it as met, with no bit corrected or changed, and counts it as
+   kept. So run no word that nobody has.
+   lengths  the length of each word: 1 to 8 equal numbers. A word may be of any length here; where the lengths are 0
+            nothing is written
+   soft     the words, one after the other. To combine all the words of a run in one call, the words here are all the
+            soft values of each receiver: those of the first, then those of the second, and so on
+   out: as many elements as one word has; it overlaps neither lengths nor soft. Refused by 15, 13. */
+uint32_t raxdov_combine(const uint32_t *lengths, size_t lengths_len, const int8_t *soft, size_t soft_len, int8_t *out,
+                        size_t out_len);
+
 /* The sizes of a code (enum raxdov_sizes). Refused by 2 to 6. */
 uint32_t raxdov_ldpc_sizes(uint32_t n, const uint32_t *lens, size_t lens_len, const uint16_t *addrs, size_t addrs_len,
                            uint32_t sizes[5]);
@@ -195,7 +220,9 @@ uint32_t raxdov_run_sizes(uint32_t n, const uint32_t *lens, size_t lens_len, con
                           uint32_t lanes, size_t sizes[2]);
 
 /* A run: words of soft values are decoded side by side in lanes, and each finished word's BCH part is corrected.
-   soft     n values a word, one word after the other, 0 to 4,096 words; a negative value speaks for a 1
+   soft     n values a word, one word after the other, 0 to 4,096 words; a negative value speaks for a 1. A word may be
+            a combined one (raxdov_combine): then all that the run promises and records, RAXDOV_RECORD_CHANGED too, is
+            of the combined word and not of the words that it was made of
    lanes    1 to 64
    limit    iteration limit: no more iterations of a word than this, at most 65,535
    layered  0: the sequential schedule (step plays no part); any other number: the layered one with step

@@ -11,9 +11,9 @@
 
 static const uint8_t *at, *end;
 static const char *function;
-static uint64_t counts[16][15], executions, states[5], endings[2], changed_words[4], corrected, lost_outside, too_long;
-static uint64_t series, altered_series, passed_over, oldest_left, of_runs;
-static const char *const names[16] = {"quantise", "ldpc_sizes", "ldpc_new", "ldpc_check", "ldpc_parity", "ldpc_encode", "ldpc_syndrome_weight", "bch_parity", "bch_encode", "bch_decode", "record_words", "tally_words", "run_sizes", "run", "window_words", "window_push"};
+static uint64_t counts[17][16], executions, states[5], endings[2], changed_words[4], corrected, lost_outside, too_long;
+static uint64_t series, altered_series, passed_over, oldest_left, of_runs, clamped, combined_again, combined_words;
+static const char *const names[17] = {"quantise", "ldpc_sizes", "ldpc_new", "ldpc_check", "ldpc_parity", "ldpc_encode", "ldpc_syndrome_weight", "bch_parity", "bch_encode", "bch_decode", "record_words", "tally_words", "run_sizes", "run", "window_words", "window_push", "combine"};
 __attribute__((section("__libfuzzer_extra_counters"), used)) static uint8_t features[4096];
 
 static void wrong(const char *what)
@@ -351,6 +351,121 @@ static void test_quantise(void)
     give_back(out);
 }
 
+/* ---- combined words ---- */
+
+/* Words of so many values each, one after another. */
+static void take_words(int8_t *soft, size_t count, size_t n)
+{
+    uint32_t kind = byte();
+    static const int8_t ends[8] = {-128, -127, -126, -1, 0, 1, 126, 127};
+    for (size_t i = 0; i < count * n; i++) switch (kind & 3) {
+        case 0: soft[i] = (int8_t)(byte() + 128); break;
+        case 1: soft[i] = ends[chance(8)]; break;
+        case 2: soft[i] = (int8_t)((int)chance(33) - 16); break;
+        default: soft[i] = (int8_t)chance(256); break;
+        }
+    if (count == 0) return;
+    if (kind & 4) { /* the last word brings each sum near to a limit */
+        int8_t *last = soft + (count - 1) * n;
+        for (size_t i = 0; i < n; i++) {
+            int sum = (chance(2) ? 127 : -127) + (int)chance(5) - 2;
+            for (size_t w = 0; w + 1 < count; w++) sum -= soft[w * n + i];
+            last[i] = (int8_t)(sum < -128 ? -128 : sum > 127 ? 127 : sum);
+        }
+    }
+    if (kind & 8) memset(soft + chance((uint32_t)count) * n, 0, n);
+}
+
+/* One call; the combined word, which is given back by the caller, or NULL if it is refused. */
+static int8_t *combine(const uint32_t *lengths, size_t count, const int8_t *words, size_t size, size_t length)
+{
+    const char *called = function;
+    function = names[16];
+    uint32_t refused = combine_refusal(lengths, count, size, length);
+    Slice of = lend(count, 4), soft = lend(size, 1), out = lend(length, 1);
+    if (count) memcpy(of.p, lengths, 4 * count);
+    if (size) memcpy(soft.p, words, size);
+    keep(&of), keep(&soft);
+    answered(16, raxdov_combine((const uint32_t *)of.p, count, (const int8_t *)soft.p, size, (int8_t *)out.p, length), refused);
+    unchanged(of), unchanged(soft);
+    int8_t *word = NULL;
+    if (refused)
+        unchanged(out);
+    else {
+        size_t n = lengths[0];
+        word = malloc(n + 1);
+        for (size_t i = 0; i < n; i++) {
+            word[i] = combined_value(words, count, n, i);
+            if ((int8_t)out.p[i] != word[i]) wrong("another combined value");
+            clamped += word[i] == 127 || word[i] == -127;
+        }
+        unchanged_from(out, n, "tail changed");
+        features[3300 + 8 * (count - 1) + (n < 32 ? n / 16 : n % 16 ? 3 : 2)]++;
+    }
+    give_back(of), give_back(soft), give_back(out);
+    function = called;
+    return word;
+}
+
+/* The same words in another order, and a word of zeros more: the same combined word. */
+static void combine_again(const uint32_t *lengths, size_t count, const int8_t *words, const int8_t *word)
+{
+    size_t n = lengths[0], order[9], turned = chance((uint32_t)count);
+    uint32_t more[9];
+    int8_t *again = calloc((count + 1) * n + 1, 1), *got;
+    for (size_t w = 0; w < count; w++) order[w] = (w + turned) % count;
+    if (count > 2 && chance(2)) order[0] = order[2], order[2] = turned;
+    for (size_t w = 0; w <= count; w++) more[w] = (uint32_t)n;
+    for (size_t w = 0; w < count; w++) memcpy(again + w * n, words + order[w] * n, n);
+    got = combine(more, count, again, count * n, n);
+    if (!got || memcmp(got, word, n)) wrong("another word in another order");
+    free(got);
+    if (count < 8) {
+        size_t before = chance((uint32_t)count + 1);
+        memset(again, 0, (count + 1) * n);
+        for (size_t w = 0; w < count; w++) memcpy(again + (w + (w >= before)) * n, words + w * n, n);
+        got = combine(more, count + 1, again, (count + 1) * n, n);
+        if (!got || memcmp(got, word, n)) wrong("another word beside one of zeros");
+        free(got);
+    }
+    free(again);
+    combined_again++;
+}
+
+static void test_combine(void)
+{
+    sow();
+    uint32_t b = byte(), kind = byte(), lengths[16];
+    size_t count = b & 8 ? 1 + (b & 7) : (b & 7) == 0 ? 0 : (b & 7) == 1 ? 9 + (b >> 7) : 1 + (b & 7);
+    size_t n = b & 16 ? byte() : 16 * (byte() % 5) + (b >> 5) % 4;
+    if ((kind & 31) == 31) n = half();
+    for (size_t w = 0; w < 16; w++) lengths[w] = (uint32_t)n;
+    size_t size = count * n;
+    switch (kind >> 5) { /* where it can go wrong; most of the others are accepted */
+    case 1: /* unequal, and adding up */
+        if (count > 1 && n) {
+            size_t from = chance((uint32_t)count), to = (from + 1 + chance((uint32_t)count - 1)) % count;
+            uint32_t by = 1 + chance((uint32_t)n);
+            lengths[from] -= by, lengths[to] += by;
+        }
+        break;
+    case 2: /* unequal */
+        if (count) lengths[chance((uint32_t)count)] += kind & 16 ? whole() : 1;
+        break;
+    case 3: size = near(size); break;
+    case 4: /* equal, and adding up modulo 2^32 only if the count is a power of two */
+        for (size_t w = 0; w < count; w++) lengths[w] += (uint32_t)((UINT64_C(1) << 32) / count);
+        break;
+    }
+    size_t length = near(n);
+    int8_t *words = malloc(size + 1);
+    take_words(words, size == count * n ? count : 1, size == count * n ? n : size);
+    int8_t *word = combine(lengths, count, words, size, length);
+    if (word && kind & 1) combine_again(lengths, count, words, word);
+    free(word);
+    free(words);
+}
+
 /* ---- BCH ---- */
 
 static size_t bch_size(size_t add)
@@ -666,6 +781,33 @@ static void take_soft(Lent_code c, int8_t *soft, size_t size)
     }
 }
 
+/* Each word is combined of several, of which it is one, and the combined word put in its place. */
+static void combine_soft(int8_t *soft, size_t words, uint32_t n)
+{
+    for (size_t w = 0; w < words; w++) {
+        size_t count = 1 + chance(8), own = chance((uint32_t)count);
+        uint32_t lengths[8];
+        int8_t *all = malloc(count * n), *word;
+        for (size_t d = 0; d < count; d++) {
+            uint32_t from = chance(n), to = from + chance(n - from), kind = d == own ? 0 : chance(4);
+            lengths[d] = n;
+            for (uint32_t i = 0; i < n; i++) {
+                int v = soft[w * n + i];
+                if (kind == 1 && i >= from && i < to) v = 0;
+                if (kind == 2) v = v / 2 + (int)chance(41) - 20;
+                if (kind == 3) v = chance(4) ? v / 3 : -v;
+                all[d * n + i] = (int8_t)(v < -128 ? -128 : v > 127 ? 127 : v);
+            }
+        }
+        word = combine(lengths, count, all, count * n, n);
+        if (!word) abort();
+        memcpy(soft + w * n, word, n);
+        free(word);
+        free(all);
+        combined_words++;
+    }
+}
+
 static int test_run(void)
 {
     Lent_code c = take_code();
@@ -685,9 +827,10 @@ static int test_run(void)
     uint32_t refused = run_refusal(c.code, size, set, lent);
     Slice soft = lend(size, 1);
     take_soft(c, (int8_t *)soft.p, size);
+    words = refused ? 0 : size / n;
+    if (byte() & 1) combine_soft((int8_t *)soft.p, words, n);
     keep(&soft);
     Run run = {0};
-    words = refused ? 0 : size / n;
     if (!refused && run_of(c.code, (const int8_t *)soft.p, words, set, BUDGET, &run)) {
         too_long++;
         give_back(soft);
@@ -760,16 +903,17 @@ static int test_run(void)
 static void tell(void)
 {
     fprintf(stderr, "counts: %lu scripts; %lu runs that were too long were not made; calls by answer:\n", executions, too_long);
-    for (int f = 0; f < 16; f++) {
+    for (int f = 0; f < 17; f++) {
         uint64_t sum = 0;
-        for (int i = 0; i < 15; i++) sum += counts[f][i];
+        for (int i = 0; i < 16; i++) sum += counts[f][i];
         fprintf(stderr, "counts: %s %lu:", names[f], sum);
-        for (int i = 0; i < 15; i++)
+        for (int i = 0; i < 16; i++)
             if (counts[f][i]) fprintf(stderr, " %d: %lu", i, counts[f][i]);
         fprintf(stderr, "\n");
     }
     fprintf(stderr, "counts: runs finished %lu, stopped %lu; words: waiting %lu, held %lu, met %lu, unmet %lu, of them lost %lu; with bits changed by LDPC: held %lu, met %lu, unmet %lu; BCH words corrected %lu, lost by an error outside %lu\n"
-                    "counts: windows %lu, %lu of them altered; records passed over %lu; pushes where the oldest left %lu; records of runs pushed %lu\n", endings[0], endings[1], states[0], states[1], states[2], states[3], states[4], changed_words[1], changed_words[2], changed_words[3], corrected, lost_outside, series, altered_series, passed_over, oldest_left, of_runs);
+                    "counts: windows %lu, %lu of them altered; records passed over %lu; pushes where the oldest left %lu; records of runs pushed %lu\n"
+                    "counts: combined values at a limit %lu; combined again in another order and beside a word of zeros %lu; words of runs combined %lu\n", endings[0], endings[1], states[0], states[1], states[2], states[3], states[4], changed_words[1], changed_words[2], changed_words[3], corrected, lost_outside, series, altered_series, passed_over, oldest_left, of_runs, clamped, combined_again, combined_words);
 }
 
 int LLVMFuzzerInitialize(int *argc, char ***argv)
@@ -786,8 +930,8 @@ int LLVMFuzzerTestOneInput(const uint8_t *data, size_t size)
     end = data + size;
     executions++;
     for (int calls = 0; at < end && calls < 8; calls++) {
-        uint32_t f = byte() % 24;
-        function = names[f < 15 ? f : f < 18 ? 15 : 13];
+        uint32_t f = byte() % 26;
+        function = names[f < 15 ? f : f < 18 ? 15 : f < 20 ? 16 : 13];
         switch (f) {
         case 0: test_quantise(); break;
         case 1: test_sizes(); break;
@@ -806,6 +950,8 @@ int LLVMFuzzerTestOneInput(const uint8_t *data, size_t size)
         case 15:
         case 16:
         case 17: test_window(); break;
+        case 18:
+        case 19: test_combine(); break;
         default:
             if (!test_run()) {
                 end_series(&over_runs);

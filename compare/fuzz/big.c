@@ -55,6 +55,13 @@ int main(int argc, char **argv)
     CALL(raxdov_bch_decode(a, size, &number)), told("bch_decode, a huge word", got, 11, 1);
     CALL(raxdov_bch_parity(a, size, b, size)), told("bch_parity, a huge message", got, 11, 1);
     CALL(raxdov_bch_encode(a, size, b, size)), told("bch_encode, a huge message", got, 11, zeros_from(b, 0));
+    uint32_t eight[8];
+    for (int i = 0; i < 8; i++) eight[i] = 1u << 29;
+    CALL(raxdov_combine((const uint32_t *)a, size / 4, (const int8_t *)a, size, (int8_t *)b, size)), told("combine, a huge list of lengths", got, 15, zeros_from(b, 0));
+    CALL(raxdov_combine(eight, 8, (const int8_t *)a, 0, (int8_t *)b, size)), told("combine, lengths that add up to 2^32 and no values", got, 15, zeros_from(b, 0));
+    for (int i = 0; i < 8; i++) eight[i] = (uint32_t)(size / 8);
+    CALL(raxdov_combine(eight, 8, (const int8_t *)a, size - 1, (int8_t *)b, size)), told("combine, eight huge words, a value too few", got, 15, zeros_from(b, 0));
+    CALL(raxdov_combine(eight, 8, (const int8_t *)a, size, (int8_t *)b, size / 8 - 1)), told("combine, eight huge words, an output too short", got, 13, zeros_from(b, 0));
     CALL(raxdov_ldpc_sizes(N, (const uint32_t *)a, size / 4, addrs, 3, five)), told("ldpc_sizes, a huge list of rows", got, 3, 1);
     CALL(raxdov_ldpc_sizes(N, lens, 1, (const uint16_t *)a, size / 2, five)), told("ldpc_sizes, a huge list of addresses", got, 5, 1);
     CALL(raxdov_ldpc_parity(N, lens, 1, addrs, 3, a, size, b, size)), told("ldpc_parity, huge information", got, 12, zeros_from(b, 0));
@@ -87,12 +94,21 @@ int main(int argc, char **argv)
     CALL(raxdov_run(N, lens, 1, addrs, 3, soft, sizeof soft, LANES, 50, 0, 0, 1, 99, 0, N, b, size, (uint32_t *)c, size / 4, tally, &ending, (int8_t *)d, size, lists, P + 1 + E));
     told("run, huge output, records and work", got, 0, tally[1] == WORDS && ending == 0 && zeros_from(b, N * WORDS) && zeros_from(c, 4 * RECORD * WORDS) && zeros_from(d, 0));
 
+    /* eight words that fill a slice */
+    for (size_t i = 0; i < size; i++) a[i] = (uint8_t)(i * 2654435761u >> 13);
+    size_t each = size / 8;
+    CALL(raxdov_combine(eight, 8, (const int8_t *)a, size, (int8_t *)b, size));
+    int right = zeros_from(b, each);
+    for (size_t i = 0; i < each && right; i += 1 + i % 13) right = (int8_t)b[i] == combined_value((const int8_t *)a, 8, each, i);
+    for (size_t i = each - 40; i < each && right; i++) right = (int8_t)b[i] == combined_value((const int8_t *)a, 8, each, i);
+    told("combine, eight huge words", got, 0, right);
+
     /* soft values from as many floats as fit */
     float *llr = (float *)a;
     size_t count = size / 4;
     for (size_t i = 0; i < count; i++) llr[i] = (float)((int)(i % 2001) - 1000) / 7;
     CALL(raxdov_quantise(llr, count, 1.5f, (int8_t *)b, size));
-    int right = zeros_from(b, count);
+    right = zeros_from(b, count);
     for (size_t i = 0; i < count && right; i += 1 + i % 13) right = (int8_t)b[i] == soft_value(llr[i], 1.5f);
     told("quantise, huge", got, 0, right);
     printf("%d wrong\n", wrong);

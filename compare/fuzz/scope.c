@@ -132,6 +132,28 @@ int8_t soft_value(float llr, float scale)
     return (int8_t)(d < 0 ? -size : size);
 }
 
+/* ---- combined words ---- */
+
+uint32_t combine_refusal(const uint32_t *lengths, size_t count, size_t soft, size_t out)
+{
+    if (count < 1 || count > 8) return 15;
+    uint64_t sum = 0;
+    for (size_t w = 0; w < count; w++) {
+        if (lengths[w] != lengths[0]) return 15;
+        sum += lengths[w];
+    }
+    if (sum != soft) return 15;
+    return out < lengths[0] ? 13 : 0;
+}
+
+int8_t combined_value(const int8_t *soft, size_t count, size_t n, size_t i)
+{
+    int sum = 0;
+    for (size_t w = 0; w < count; w++) sum += soft[w * n + i];
+    /* clamped a single time, at the end */
+    return (int8_t)(sum < -127 ? -127 : sum > 127 ? 127 : sum);
+}
+
 /* ---- codes ---- */
 
 uint32_t code_refusal(Code code)

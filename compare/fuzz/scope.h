@@ -1,5 +1,5 @@
 /* What the scope says, written out in C from its sentences and from nothing of the product: refusals, codes, the decoder, BCH,
-   windows and the report's text. The fuzz targets hold every answer to it. */
+   combined words, windows and the report's text. The fuzz targets hold every answer to it. */
 #ifndef SCOPE_H
 #define SCOPE_H
 #include <stddef.h>
@@ -57,6 +57,10 @@ uint32_t unsatisfied(Lists lists, const uint8_t *bits);
 int unmet(Lists lists, const uint8_t *bits, size_t c);
 void ldpc_parity(Lists lists, const uint8_t *info, uint8_t *parity);
 int8_t soft_value(float llr, float scale);
+/* 15, then 13, or 0. */
+uint32_t combine_refusal(const uint32_t *lengths, size_t count, size_t soft, size_t out);
+/* The value at place i of the word that is combined of `count` words of n values each. */
+int8_t combined_value(const int8_t *soft, size_t count, size_t n, size_t i);
 void bch_parity(const uint8_t *message, size_t size, uint8_t parity[192]);
 /* The corrected count, or LOST, which leaves the word as it came. */
 uint32_t bch_decode(uint8_t *word, size_t size);

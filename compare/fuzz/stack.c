@@ -31,6 +31,12 @@ static void run(uint32_t layered, uint32_t step, uint32_t lanes)
 
 static void nothing(void) {}
 static void quantise(void) { raxdov_quantise(llr, 64, 2, soft_out, 64); }
+static void combine(void)
+{
+    static const uint32_t lengths[8] = {701, 701, 701, 701, 701, 701, 701, 701};
+    raxdov_combine(lengths, 8, soft, 8 * 701, work, sizeof work);
+}
+static void combine_refused(void) { raxdov_combine(lens, ROWS, soft, 9, work, sizeof work); }
 static void sizes(void) { raxdov_ldpc_sizes(CODE, five); }
 static void new(void) { raxdov_ldpc_new(CODE, lists, 8192, five); }
 static void check(void) { raxdov_ldpc_check(CODE, 5, lists, 8192, &number); }
@@ -99,7 +105,8 @@ int main(int argc, char **argv)
         void (*function)(void);
         size_t most;
     } all[] = {
-        {"quantise", quantise, 16000}, {"ldpc_sizes", sizes, 16000}, {"ldpc_new", new, 16000}, {"ldpc_check", check, 16000},
+        {"quantise", quantise, 16000}, {"combine", combine, 16000}, {"combine, refused", combine_refused, 16000},
+        {"ldpc_sizes", sizes, 16000}, {"ldpc_new", new, 16000}, {"ldpc_check", check, 16000},
         {"ldpc_parity", parity, 16000}, {"ldpc_encode", encode, 16000}, {"ldpc_syndrome_weight", weight, 16000},
         {"bch_parity", bch_parity, 16000}, {"bch_encode", bch_encode, 16000}, {"bch_decode, 12 errors", bch_decode, 16000},
         {"bch_decode, lost", bch_lost, 16000}, {"record_words", record_words, 16000}, {"tally_words", tally_words, 16000},

@@ -36,6 +36,21 @@ pub(crate) fn quantise(llr: &[f32], scale: f32, out: &mut [i8]) -> Result<(), Re
     answer(unsafe { raxdov_quantise(llr.as_ptr(), llr.len(), scale, out.as_mut_ptr(), out.len()) })
 }
 
+/// One soft word out of several, into the front of `out`.
+pub(crate) fn combine(lengths: &[u32], soft: &[i8], out: &mut [i8]) -> Result<(), Refusal> {
+    // SAFETY: the slices are there, and `out` is borrowed alone.
+    answer(unsafe {
+        raxdov_combine(
+            lengths.as_ptr(),
+            lengths.len(),
+            soft.as_ptr(),
+            soft.len(),
+            out.as_mut_ptr(),
+            out.len(),
+        )
+    })
+}
+
 /// k, P, q, E, and how long the lists are.
 pub(crate) fn ldpc_sizes(code: Lent) -> Result<[u32; 5], Refusal> {
     let Lent { n, lens, addrs } = code;

@@ -10,6 +10,14 @@ unsafe extern "C" {
         out: *mut i8,
         out_len: usize,
     ) -> u32;
+    pub fn raxdov_combine(
+        lengths: *const u32,
+        lengths_len: usize,
+        soft: *const i8,
+        soft_len: usize,
+        out: *mut i8,
+        out_len: usize,
+    ) -> u32;
     pub fn raxdov_ldpc_sizes(
         n: u32,
         lens: *const u32,

@@ -1,15 +1,16 @@
 //! Forward error correction of ISDB-S3 satellite receivers: the LDPC and BCH codes of ARIB STD-B44, with refusals by
-//! number, a round limit, records of words, a tally and windows over the last words. The work is done by
-//! `libraxdov.a`, whose functions are proved to meet their contracts; this crate lends them memory.
+//! number, a round limit, records of words, a tally, windows over the last words and combined soft words. The work is done
+//! by `libraxdov.a`, whose functions are proved to meet their contracts; this crate lends them memory.
 //!
 //! - [`ldpc`] and [`bch`] have the names, signatures and results of isdb-rs (`isdb_fec::ldpc`, `isdb_fec::bch`), so
 //!   that a program changes over by its imports. One result differs: [`bch::decode`] leaves an uncorrectable word as it
 //!   was, where isdb-rs leaves bits changed in some. What else differs is said at each item.
 //! - [`run`] decodes and corrects in one go and records each word; its [`run::Window`] keeps figures over the last
 //!   finished words of many runs.
+//! - [`combine()`] makes one soft word out of up to eight, which several receivers have of one transmission.
 //!
-//! A call on wrong sizes panics where the original does; [`ldpc::Code::try_new`], [`run::Runner::run`] and
-//! [`run::Window::new`] answer a [`Refusal`].
+//! A call on wrong sizes panics where the original does; [`ldpc::Code::try_new`], [`run::Runner::run`],
+//! [`run::Window::new`] and [`combine()`] answer a [`Refusal`].
 //!
 //! ```
 //! use raxdov::ldpc::Code;
@@ -36,10 +37,12 @@
 
 mod archive;
 pub mod bch;
+mod combine;
 mod declared;
 pub mod ldpc;
 mod refusal;
 pub mod run;
 
+pub use combine::combine;
 pub use ldpc::fixed::quantise;
 pub use refusal::Refusal;

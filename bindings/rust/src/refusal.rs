@@ -46,9 +46,12 @@ pub enum Refusal {
     TooShort = 13,
     /// A window's width is 0 or above 4,096.
     Width = 14,
+    /// The soft words to combine are not 1 to 8, their lengths are not equal, or don't add up to the number of soft
+    /// values.
+    Lengths = 15,
 }
 
-const ALL: [Refusal; 14] = [
+const ALL: [Refusal; 15] = [
     Refusal::Form,
     Refusal::N,
     Refusal::Rows,
@@ -63,10 +66,11 @@ const ALL: [Refusal; 14] = [
     Refusal::Size,
     Refusal::TooShort,
     Refusal::Width,
+    Refusal::Lengths,
 ];
 
 impl Refusal {
-    /// The number, 1 to 14.
+    /// The number, 1 to 15.
     ///
     /// ```
     /// assert_eq!(raxdov::Refusal::TooShort.number(), 13);
@@ -75,7 +79,7 @@ impl Refusal {
         self as u32
     }
 
-    /// The refusal of a number; none for 0 and above 14.
+    /// The refusal of a number; none for 0 and above 15.
     ///
     /// ```
     /// use raxdov::Refusal;
@@ -115,6 +119,10 @@ impl Refusal {
             }
             Self::TooShort => "a lent output or work slice is too short",
             Self::Width => "a window's width is 0 or above 4,096",
+            Self::Lengths => {
+                "the soft words to combine are not 1 to 8, their lengths are not equal, or don't add up to the number of \
+                 soft values"
+            }
         }
     }
 }

@@ -256,6 +256,9 @@ impl Runner {
     /// n bits of each word that a lane took: its hard decisions, corrected by BCH if it is finished and not lost. What is
     /// longer is left as it was. A run needs about 140 KB of stack.
     ///
+    /// A word may be a combined one ([`combine`](crate::combine())): then all that the run promises and records is of the
+    /// combined word and not of the words that it was made of.
+    ///
     /// ```
     /// use raxdov::Refusal;
     /// use raxdov::ldpc::Code;

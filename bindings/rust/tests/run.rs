@@ -93,14 +93,14 @@ fn refusals_in_order_and_nothing_changed() {
 
 #[test]
 fn every_refusal_has_a_number_and_a_sentence() {
-    for number in 1..=14 {
+    for number in 1..=15 {
         let refusal = Refusal::from_number(number).unwrap();
         assert_eq!(refusal.number(), number);
         let told = format!("refused by {number}: {}", refusal.sentence());
         assert_eq!(refusal.to_string(), told);
     }
     assert_eq!(
-        (Refusal::from_number(0), Refusal::from_number(15)),
+        (Refusal::from_number(0), Refusal::from_number(16)),
         (None, None)
     );
 }
@@ -116,7 +116,7 @@ fn sentences_are_those_of_the_header() {
         .join(" ")
         .to_lowercase();
     let numbers = header.replace(", /*", " /*");
-    for number in 1..=14 {
+    for number in 1..=15 {
         let refusal = Refusal::from_number(number).unwrap();
         let sentence = format!("= {number} /* {}", refusal.sentence().to_lowercase());
         assert!(numbers.contains(&sentence), "{sentence}");

@@ -6,6 +6,7 @@ mod bch;
 mod beside;
 mod chart;
 mod codes;
+mod combine;
 mod growth;
 mod noise;
 mod place;
@@ -14,7 +15,7 @@ mod time;
 mod windows;
 
 const USAGE: &str =
-    "bench codes | growth | windows | runs [CHART.svg] [SCHEDULE] [LANES] | noise [CHART.svg] [WORDS]
+    "bench codes | growth | windows | combine | runs [CHART.svg] [SCHEDULE] [LANES] | noise [CHART.svg] [WORDS]
 bench beside [SCHEDULE] [LANES] | bch: built with RAXDOV_BEFORE, an earlier libraxdov.a";
 
 fn main() {
@@ -27,6 +28,7 @@ fn main() {
         Some("codes") => codes::bench(),
         Some("growth") => growth::bench(),
         Some("windows") => windows::bench(),
+        Some("combine") => combine::bench(),
         Some("runs") => runs::bench(
             chart,
             words.get(2).map_or("", String::as_str),

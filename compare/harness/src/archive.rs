@@ -60,6 +60,20 @@ pub fn quantise(llr: &Lent<f32>, scale: f32, out: &mut Lent<i8>) -> u32 {
     unsafe { raxdov_quantise(llr.ptr(), llr.len(), scale, out.ptr_mut(), n) }
 }
 
+pub fn combine(lengths: &Lent<u32>, soft: &Lent<i8>, out: &mut Lent<i8>) -> u32 {
+    let n = out.len();
+    unsafe {
+        raxdov_combine(
+            lengths.ptr(),
+            lengths.len(),
+            soft.ptr(),
+            soft.len(),
+            out.ptr_mut(),
+            n,
+        )
+    }
+}
+
 pub fn ldpc_sizes(t: &Table, sizes: &mut Lent<u32>) -> u32 {
     assert_eq!(sizes.len(), 5);
     unsafe {

@@ -2,6 +2,7 @@
 
 pub mod archive;
 pub mod bch;
+pub mod combine;
 pub mod input;
 pub mod ldpc;
 pub mod lent;

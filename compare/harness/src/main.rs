@@ -3,17 +3,18 @@
 use harness::input::Plan;
 use harness::lent::EXACT;
 use harness::random::Random;
-use harness::{archive, bch, ldpc, quantise, run, scope, window};
+use harness::{archive, bch, combine, ldpc, quantise, run, scope, window};
 use std::process::exit;
 use std::rc::Rc;
 use std::sync::atomic::Ordering;
 use std::time::{Duration, Instant};
 
-const USAGE: &str = "harness [--seed N] [--seconds N] [--only quantise|ldpc|bch|run|window] [--exact] [--selftest] [--largest] [--lengths]
+const USAGE: &str = "harness [--seed N] [--seconds N] [--only quantise|ldpc|bch|run|window|combine] [--exact] [--selftest] [--largest] [--lengths]
   --exact     each lent slice is an allocation of its own, for a memory checker
   --selftest  spoil each result of the archive in turn, and see that it is found
   --largest   only the accepted code with the most edges, every function and four runs
-  --lengths   only BCH parity and encode: messages of every length from 0 to 600, ten of each, of 500 random lengths and of 65,343";
+  --lengths   only BCH parity and encode: messages of every length from 0 to 600, ten of each, of 500 random lengths and of 65,343;
+              and combine: 1 to 8 words of every length from 0 to 600, and 8 of 44,880";
 
 struct Seen {
     quantise: (u64, u64, u64),
@@ -21,11 +22,33 @@ struct Seen {
     bch: bch::Counts,
     run: run::Counts,
     window: window::Counts,
+    combine: combine::Counts,
 }
 
 fn fail(what: &str) -> ! {
     println!("DISAGREEMENT {what}");
     exit(1)
+}
+
+/// Calls that combine words, and runs of combined words, whose records are answered.
+fn combined(r: &mut Random, counts: &mut combine::Counts) -> Vec<[u32; scope::RECORD]> {
+    for _ in 0..200 {
+        combine::compare(r, counts).unwrap_or_else(|e| fail(&e));
+    }
+    let plan = match r.below(100) {
+        0 => Plan::long(r, 60),
+        1..11 => Plan::random(r, 1),
+        _ => {
+            let units = r.within(2, 4);
+            Plan::random(r, units)
+        }
+    };
+    let (plan, code) = (Rc::new(plan.clone()), Rc::new(plan.code()));
+    for _ in 0..4 {
+        let case = combine::run(r, &plan, &code, counts).unwrap_or_else(|e| fail(&e));
+        disagree(&case, &mut counts.runs);
+    }
+    std::mem::take(&mut counts.runs.records)
 }
 
 /// Some runs of one code.
@@ -131,6 +154,30 @@ fn tell(seen: &Seen, seed: u64, time: Duration) {
         w.afresh,
         w.of_runs
     );
+    let c = &seen.combine;
+    println!(
+        "| `raxdov_combine` | {} | {} by 13, {} by 15 ({} of them with an output that is too short as well, {} of lengths that add up, {} of lengths that do so modulo 2^32 only) | accepted with 1 to 8 words: {:?}; {} values, {} of them clamped, {} other ones if each word were; the words in another order {} times, a word of zeros more {} times; {} runs of {} combined words: {} met, {} unmet, {} held, {} waiting, {} lost; in {} the bits changed by LDPC would be another number against the first soft word |",
+        c.calls,
+        c.refused[0],
+        c.refused[1],
+        c.both,
+        c.adding_up,
+        c.wrapping,
+        &c.words[1..],
+        c.values,
+        c.clamped,
+        c.other_by_steps,
+        c.orders,
+        c.zeros,
+        c.runs.runs,
+        c.runs.words,
+        c.runs.met,
+        c.runs.unmet,
+        c.runs.held,
+        c.runs.waiting,
+        c.runs.lost,
+        c.runs.other_by_first
+    );
     let at = |w: &u32| u.lanes.get(w).copied().unwrap_or(0);
     let lanes: Vec<String> = run::LANES[..8]
         .iter()
@@ -143,7 +190,8 @@ fn tell(seen: &Seen, seed: u64, time: Duration) {
     );
 }
 
-/// Parity and encode of messages of every length from 0 to 600, of random lengths, and of the longest. None is refused.
+/// Parity and encode of messages of every length from 0 to 600, of random lengths, and of the longest; combined words of every length
+/// from 0 to 600. None is refused.
 fn lengths(r: &mut Random) {
     let mut counts = bch::Counts::default();
     let short = (0..=600).flat_map(|k| [k; 10]);
@@ -154,6 +202,11 @@ fn lengths(r: &mut Random) {
     println!(
         "messages of 0 to 600 bits, and up to 65,343: {} parities and {} codewords agree",
         counts.parity, counts.encode
+    );
+    let counts = combine::lengths(r).unwrap_or_else(|e| fail(&e));
+    println!(
+        "1 to 8 words of 0 to 600 values, and 8 of 44,880: {} combined words of {} values agree",
+        counts.calls, counts.values
     );
 }
 
@@ -232,6 +285,10 @@ fn selftest(r: &mut Random) {
     }
     println!("selftest: {spoilt} spoilt results found in each of 20 pushes onto a full window");
     flips_left(r);
+    let (wrong, most) = combine::selftest(r, 20).unwrap_or_else(|e| fail(&e));
+    println!(
+        "selftest: {wrong} wrong ways to combine found, each 20 times, after {most} calls at most"
+    );
 }
 
 /// The original's flips left in a lost word, of BCH alone and of a run.
@@ -313,17 +370,18 @@ fn main() {
         bch: bch::Counts::default(),
         run: run::Counts::default(),
         window: window::Counts::default(),
+        combine: combine::Counts::default(),
     };
     let mut over_runs = window::OverRuns::new(&mut r);
-    let names = ["quantise", "ldpc", "bch", "run", "window"];
-    let shares = [6.0, 10.0, 26.0, 54.0, 4.0];
-    let mut spent = [0.0f64; 5];
+    let names = ["quantise", "ldpc", "bch", "run", "window", "combine"];
+    let shares = [6.0, 10.0, 25.0, 50.0, 4.0, 5.0];
+    let mut spent = [0.0f64; 6];
     let start = Instant::now();
     let mut told = start;
     while start.elapsed().as_secs() < seconds {
         let turn = match names.iter().position(|n| *n == only) {
             Some(i) => i,
-            None => (0..5)
+            None => (0..6)
                 .min_by(|&a, &b| (spent[a] / shares[a]).total_cmp(&(spent[b] / shares[b])))
                 .unwrap(),
         };
@@ -344,20 +402,27 @@ fn main() {
                     .take(&mut r, &records, &mut seen.window)
                     .unwrap_or_else(|e| fail(&e));
             }
-            _ => window::compare(&mut r, &mut seen.window).unwrap_or_else(|e| fail(&e)),
+            4 => window::compare(&mut r, &mut seen.window).unwrap_or_else(|e| fail(&e)),
+            _ => {
+                let records = combined(&mut r, &mut seen.combine);
+                over_runs
+                    .take(&mut r, &records, &mut seen.window)
+                    .unwrap_or_else(|e| fail(&e));
+            }
         }
         spent[turn] += began.elapsed().as_secs_f64();
         if told.elapsed().as_secs() >= 10 {
             told = Instant::now();
             eprintln!(
-                "{:>5} s: {} quantise, {} codes, {} BCH words, {} runs of {} words, {} pushes",
+                "{:>5} s: {} quantise, {} codes, {} BCH words, {} runs of {} words, {} pushes, {} calls of combine",
                 start.elapsed().as_secs(),
                 seen.quantise.0,
                 seen.ldpc.new + seen.ldpc.refused,
                 seen.bch.decode,
                 seen.run.runs,
                 seen.run.words,
-                seen.window.pushes
+                seen.window.pushes,
+                seen.combine.calls
             );
         }
     }

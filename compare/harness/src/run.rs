@@ -33,6 +33,8 @@ pub struct Counts {
     pub changed: u64,
     pub changed_held: u64,
     pub other_behind_bch: u64,
+    /// Words combined of several whose count would be another against the first of them.
+    pub other_by_first: u64,
     pub iterations: u64,
     pub stopped: u64,
     pub layered: u64,
@@ -50,6 +52,8 @@ pub struct Case {
     /// The original's code, of an accepted plan.
     pub code: Option<Rc<Code>>,
     pub soft: Vec<i8>,
+    /// The first of the soft words of which each word of `soft` is combined; nothing if they are not combined.
+    pub first_words: Vec<i8>,
     pub set: Settings,
     pub lent: Lengths,
     pub fill: u64,
@@ -410,6 +414,9 @@ pub fn compare(case: &Case, counts: &mut Counts, spoils: Option<Spoil>) -> Resul
             2 => counts.met += 1,
             _ => counts.unmet += 1,
         }
+        if let Some(first) = case.first_words.get(n * w..n * (w + 1)) {
+            counts.other_by_first += u64::from(record[5] != changed(first, &word.before));
+        }
         let turned = u64::from(record[5] > 0);
         if record[0] == 1 {
             counts.changed_held += turned;
@@ -561,6 +568,7 @@ pub fn case(r: &mut Random, plan: &Rc<Plan>, code: &Rc<Code>) -> Case {
         plan: plan.clone(),
         code: Some(code.clone()),
         soft,
+        first_words: Vec::new(),
         set,
         lent,
         fill: r.next(),

@@ -1,5 +1,5 @@
-//! What the scope says by itself: the numbers of refusal in their order, the round rule, and windows. Each is written out from
-//! its sentences.
+//! What the scope says by itself: the numbers of refusal in their order, the round rule, windows, and combined words. Each is
+//! written out from its sentences.
 
 use crate::archive::Settings;
 
@@ -240,4 +240,29 @@ pub fn window_push(
         let sum = i128::from(sums[i]) + more[i] - less[i];
         window[2 + i] = sum.rem_euclid(1 << 64) as u64;
     }
+}
+
+/// How many soft words are combined at most.
+pub const COMBINED_MOST: usize = 8;
+
+/// 15 and then 13, or 0: "refuses with 15 a .. count outside 1 to 8, unequal lengths, or lengths that don't add up to the slice,
+/// before looking at the output slice".
+pub fn combine_refusal(lengths: &[u32], soft: usize, out: usize) -> u32 {
+    let sum: u64 = lengths.iter().map(|&l| u64::from(l)).sum();
+    let counted = (1..=COMBINED_MOST).contains(&lengths.len());
+    if !counted || lengths.iter().any(|l| *l != lengths[0]) || sum != soft as u64 {
+        15
+    } else if out < lengths[0] as usize {
+        13
+    } else {
+        0
+    }
+}
+
+/// "each position gets the exact sum of its values, clamped to ±127 a single time at the end": of so many equally long words, one
+/// after another.
+pub fn combined(count: usize, soft: &[i8]) -> Vec<i8> {
+    let n = soft.len() / count;
+    let sum = |i: usize| (0..count).map(|w| i32::from(soft[w * n + i])).sum::<i32>();
+    (0..n).map(|i| sum(i).clamp(-127, 127) as i8).collect()
 }

@@ -5,7 +5,7 @@ use Rattle.std.proofs.Common.{ap, ◌∙◌, subst, inl, inr, arith}
 use Rattle.std.proofs.Math.Logic.{if_neg}
 use Rattle.std.proofs.Math.Decide.{ℕ_discrete, dec_lt}
 use Rattle.refusal.specs.Number.{number_of}
-use Rattle.refusal.specs.NumberLaws.{number_answer, accepted, refused}
+use Rattle.refusal.specs.NumberLaws.{highest, number_answer, accepted, refused}
 use Rattle.refusal.specs.declared.Refusal.{Refusal}
 use Rattle.refusal.specs.declared.Refusal.TheVariants.{Bch}
 use Rattle.bch_remainder.specs.Word.{remainder_of}
@@ -54,7 +54,7 @@ module _ (w : List ℕ) where
   unfolding decoded_of
   numbered = number_answer (word_refusal (length w)) (answer_of w) (least (ℕ_discrete (word_refusal (length w)) 0))
     where
-      least : Dec (word_refusal (length w) ≡ 0) → word_refusal (length w) ≤ 14
+      least : Dec (word_refusal (length w) ≡ 0) → word_refusal (length w) ≤ highest
       least (yes z) = omega arith
       least (no n) = omega (arith, word_refused (length w) n)
 

@@ -17,7 +17,7 @@ use Rattle.bch_locator.specs.Syndromes.{Syndromes, odd, first_part, second_part,
 use Rattle.bch_table.specs.Digits.{low_bit}
 use Rattle.bch_locator.proofs.Raised.{lanes_raised, ev_join}
 use Rattle.bch_locator.proofs.Filling.{Filling}
-use Rattle.laws.specs.Lists.{zeros_at}
+use Rattle.laws.specs.Lists.{replicate_at}
 use Rattle.laws.specs.Stores.{set_at}
 
 -- ---- `add_bit`
@@ -91,7 +91,7 @@ partial_again s w r k one two next p q D h le P Q U W A =
 -- ---- three words
 poly_none : (i : ℕ) → poly (replicate 16 0) i ≡ R16.𝟘
 unfolding poly
-poly_none i = ap to_el (zeros_at 16 i) ∙ to_el_zero
+poly_none i = ap to_el (replicate_at 0 16 i) ∙ to_el_zero
 
 pub joined_values : (a b c : List ℕ) (h m l : ℕ) → Horner a (replicate 16 0) h → Horner b a m → Horner c b l
     → (i : ℕ) → i < 12 → poly c i ≡ ev R16 192 (joined h m l) (odd i)

@@ -1,6 +1,6 @@
--- Parts of lists and lists of zeros, beside the kit's lib.Seq and lib.ListN.
+-- Parts of lists and lists of one element repeated, beside the kit's lib.Seq and lib.ListN.
 --
--- In order: a part taken first and dropped from (`drop_take`); a list of zeros at any index; the part of a slice from n on, as it is lent and as it
+-- In order: a part taken first and dropped from (`drop_take`); one element repeated, read at any index with that element as the default (`replicate_at`); the part of a slice from n on, as it is lent and as it
 -- comes back (`lent_from`, `back_from`); lists joined (`concat_chunks`, `concat_push`).
 --
 -- Not here: stores (Stores).
@@ -17,10 +17,10 @@ drop_take (suc f) zero l = let e : 0 ≡ 0 - suc f = omega arith in ap (λ (z : 
 drop_take (suc f) (suc t) [] = sym (take-nil (suc t - suc f))
 drop_take (suc f) (suc t) (x ∷ l) = drop_take f t l ∙ (let e : t - f ≡ suc t - suc f = omega arith in ap (λ (z : ℕ). take z (drop f l)) e)
 
-pub zeros_at : (n i : ℕ) → get_or {A = ℕ} (replicate n 0) i 0 ≡ 0
-zeros_at zero i = refl
-zeros_at (suc n) zero = refl
-zeros_at (suc n) (suc i) = zeros_at n i
+pub replicate_at : {A : Type 0} (d : A) (n i : ℕ) → get_or (replicate n d) i d ≡ d
+replicate_at d zero i = refl
+replicate_at d (suc n) zero = refl
+replicate_at d (suc n) (suc i) = replicate_at d n i
 
 -- the part of a slice from n on, as `&x[n..]` and `&mut x[n..]` lend it, and as it comes back
 module _ {A : Type 0} (n : ℕ) (x : List A) where

@@ -1,8 +1,8 @@
 -- Laws of the answers: which of two refusals `or_else` gives, and each answer's number is the refusal's.
-use Rattle.std.specs.Prelude.{◌≡◌, Bool, true, false, cond, not, List, ℕ, ◌*◌, ◌≤◌, eqb, ltb, leb, length}
+use Rattle.std.specs.Prelude.{◌≡◌, cond, not, List, ℕ, ◌*◌, ◌≤◌, eqb, ltb, leb, length}
 use Rattle.std.proofs.Common.{sym, ap, ◌∙◌, arith, eq-eqb, ne_eqb}
 use Rattle.refusal.specs.Number.{number_of}
-use Rattle.refusal.specs.NumberLaws.{number_answer}
+use Rattle.refusal.specs.NumberLaws.{highest, chosen_le, number_answer}
 use Rattle.ldpc_shape.specs.Shape.{q_of, total, any_over, counts_mod, bad_length, code_refusal}
 use Rattle.ldpc.specs.Answers.{or_else, short_of, other_of, beyond_of, new_refusal, check_refusal, parity_refusal, encode_refusal, weight_refusal, new_answer, check_answer, parity_answer, encode_answer, weight_answer}
 
@@ -15,34 +15,30 @@ unfolding or_else
 or_next a b r e f = f ∙ sym (ap (λ t. cond t b a) (eq-eqb a 0 e))
 
 -- ---- the number of each answer is the refusal's
-cond_le : (b : Bool) (x y m : ℕ) → x ≤ m → y ≤ m → cond b x y ≤ m
-cond_le true x y m h g = h
-cond_le false x y m h g = g
-
-code_le : (n : ℕ) (lens addrs : List ℕ) → code_refusal n lens addrs ≤ 14
+code_le : (n : ℕ) (lens addrs : List ℕ) → code_refusal n lens addrs ≤ highest
 unfolding code_refusal
 code_le n lens addrs =
-    cond_le (bad_length n) 2 _ 14 (omega arith)
-    (cond_le (leb n (374 * length lens)) 3 _ 14 (omega arith)
-    (cond_le (any_over 128 lens) 4 _ 14 (omega arith)
-    (cond_le (not (eqb (total lens) (length addrs))) 5 _ 14 (omega arith)
-    (cond_le (any_over 126 (counts_mod (q_of n lens) addrs (q_of n lens))) 6 0 14 (omega arith) (omega arith)))))
+    chosen_le (bad_length n) 2 _ (omega arith)
+    (chosen_le (leb n (374 * length lens)) 3 _ (omega arith)
+    (chosen_le (any_over 128 lens) 4 _ (omega arith)
+    (chosen_le (not (eqb (total lens) (length addrs))) 5 _ (omega arith)
+    (chosen_le (any_over 126 (counts_mod (q_of n lens) addrs (q_of n lens))) 6 0 (omega arith) (omega arith)))))
 
-else_le : (a b : ℕ) → a ≤ 14 → b ≤ 14 → or_else a b ≤ 14
+else_le : (a b : ℕ) → a ≤ highest → b ≤ highest → or_else a b ≤ highest
 unfolding or_else
-else_le a b h g = cond_le (eqb a 0) b a 14 g h
+else_le a b h g = chosen_le (eqb a 0) b a g h
 
-short_le : (needed size : ℕ) → short_of needed size ≤ 14
+short_le : (needed size : ℕ) → short_of needed size ≤ highest
 unfolding short_of
-short_le needed size = cond_le (ltb size needed) 13 0 14 (omega arith) (omega arith)
+short_le needed size = chosen_le (ltb size needed) 13 0 (omega arith) (omega arith)
 
-other_le : (size wanted : ℕ) → other_of size wanted ≤ 14
+other_le : (size wanted : ℕ) → other_of size wanted ≤ highest
 unfolding other_of
-other_le size wanted = cond_le (eqb size wanted) 0 12 14 (omega arith) (omega arith)
+other_le size wanted = chosen_le (eqb size wanted) 0 12 (omega arith) (omega arith)
 
-beyond_le : (c p : ℕ) → beyond_of c p ≤ 14
+beyond_le : (c p : ℕ) → beyond_of c p ≤ highest
 unfolding beyond_of
-beyond_le c p = cond_le (leb p c) 12 0 14 (omega arith) (omega arith)
+beyond_le c p = chosen_le (leb p c) 12 0 (omega arith) (omega arith)
 
 pub new_number : (n : ℕ) (lens addrs : List ℕ) (size : ℕ) → number_of (new_answer n lens addrs size) ≡ new_refusal n lens addrs size
 unfolding new_answer new_refusal

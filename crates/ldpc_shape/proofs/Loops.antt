@@ -6,7 +6,7 @@ use Rattle.std.specs.List.{list_any}
 use Rattle.std.proofs.lemmas.List.Sums.{sum_by-cons}
 use Rattle.std.proofs.lemmas.Bool.{eq-eqb, ne_eqb}
 use borrow.Author.Tests.{not-false, le-leb, lt-leb}
-use Rattle.laws.specs.Lists.{zeros_at}
+use Rattle.laws.specs.Lists.{replicate_at}
 use Rattle.laws.specs.Choice.{or_left, or_right}
 use Rattle.laws.specs.Stores.{set_at}
 use Rattle.ldpc_shape.specs.Shape.{k_of, p_of, q_of, total, any_over, count_mod, counts_mod, bad_length, code_refusal}
@@ -43,7 +43,7 @@ count_le q l (x ∷ xs) = go (eqb (x % q) l) (count_le q l xs)
 
 pub counted_start : (q : ℕ) (addrs : List ℕ) → CountsOf (replicate 120 0) q (take 0 addrs)
 unfolding count_mod
-counted_start q addrs = record { below = λ l h. zeros_at 120 l; behind = λ l h. zeros_at 120 l }
+counted_start q addrs = record { below = λ l h. replicate_at 0 120 l; behind = λ l h. replicate_at 0 120 l }
 
 one_more : (q : ℕ) (addrs r : List ℕ) (i p : ℕ) → i < length addrs → p ≡ get_or addrs i 0 % q → p < length r → p < q
     → CountsBelow r q (take i addrs) → CountsBelow (set r p (get_or r p 0 + 1)) q (take (i + 1) addrs)

@@ -1,7 +1,7 @@
 -- Refusals and their numbers, and what a call answers that may be refused.
 use Rattle.std.specs.Prelude.{List, [], ◌∷◌, ℕ, zero, suc, ◌-◌, get_or, Result, Ok, Err}
 use Rattle.refusal.specs.declared.Refusal.{Refusal}
-use Rattle.refusal.specs.declared.Refusal.TheVariants.{Form, N, Rows, RowLength, Addresses, EqualAddresses, Lanes, Words, IterationLimit, Step, Bch, Size, TooShort, Width}
+use Rattle.refusal.specs.declared.Refusal.TheVariants.{Form, N, Rows, RowLength, Addresses, EqualAddresses, Lanes, Words, IterationLimit, Step, Bch, Size, TooShort, Width, Lengths}
 
 -- the scope's number of each refusal
 abbrev pub number : Refusal → ℕ
@@ -19,10 +19,11 @@ number Bch = 11
 number Size = 12
 number TooShort = 13
 number Width = 14
+number Lengths = 15
 
 -- the refusals by their numbers, from 1 on
 abbrev pub refusals : List Refusal
-refusals = Form ∷ N ∷ Rows ∷ RowLength ∷ Addresses ∷ EqualAddresses ∷ Lanes ∷ Words ∷ IterationLimit ∷ Step ∷ Bch ∷ Size ∷ TooShort ∷ Width ∷ []
+refusals = Form ∷ N ∷ Rows ∷ RowLength ∷ Addresses ∷ EqualAddresses ∷ Lanes ∷ Words ∷ IterationLimit ∷ Step ∷ Bch ∷ Size ∷ TooShort ∷ Width ∷ Lengths ∷ []
 
 -- the refusal that has this number
 abbrev pub refusal_of : ℕ → Refusal

@@ -1,10 +1,10 @@
-// Why a call is refused: the fourteen refusals, with their numbers.
+// Why a call is refused: the fifteen refusals, with their numbers.
 #![tactic(auto)]
 
 ghost use Rattle.std.specs.Prelude.{◌≡◌};
 ghost use Rattle.refusal.specs.Number.{number};
 
-// What is wrong with a call, in the order of the numbers 1 to 14. `bindings/c/raxdov.h` says each at length.
+// What is wrong with a call, in the order of the numbers 1 to 15. `bindings/c/raxdov.h` says each at length.
 #[derive(Clone, Copy, Debug, PartialEq, Eq)]
 pub enum Refusal {
     // The report program's input is not of its form.
@@ -35,6 +35,8 @@ pub enum Refusal {
     TooShort,
     // A window's width is 0 or too large.
     Width,
+    // The soft words to combine are not 1 to 8, their lengths are not equal, or don't add up to the slice.
+    Lengths,
 }
 
 impl Refusal {

@@ -4,7 +4,7 @@ use Rattle.std.proofs.Common.{sym, ap, ap₂, subst, ◌∙◌, arith}
 use Rattle.std.proofs.Math.Decide.{ℕ_discrete, dec_lt}
 use Rattle.std.proofs.lemmas.Bool.{lt-ltb, le-ltb, eq-eqb, ne_eqb}
 use Rattle.refusal.specs.Number.{number, number_of, refusal_of}
-use Rattle.refusal.specs.NumberLaws.{number_least, number_refusal, refused, accepted as answered}
+use Rattle.refusal.specs.NumberLaws.{highest, chosen_le, number_least, number_refusal, refused, accepted as answered}
 use Rattle.refusal.specs.declared.Refusal.{Refusal}
 use Rattle.outcome.specs.Outcome.{is_finished}
 use Rattle.window.specs.declared.Record.{Record}
@@ -26,15 +26,11 @@ short_ring : (w room : ℕ) → w ≢ 0 → w ≤ 4096 → room < 3 * w → push
 unfolding push_refusal
 short_ring w room ne h g = simp (ne_eqb w 0 ne, le-ltb 4096 w h, lt-ltb room (3 * w) g)
 
-cond_le : (b : Bool) (x y m : ℕ) → x ≤ m → y ≤ m → cond b x y ≤ m
-cond_le true x y m h g = h
-cond_le false x y m h g = g
-
-most : (w room : ℕ) → push_refusal w room ≤ 14
+most : (w room : ℕ) → push_refusal w room ≤ highest
 unfolding push_refusal
 most w room =
-    cond_le (nat_eq w 0) 14 _ 14 (omega arith)
-    (cond_le (nat_lt 4096 w) 14 _ 14 (omega arith) (cond_le (nat_lt room (3 * w)) 13 0 14 (omega arith) (omega arith)))
+    chosen_le (nat_eq w 0) 14 _ (omega arith)
+    (chosen_le (nat_lt 4096 w) 14 _ (omega arith) (chosen_le (nat_lt room (3 * w)) 13 0 (omega arith) (omega arith)))
 
 -- what an accepted call knows
 pub record Fair (w room : ℕ) : Type 0 where

@@ -1,14 +1,14 @@
 use Rattle.std.proofs.Common.{refl, arith, rules}
 use Rattle.bch_locator.proofs.Steps.{state_zero, state_keep, state_grow, state_fail, state_end, state_start, state_move, one_first}
-use Rattle.laws.specs.Lists.{zeros_at}
+use Rattle.laws.specs.Lists.{replicate_at}
 use Rattle.bch_locator.proofs.Register.shortest.Goals as goal
 use Rattle.bch_locator.proofs.Register.shortest.Goals.{then-d-eq0, else-d-eq0+then-l-k+else-k-l-gt12, else-d-eq0+else-l-k}
 
 pub loop-k-init : goal.loop-k-init
-loop-k-init c = state_start _ _ _ refl (one_first _ refl (zeros_at 12)) (one_first _ refl (zeros_at 12))
+loop-k-init c = state_start _ _ _ refl (one_first _ refl (replicate_at 0 12)) (one_first _ refl (replicate_at 0 12))
 
 pub returns-then-k-l-gt12 : goal.returns-then-k-l-gt12
-returns-then-k-l-gt12 c = state_fail _ c.loop-k.c c.loop-k.b c.loop-k.l c.loop-k.m c.loop-k.e c.loop-k.k c.loop-k.invariant c.discrepancy-d.result (search rules) c.discrepancy-d.ensures (search rules) (search rules) (search rules) _ (zeros_at 13)
+returns-then-k-l-gt12 c = state_fail _ c.loop-k.c c.loop-k.b c.loop-k.l c.loop-k.m c.loop-k.e c.loop-k.k c.loop-k.invariant c.discrepancy-d.result (search rules) c.discrepancy-d.ensures (search rules) (search rules) (search rules) _ (replicate_at 0 13)
 
 pub loop-k-preserved : goal.loop-k-preserved
 loop-k-preserved c = elim c.if-d-eq0.branch [
