@@ -69,13 +69,28 @@ static void print_record(const uint32_t *record)
     printf(", changed by LDPC %u", (unsigned)record[RAXDOV_RECORD_CHANGED]);
 }
 
+/* A run of one word: what its tally counts it as. (Of each word of several its record says it: enum raxdov_tally.) */
+static const char *counted_as(const uint32_t *tally)
+{
+    if (tally[RAXDOV_TALLY_KEPT] == 1) {
+        return "kept";
+    }
+    if (tally[RAXDOV_TALLY_DOUBTFUL] == 1) {
+        return "doubtful";
+    }
+    return tally[RAXDOV_TALLY_LOST] == 1 ? "lost" : "not finished";
+}
+
 /* Window and ring belong together, and are handed on from record to record. (All records here are of one message, for
    show: a window counts what it is given.) */
 static void push_and_print(const uint32_t *record)
 {
     accepted("window", raxdov_window_push(WIDTH, window, record, ring, sizeof ring / sizeof *ring));
-    printf("  the last %" PRIu64 " finished: lost %" PRIu64 ", iterations %" PRIu64 ", corrected by BCH %" PRIu64 "\n",
-           window[RAXDOV_WINDOW_WORDS], window[RAXDOV_WINDOW_LOST], window[RAXDOV_WINDOW_ITERATIONS],
+    printf("  the last %" PRIu64 " finished: kept %" PRIu64 ", doubtful %" PRIu64 ", lost %" PRIu64
+           "; iterations %" PRIu64 ", corrected by BCH %" PRIu64 "\n",
+           window[RAXDOV_WINDOW_WORDS],
+           window[RAXDOV_WINDOW_WORDS] - window[RAXDOV_WINDOW_DOUBTFUL] - window[RAXDOV_WINDOW_LOST],
+           window[RAXDOV_WINDOW_DOUBTFUL], window[RAXDOV_WINDOW_LOST], window[RAXDOV_WINDOW_ITERATIONS],
            window[RAXDOV_WINDOW_CORRECTED]);
 }
 
@@ -101,7 +116,7 @@ static void run(const int8_t *word, uint32_t limit, uint32_t rounds)
     printf("limit %u: %s after %u rounds: ", (unsigned)limit, ending == RAXDOV_FINISHED ? "finished" : "stopped",
            (unsigned)tally[RAXDOV_TALLY_ROUNDS]);
     print_record(record);
-    printf("; the message is %s\n", memcmp(out, message, MESSAGE) == 0 ? "right" : "wrong");
+    printf(": %s; the message is %s\n", counted_as(tally), memcmp(out, message, MESSAGE) == 0 ? "right" : "wrong");
     push_and_print(record);
 }
 
@@ -159,8 +174,8 @@ int main(void)
     accepted("LDPC", raxdov_ldpc_encode(N, lens, ROWS, addrs, ADDRESSES, info, K, sent, N));
     receive(soft);
     printf("%u bits sent, %u received wrong\n", (unsigned)N, wrong(soft));
-    run(soft, 50, UINT32_MAX); /* every check is met */
-    run(soft, 4, UINT32_MAX);  /* checks are left, and BCH corrects the rest */
+    run(soft, 50, UINT32_MAX); /* every check is met, and BCH accepts it: the word is kept */
+    run(soft, 4, UINT32_MAX);  /* checks are left, and BCH corrects the rest: right here, but the word is doubtful */
     run(soft, 0, UINT32_MAX);  /* too many are left: the word is lost, and goes out as it came to BCH */
     for (i = 0; i < N; i++) {
         other += (soft[i] < 0) != out[i];

@@ -112,18 +112,23 @@ enum raxdov_record {
 enum raxdov_state {
     RAXDOV_WAITING = 0, /* no lane took the word: a record of zeros, output bits left as they were */
     RAXDOV_HELD = 1,    /* a lane holds the word: its hard decisions are written, without BCH */
-    RAXDOV_MET = 2,     /* finished with every check met, then corrected by BCH or lost */
-    RAXDOV_UNMET = 3    /* finished at the iteration limit with checks unmet, then corrected by BCH or lost */
+    RAXDOV_MET = 2,     /* finished with every check met, then corrected by BCH (kept) or lost */
+    RAXDOV_UNMET = 3    /* finished at the iteration limit with checks unmet, then corrected by BCH (doubtful) or
+                           lost */
 };
 
-/* The tally: tally[RAXDOV_TALLY_ROUNDS] .. */
+/* The tally: tally[RAXDOV_TALLY_ROUNDS] .. Every finished word is just one of kept, doubtful and lost, and no other
+   word is any of them: the three add up to the finished words. Which one a word is follows from its record: lost if its
+   BCH result is RAXDOV_LOST; else kept if its state is RAXDOV_MET, and doubtful if it is RAXDOV_UNMET. The BCH part of
+   a doubtful word is a codeword, as a kept word's is; its other bits are as LDPC left them, and some may be wrong. */
 enum raxdov_tally {
     RAXDOV_TALLY_ROUNDS = 0,
     RAXDOV_TALLY_LOADED = 1,     /* words that a lane took */
     RAXDOV_TALLY_ITERATIONS = 2, /* iterations given: the sum of the records' */
-    RAXDOV_TALLY_KEPT = 3,       /* finished words that BCH accepts */
-    RAXDOV_TALLY_LOST = 4,       /* finished words that BCH refuses */
-    RAXDOV_TALLY_COUNT = 5
+    RAXDOV_TALLY_KEPT = 3,       /* finished words that are met and that BCH accepts */
+    RAXDOV_TALLY_LOST = 4,       /* finished words that BCH calls uncorrectable, met or unmet */
+    RAXDOV_TALLY_DOUBTFUL = 5,   /* finished words that are unmet and that BCH accepts */
+    RAXDOV_TALLY_COUNT = 6
 };
 
 /* How a run ended. */
@@ -140,9 +145,10 @@ enum raxdov_window {
     RAXDOV_WINDOW_LOST = 2,       /* how many of them are lost */
     RAXDOV_WINDOW_ITERATIONS = 3, /* the sum of their iterations, lost words' too; of a run's records at most
                                      268,431,360 */
-    RAXDOV_WINDOW_CORRECTED = 4,  /* the sum of the bits that BCH corrected in them; a lost word adds 0; of a run's
-                                     records at most 49,152 */
-    RAXDOV_WINDOW_COUNT = 5
+    RAXDOV_WINDOW_CORRECTED = 4,  /* the sum of the bits that BCH corrected in them, doubtful words' too; a lost word
+                                     adds 0; of a run's records at most 49,152 */
+    RAXDOV_WINDOW_DOUBTFUL = 5,   /* how many of them are doubtful; the others are kept: words - lost - doubtful */
+    RAXDOV_WINDOW_COUNT = 6
 };
 
 /* The greatest width of a window, and the elements of its ring for each word of the width. */
@@ -210,8 +216,9 @@ uint32_t raxdov_bch_encode(const uint8_t *message, size_t message_len, uint8_t *
    many bits were changed, or RAXDOV_LOST: then every byte of the word is as it came in. Refused by 11. */
 uint32_t raxdov_bch_decode(uint8_t *word, size_t word_len, uint32_t *result);
 
-/* RAXDOV_RECORD_COUNT and RAXDOV_TALLY_COUNT of the archive that is linked: compare them with this header's, as a later
-   archive may have more numbers. */
+/* RAXDOV_RECORD_COUNT and RAXDOV_TALLY_COUNT of the archive that is linked: compare them with this header's before a
+   run, as another archive may have more numbers, which it would write past the end, or fewer, and leave the rest
+   unwritten. Size records and tally by these two names. */
 uint32_t raxdov_record_words(void);
 uint32_t raxdov_tally_words(void);
 
@@ -241,11 +248,12 @@ uint32_t raxdov_run_sizes(uint32_t n, const uint32_t *lens, size_t lens_len, con
 uint32_t raxdov_run(uint32_t n, const uint32_t *lens, size_t lens_len, const uint16_t *addrs, size_t addrs_len,
                     const int8_t *soft, size_t soft_len, uint32_t lanes, uint32_t limit, uint32_t layered,
                     uint32_t step, int8_t offset, uint32_t rounds, uint32_t first, uint32_t length, uint8_t *out,
-                    size_t out_len, uint32_t *records, size_t records_len, uint32_t tally[5], uint32_t *ending,
+                    size_t out_len, uint32_t *records, size_t records_len, uint32_t tally[6], uint32_t *ending,
                     int8_t *work, size_t work_len, uint32_t *lists, size_t lists_len);
 
-/* RAXDOV_WINDOW_COUNT of the archive that is linked: compare it with this header's, as a later archive may have more
-   numbers. (How many words a window covers is window[RAXDOV_WINDOW_WORDS].) */
+/* RAXDOV_WINDOW_COUNT of the archive that is linked: compare it with this header's before a push, as another archive
+   may have more numbers, which it would write past the end, or fewer, and leave the rest as they were. Size a window by
+   this name. (How many words a window covers is window[RAXDOV_WINDOW_WORDS].) */
 uint32_t raxdov_window_words(void);
 
 /* One record more of a long series, in a window over the last finished words.
@@ -254,19 +262,22 @@ uint32_t raxdov_window_words(void);
    numbers  one word's record (enum raxdov_record), as raxdov_run writes it: of its word w, records +
             RAXDOV_RECORD_COUNT * w. State, iterations and BCH result are read. A record whose state is neither
             RAXDOV_MET nor RAXDOV_UNMET is passed over: the call returns 0, and window and ring are as they were.
-            Every other record is taken, whatever its numbers; a BCH result of RAXDOV_LOST makes it a lost word
+            Every other record is taken, whatever its numbers: a BCH result of RAXDOV_LOST makes it a lost word, any
+            other a kept one if its state is RAXDOV_MET and a doubtful one if it is RAXDOV_UNMET
    ring     the records that the window covers: 3 * width elements. Beside an empty window what it holds does not
             matter, so one that begins anew needs only its window set to zeros
    Window and ring belong together: hand both on as the call before left them, with the same width. Then the figures
    after each call are those of the last width finished records since the window was empty, or of all if there are
    fewer, in the order of the calls; a run's records stand in the order of its words, not of their finishing. Window,
-   ring and width may be stored and loaded, together, for an archive with the same raxdov_window_words.
+   ring and width may be stored and loaded, together, for an archive with the same raxdov_window_words. For one with
+   another number begin anew, with a window of zeros; it covers the same words again when the last width finished
+   records are pushed into it in their order.
    If window or ring was altered, or the width is another, the call stays within its slices all the same, but the
    figures mean nothing, and go on to do so however many records follow, until the window is set to zeros. To change
    the width, begin anew: the window set to zeros, and a ring of 3 elements for each word of the new width.
    The time of a call does not depend on the width.
    Refused by 14, 13, whatever the record: window and ring are then unchanged. */
-uint32_t raxdov_window_push(uint32_t width, uint64_t window[5], const uint32_t numbers[6], uint32_t *ring,
+uint32_t raxdov_window_push(uint32_t width, uint64_t window[6], const uint32_t numbers[6], uint32_t *ring,
                             size_t ring_len);
 
 #ifdef __cplusplus

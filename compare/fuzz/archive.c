@@ -11,7 +11,7 @@
 
 static const uint8_t *at, *end;
 static const char *function;
-static uint64_t counts[17][16], executions, states[5], endings[2], changed_words[4], corrected, lost_outside, too_long;
+static uint64_t counts[17][16], executions, states[6], endings[2], changed_words[4], corrected, lost_outside, too_long;
 static uint64_t series, altered_series, passed_over, oldest_left, of_runs, clamped, combined_again, combined_words;
 static const char *const names[17] = {"quantise", "ldpc_sizes", "ldpc_new", "ldpc_check", "ldpc_parity", "ldpc_encode", "ldpc_syndrome_weight", "bch_parity", "bch_encode", "bch_decode", "record_words", "tally_words", "run_sizes", "run", "window_words", "window_push", "combine"};
 __attribute__((section("__libfuzzer_extra_counters"), used)) static uint8_t features[4096];
@@ -561,7 +561,7 @@ typedef struct {
     uint32_t width;
     int altered;
     Slice window, ring;
-    uint64_t numbers[5];
+    uint64_t numbers[WINDOW];
     uint32_t *same_ring;
     uint32_t (*records)[RECORD];
     size_t count, room;
@@ -571,9 +571,9 @@ static Series begin(uint32_t width, size_t ring)
 {
     Series s = {0};
     s.width = width;
-    s.window = lend(5, 8);
+    s.window = lend(WINDOW, 8);
     s.ring = lend(ring, 4);
-    memset(s.window.p, 0, 40);
+    memset(s.window.p, 0, 8 * WINDOW);
     s.same_ring = malloc(4 * ring + 1);
     memcpy(s.same_ring, s.ring.p, 4 * ring);
     series++;
@@ -593,7 +593,7 @@ static void end_series(Series *s)
 /* The ring is compared and the figures are worked out afresh if `all`. */
 static void push(Series *s, const uint32_t *record, int all)
 {
-    uint64_t *window = (uint64_t *)s->window.p, figures[4];
+    uint64_t *window = (uint64_t *)s->window.p, figures[WINDOW - 1];
     uint32_t refused = window_refusal(s->width, s->ring.size / 4);
     const char *called = function;
     function = names[15];
@@ -606,19 +606,19 @@ static void push(Series *s, const uint32_t *record, int all)
             oldest_left += full;
             if (s->count == s->room) s->records = realloc(s->records, (s->room = 2 * s->room + 8) * sizeof *s->records);
             memcpy(s->records[s->count++], record, sizeof *s->records);
-            features[3200 + 4 * full + 2 * (record[4] == LOST) + s->altered]++;
+            features[3200 + 6 * full + 2 * (record[4] == LOST ? 1 : record[0] == 3 ? 2 : 0) + s->altered]++;
         }
         window_push(s->width, s->numbers, record, s->same_ring);
     }
-    if (memcmp(window, s->numbers, 40)) wrong("another window");
+    if (memcmp(window, s->numbers, 8 * WINDOW)) wrong("another window");
     if (all) {
         if (s->ring.size && memcmp(s->ring.p, s->same_ring, s->ring.size)) wrong("another ring");
         if (!s->altered) {
             figures_of((const uint32_t(*)[RECORD])s->records, s->count, s->width, figures);
-            if (memcmp(window + 1, figures, 32)) wrong("figures that are not those of the last records");
+            if (memcmp(window + 1, figures, sizeof figures)) wrong("figures that are not those of the last records");
         }
     }
-    unchanged_from(s->window, 40, "");
+    unchanged_from(s->window, 8 * WINDOW, "");
     unchanged_from(s->ring, s->ring.size, "");
     function = called;
 }
@@ -655,11 +655,11 @@ static void test_window(void)
     if ((b & 3) == 3) { /* a window of any numbers */
         s.altered = 1;
         altered_series++;
-        for (int i = 0; i < 5; i++) {
+        for (int i = 0; i < WINDOW; i++) {
             uint32_t kind = byte();
             s.numbers[i] = kind & 1 ? (uint64_t)chance(65536) << 48 | chance(65536) : kind & 2 ? (uint64_t)width + (kind >> 2) % 4 - 1 : (uint64_t)0 - (kind >> 2) % 3;
         }
-        memcpy(s.window.p, s.numbers, 40);
+        memcpy(s.window.p, s.numbers, 8 * WINDOW);
     }
     for (uint32_t i = 0; i < pushes; i++) {
         Slice record = lend(RECORD, 4);
@@ -682,8 +682,8 @@ static Series over_runs;
 static void test_numbers(void)
 {
     if (raxdov_record_words() != RECORD || RAXDOV_RECORD_COUNT != RECORD) wrong("record_words");
-    if (raxdov_tally_words() != 5) wrong("tally_words");
-    if (raxdov_window_words() != 5 || RAXDOV_WINDOW_COUNT != 5) wrong("window_words");
+    if (raxdov_tally_words() != TALLY || RAXDOV_TALLY_COUNT != TALLY) wrong("tally_words");
+    if (raxdov_window_words() != WINDOW || RAXDOV_WINDOW_COUNT != WINDOW) wrong("window_words");
     counts[10][0]++;
     counts[11][0]++;
     counts[14][0]++;
@@ -837,7 +837,7 @@ static int test_run(void)
         give_code(c);
         return 0;
     }
-    Slice out = lend(lent.out, 1), records = lend(lent.records, 4), tally = lend(5, 4), ending = lend(1, 4), work = lend(lent.work, 1), lists = lend(lent.lists, 4);
+    Slice out = lend(lent.out, 1), records = lend(lent.records, 4), tally = lend(TALLY, 4), ending = lend(1, 4), work = lend(lent.work, 1), lists = lend(lent.lists, 4);
     answered(13, raxdov_run(CODE(c), (const int8_t *)soft.p, size, set.lanes, set.limit, set.layered, set.step, set.offset, set.rounds, set.first, set.length, out.p, lent.out, (uint32_t *)records.p, lent.records, (uint32_t *)tally.p, (uint32_t *)ending.p, (int8_t *)work.p, lent.work, (uint32_t *)lists.p, lent.lists), refused);
     unchanged(soft);
     if (refused) {
@@ -845,7 +845,7 @@ static int test_run(void)
     } else {
         Lists l = lists_of(c.code);
         const uint32_t *got = (const uint32_t *)tally.p;
-        uint32_t sums[5] = {got[0], 0, 0, 0, 0};
+        uint32_t sums[TALLY] = {got[0]};
         for (size_t w = 0; w < words; w++) {
             const uint32_t *r = (const uint32_t *)records.p + RECORD * w;
             Word *word = &run.word[w];
@@ -860,21 +860,23 @@ static int test_run(void)
             if (memcmp(bits, word->state ? word->bits : out.copy + out.front + w * n, n)) wrong("other bits");
             sums[1] += r[0] > 0;
             sums[2] += r[1];
-            sums[3] += r[0] > 1 && r[4] != LOST;
+            sums[3] += r[0] == 2 && r[4] != LOST;
             sums[4] += r[4] == LOST;
+            sums[5] += r[0] == 3 && r[4] != LOST;
             states[r[0]]++;
             states[4] += r[4] == LOST;
+            states[5] += r[0] == 3 && r[4] != LOST;
             features[2048 + r[0] * 256 + (r[4] == LOST ? 15 : r[4]) * 16 + (r[1] < 15 ? r[1] : 15)]++;
             changed_words[r[0]] += r[5] > 0;
             unsigned digits = 0; /* binary */
             while (r[5] >> digits) digits++;
             features[3072 + r[0] * 32 + digits]++;
         }
-        if (memcmp(got, sums, 20)) wrong("a tally that is not the records'");
+        if (memcmp(got, sums, sizeof sums)) wrong("a tally that is not the records'");
         if (!over_runs.same_ring) over_runs = begin(3, 9);
         for (size_t w = 0; w < words; w++) push(&over_runs, (const uint32_t *)records.p + RECORD * w, 1);
         of_runs += words;
-        if (memcmp(got, run.tally, 20)) wrong("another tally");
+        if (memcmp(got, run.tally, sizeof run.tally)) wrong("another tally");
         if (*(uint32_t *)ending.p != run.ending) wrong("another ending");
         endings[run.ending]++;
         features[1100 + run.ending]++;
@@ -888,7 +890,7 @@ static int test_run(void)
         unchanged_from(records, 4 * RECORD * words, "tail of the records changed");
         unchanged_from(work, w, "tail of work changed");
         unchanged_from(lists, x, "tail of lists changed");
-        unchanged_from(tally, 20, "");
+        unchanged_from(tally, 4 * TALLY, "");
         unchanged_from(ending, 4, "");
         lists_free(l);
         run_free(&run);
@@ -911,9 +913,9 @@ static void tell(void)
             if (counts[f][i]) fprintf(stderr, " %d: %lu", i, counts[f][i]);
         fprintf(stderr, "\n");
     }
-    fprintf(stderr, "counts: runs finished %lu, stopped %lu; words: waiting %lu, held %lu, met %lu, unmet %lu, of them lost %lu; with bits changed by LDPC: held %lu, met %lu, unmet %lu; BCH words corrected %lu, lost by an error outside %lu\n"
+    fprintf(stderr, "counts: runs finished %lu, stopped %lu; words: waiting %lu, held %lu, met %lu, unmet %lu, of them lost %lu, doubtful %lu; with bits changed by LDPC: held %lu, met %lu, unmet %lu; BCH words corrected %lu, lost by an error outside %lu\n"
                     "counts: windows %lu, %lu of them altered; records passed over %lu; pushes where the oldest left %lu; records of runs pushed %lu\n"
-                    "counts: combined values at a limit %lu; combined again in another order and beside a word of zeros %lu; words of runs combined %lu\n", endings[0], endings[1], states[0], states[1], states[2], states[3], states[4], changed_words[1], changed_words[2], changed_words[3], corrected, lost_outside, series, altered_series, passed_over, oldest_left, of_runs, clamped, combined_again, combined_words);
+                    "counts: combined values at a limit %lu; combined again in another order and beside a word of zeros %lu; words of runs combined %lu\n", endings[0], endings[1], states[0], states[1], states[2], states[3], states[4], states[5], changed_words[1], changed_words[2], changed_words[3], corrected, lost_outside, series, altered_series, passed_over, oldest_left, of_runs, clamped, combined_again, combined_words);
 }
 
 int LLVMFuzzerInitialize(int *argc, char ***argv)

@@ -49,7 +49,7 @@ int main(int argc, char **argv)
     if (argc < 2) return 2;
     size = (size_t)atol(argv[1]) << 20;
     uint8_t *a = room(), *b = room(), *c = room(), *d = room(), parity[192];
-    uint32_t number, tally[5], ending, five[5], got;
+    uint32_t number, tally[TALLY], ending, five[5], got;
     scope_start();
 
     CALL(raxdov_bch_decode(a, size, &number)), told("bch_decode, a huge word", got, 11, 1);
@@ -72,14 +72,14 @@ int main(int argc, char **argv)
     CALL(raxdov_run(N, lens, 1, addrs, 3, (const int8_t *)a, whole + 1, LANES, 5, 0, 0, 1, 9, 0, N, b, size, (uint32_t *)c, size / 4, tally, &ending, (int8_t *)d, size, five, 5));
     told("run, soft values that are no whole number of words", got, 8, zeros_from(b, 0));
 
-    uint64_t window[5] = {1, 2, 3, 4, 5};
+    uint64_t window[WINDOW] = {1, 2, 3, 4, 5, 6};
     uint32_t record[RECORD] = {3, 50, 7, 1, 12, 9}, left[RECORD] = {0};
-    CALL(raxdov_window_push(4097, window, record, (uint32_t *)b, size / 4)), told("window_push, too wide, a huge ring", got, 14, window[0] == 1 && window[4] == 5 && zeros_from(b, 0));
+    CALL(raxdov_window_push(4097, window, record, (uint32_t *)b, size / 4)), told("window_push, too wide, a huge ring", got, 14, window[0] == 1 && window[4] == 5 && window[5] == 6 && zeros_from(b, 0));
 
     /* accepted, with much room behind what is written */
     memset(window, 0, sizeof window);
     CALL(raxdov_window_push(4096, window, record, (uint32_t *)b, size / 4)), memcpy(left, b, 12);
-    told("window_push, a huge ring", got, 0, window[0] == 1 && window[1] == 1 && window[2] == 0 && window[3] == 50 && window[4] == 12 && left[0] == 3 && left[1] == 50 && left[2] == 12 && zeros_from(b, 12));
+    told("window_push, a huge ring", got, 0, window[0] == 1 && window[1] == 1 && window[2] == 0 && window[3] == 50 && window[4] == 12 && window[5] == 1 && left[0] == 3 && left[1] == 50 && left[2] == 12 && zeros_from(b, 12));
     memset(b, 0, 12);
     uint8_t message[300];
     for (int i = 0; i < 300; i++) message[i] = (uint8_t)(i * 7 % 3 == 0);
@@ -92,7 +92,7 @@ int main(int argc, char **argv)
     static uint32_t lists[P + 1 + E];
     for (int i = 0; i < N * WORDS; i++) soft[i] = i % 97 ? 20 : -9;
     CALL(raxdov_run(N, lens, 1, addrs, 3, soft, sizeof soft, LANES, 50, 0, 0, 1, 99, 0, N, b, size, (uint32_t *)c, size / 4, tally, &ending, (int8_t *)d, size, lists, P + 1 + E));
-    told("run, huge output, records and work", got, 0, tally[1] == WORDS && ending == 0 && zeros_from(b, N * WORDS) && zeros_from(c, 4 * RECORD * WORDS) && zeros_from(d, 0));
+    told("run, huge output, records and work", got, 0, tally[1] == WORDS && tally[3] + tally[4] + tally[5] == WORDS && ending == 0 && zeros_from(b, N * WORDS) && zeros_from(c, 4 * RECORD * WORDS) && zeros_from(d, 0));
 
     /* eight words that fill a slice */
     for (size_t i = 0; i < size; i++) a[i] = (uint8_t)(i * 2654435761u >> 13);

@@ -424,7 +424,7 @@ uint32_t run_of(Code code, const int8_t *soft, size_t words, Settings set, uint6
         if (word->state == 1) continue;
         word->state = word->unsatisfied ? 3 : 2;
         word->bch = bch_decode(word->bits + set.first, set.length);
-        run->tally[word->bch == LOST ? 4 : 3]++;
+        run->tally[word->bch == LOST ? 4 : word->unsatisfied ? 5 : 3]++; /* lost; doubtful; kept */
     }
 out:
     free(ends);
@@ -455,23 +455,26 @@ uint32_t window_refusal(uint32_t width, size_t ring)
 
 int finished(const uint32_t record[RECORD]) { return record[0] == 2 || record[0] == 3; }
 
-void figures_of(const uint32_t (*records)[RECORD], size_t count, size_t width, uint64_t figures[4])
+void figures_of(const uint32_t (*records)[RECORD], size_t count, size_t width, uint64_t figures[WINDOW - 1])
 {
     size_t first = count > width ? count - width : 0;
     figures[0] = count - first;
-    figures[1] = figures[2] = figures[3] = 0;
+    figures[1] = figures[2] = figures[3] = figures[4] = 0;
     for (size_t i = first; i < count; i++) {
         figures[2] += records[i][1];
         if (records[i][4] == LOST)
             figures[1]++; /* a lost word adds no corrected bits */
-        else
+        else {
             figures[3] += records[i][4];
+            if (records[i][0] == 3) figures[4]++;
+        }
     }
 }
 
 /* The request says nothing of windows that were altered. Decided: a place at or past the width is taken as 0, as many words as the
-   width or more as a full window, sums are modulo 2^64, and a record of the ring counts as lost only if it is a finished word's. */
-void window_push(uint32_t width, uint64_t window[5], const uint32_t record[RECORD], uint32_t *ring)
+   width or more as a full window, sums are modulo 2^64, and a record of the ring counts as lost only if it is a finished
+   word's, and as doubtful only if it is an unmet word's. */
+void window_push(uint32_t width, uint64_t window[WINDOW], const uint32_t record[RECORD], uint32_t *ring)
 {
     if (!finished(record)) return;
     uint64_t slot = window[0] >= width ? 0 : window[0];
@@ -479,9 +482,10 @@ void window_push(uint32_t width, uint64_t window[5], const uint32_t record[RECOR
     if (window[1] >= width) { /* the oldest leaves */
         window[1] = width - 1;
         window[3] -= place[1];
-        if (place[2] != LOST)
+        if (place[2] != LOST) {
             window[4] -= place[2];
-        else if (place[0] == 2 || place[0] == 3)
+            window[5] -= place[0] == 3;
+        } else if (place[0] == 2 || place[0] == 3)
             window[2]--;
     }
     place[0] = record[0];
@@ -492,6 +496,7 @@ void window_push(uint32_t width, uint64_t window[5], const uint32_t record[RECOR
     window[2] += record[4] == LOST;
     window[3] += record[1];
     window[4] += record[4] == LOST ? 0 : record[4];
+    window[5] += record[0] == 3 && record[4] != LOST;
 }
 
 /* ---- the report's text ---- */

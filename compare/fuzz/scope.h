@@ -8,6 +8,10 @@
 #define LOST 4294967295u
 /* Numbers of a word's record. */
 #define RECORD 6
+/* Numbers of a tally: rounds, words loaded, iterations given, kept, lost, doubtful; and of a window: place, words, lost, iterations,
+   corrected bits, doubtful. */
+#define TALLY 6
+#define WINDOW 6
 /* A run that needs more work than a fuzz target has time for. */
 #define TOO_LONG 1000u
 
@@ -45,7 +49,7 @@ typedef struct {
 typedef struct {
     size_t words;
     Word *word;
-    uint32_t tally[5], ending;
+    uint32_t tally[TALLY], ending;
 } Run;
 
 void scope_start(void);
@@ -72,10 +76,10 @@ void run_free(Run *run);
 uint32_t window_refusal(uint32_t width, size_t ring);
 /* Whether a record is of a finished word. */
 int finished(const uint32_t record[RECORD]);
-/* Words, lost, iterations and corrected bits of the last `width` of these finished records, or of all if there are fewer. */
-void figures_of(const uint32_t (*records)[RECORD], size_t count, size_t width, uint64_t figures[4]);
-/* What an accepted push makes of any window (place, words, lost, iterations, corrected) and ring, also of altered ones. */
-void window_push(uint32_t width, uint64_t window[5], const uint32_t record[RECORD], uint32_t *ring);
+/* Words, lost, iterations, corrected bits and doubtful of the last `width` of these finished records, or of all if there are fewer. */
+void figures_of(const uint32_t (*records)[RECORD], size_t count, size_t width, uint64_t figures[WINDOW - 1]);
+/* What an accepted push makes of any window and ring, also of altered ones. */
+void window_push(uint32_t width, uint64_t window[WINDOW], const uint32_t record[RECORD], uint32_t *ring);
 /* The report on a text: its size, or 0 if the run is too long. The form alone: *form is 1 for a text of the form. */
 #define REPORT_ROOM 4096
 size_t report_of(const uint8_t *text, size_t size, uint64_t budget, char out[REPORT_ROOM], int *form);

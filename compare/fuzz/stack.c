@@ -14,7 +14,7 @@ enum { N = 1122, ROWS = 2, TOTAL = 8, WORDS = 5, LANES = 64, BCH = 65535 };
 static const uint32_t lens[ROWS] = {4, 4};
 static const uint16_t addrs[TOTAL] = {0, 40, 121, 300, 7, 7, 381, 65535};
 static uint8_t word[BCH], out[BCH];
-static uint32_t lists[8192], records[RAXDOV_RECORD_COUNT * WORDS], tally[5], ending, number, five[RAXDOV_RECORD_COUNT], index_[8192];
+static uint32_t lists[8192], records[RAXDOV_RECORD_COUNT * WORDS], tally[RAXDOV_TALLY_COUNT], ending, number, five[RAXDOV_RECORD_COUNT], index_[8192];
 static int8_t soft[N * WORDS], work[(N + 3 * 4000) * LANES], soft_out[64];
 static float llr[64];
 static size_t needs[2];

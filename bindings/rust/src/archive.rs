@@ -10,8 +10,8 @@ use crate::refusal::Refusal;
 
 /// Numbers that a word's record, the tally and a window have.
 pub(crate) const RECORD: usize = 6;
-const TALLY: usize = 5;
-pub(crate) const WINDOW: usize = 5;
+const TALLY: usize = 6;
+pub(crate) const WINDOW: usize = 6;
 
 /// Ok for 0, else the refusal of the number.
 fn answer(number: u32) -> Result<(), Refusal> {

@@ -123,7 +123,7 @@ unsafe extern "C" {
         out_len: usize,
         records: *mut u32,
         records_len: usize,
-        tally: *mut [u32; 5],
+        tally: *mut [u32; 6],
         ending: *mut u32,
         work: *mut i8,
         work_len: usize,
@@ -133,7 +133,7 @@ unsafe extern "C" {
     pub fn raxdov_window_words() -> u32;
     pub fn raxdov_window_push(
         width: u32,
-        window: *mut [u64; 5],
+        window: *mut [u64; 6],
         numbers: *const [u32; 6],
         ring: *mut u32,
         ring_len: usize,

@@ -1,8 +1,10 @@
 //! A run: words of soft values decoded side by side in lanes, each finished word's BCH part corrected, with a round
 //! limit, a record of every word and a tally. What a finished word gets does not depend on the other words, on the lanes or
-//! on the round limit; a held word has the bits and the count of changed bits that it has alone after its iterations. A
-//! word that BCH can't correct is lost, and goes out as LDPC left it.
-//! A [`Window`] looks at the last finished words of many runs.
+//! on the round limit; a held word has the bits and the count of changed bits that it has alone after its iterations.
+//!
+//! A finished word is just one of kept, doubtful and lost. BCH can't correct a lost one, which goes out as LDPC left it. It
+//! accepts the others: a kept one met every check before, a doubtful one did not. The [`Tally`] counts each sort, and a
+//! word's own follows from its [`Record`]. A [`Window`] looks at the last finished words of many runs.
 //!
 //! ```
 //! use raxdov::ldpc::Code;
@@ -21,6 +23,7 @@
 //! assert_eq!(ran.records[0].state, State::Met);
 //! assert_eq!(ran.records[1].state, State::Unmet);
 //! assert_eq!((ran.records[1].unsatisfied, ran.records[1].bch), (1, Ok(1)));
+//! assert_eq!((ran.tally.kept, ran.tally.doubtful, ran.tally.lost), (1, 1, 0));
 //! assert_eq!(bits, vec![0; 2 * 748]);
 //! ```
 
@@ -112,9 +115,9 @@ pub enum State {
     Waiting,
     /// A lane holds it: its output bits are its hard decisions, without BCH.
     Held,
-    /// Finished with every check met.
+    /// Finished with every check met: kept if BCH accepts it, else lost.
     Met,
-    /// Finished at the iteration limit with checks unmet.
+    /// Finished at the iteration limit with checks unmet: doubtful if BCH accepts it, else lost.
     Unmet,
 }
 
@@ -152,15 +155,21 @@ pub struct Record {
     pub changed: u32,
 }
 
-/// What a run did in all.
+/// What a run did in all. Every finished word is just one of kept, doubtful and lost, and no other word is any of them: the
+/// three add up to the finished words. Which one a word is follows from its [`Record`]: lost if `bch` is an error; else
+/// kept if its state is [`State::Met`], and doubtful if it is [`State::Unmet`].
 ///
 /// ```
 /// use raxdov::ldpc::Code;
 /// use raxdov::run::{Runner, Settings, Tally};
 ///
+/// // of the first word no bit is wrong, of the others 1 and 13, and LDPC has no iteration
 /// let code = Code::new(748, &[&[0]]);
-/// let ran = Runner::new().run(&code, &[1; 748], &Settings::new(1, 50), &mut vec![0; 748]).unwrap();
-/// assert_eq!(ran.tally, Tally { rounds: 0, loaded: 1, iterations: 0, kept: 1, lost: 0 });
+/// let mut soft = vec![1; 3 * 748];
+/// soft[748] = -1;
+/// soft[2 * 748..][..13].fill(-1);
+/// let ran = Runner::new().run(&code, &soft, &Settings::new(1, 0), &mut vec![0; 3 * 748]).unwrap();
+/// assert_eq!(ran.tally, Tally { rounds: 0, loaded: 3, iterations: 0, kept: 1, lost: 1, doubtful: 1 });
 /// ```
 #[derive(Debug, Clone, Copy, PartialEq, Eq)]
 pub struct Tally {
@@ -170,10 +179,13 @@ pub struct Tally {
     pub loaded: u32,
     /// Iterations given: the sum of the records'.
     pub iterations: u32,
-    /// Finished words that BCH accepts.
+    /// Finished words that are met and that BCH accepts.
     pub kept: u32,
-    /// Finished words that BCH refuses.
+    /// Finished words that BCH calls uncorrectable, met or unmet.
     pub lost: u32,
+    /// Finished words that are unmet and that BCH accepts: their BCH part is a codeword, as a kept word's is; their other bits
+    /// are as LDPC left them, and some may be wrong.
+    pub doubtful: u32,
 }
 
 /// How a run ended.
@@ -297,7 +309,7 @@ impl Runner {
             lists: &mut self.lists[..lists],
         };
         let (tally, ending) = archive::run(lent, soft, asked(settings), out, room)?;
-        let [rounds, loaded, iterations, kept, lost] = tally;
+        let [rounds, loaded, iterations, kept, lost, doubtful] = tally;
         Ok(Ran {
             ending: match ending {
                 0 => Ending::Finished,
@@ -310,6 +322,7 @@ impl Runner {
                 iterations,
                 kept,
                 lost,
+                doubtful,
             },
             records: self.records[..RECORD * words]
                 .chunks_exact(RECORD)

@@ -110,7 +110,9 @@ fn a_run_gives_the_hard_decisions_of_lost_words() {
         let ran = Runner::new()
             .run(&code, &words.concat(), &settings, &mut out)
             .unwrap();
-        assert_eq!((ran.tally.kept, ran.tally.lost), (0, words.len() as u32));
+        let tally = ran.tally;
+        let lost = words.len() as u32;
+        assert_eq!((tally.kept, tally.doubtful, tally.lost), (0, 0, lost));
         let soft: Vec<&[i8]> = words.iter().map(Vec::as_slice).collect();
         let params = Params::new(limit as usize, 1);
         let alone = Decoder::<64>::default().decode_all(&code, &soft, params);

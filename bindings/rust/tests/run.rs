@@ -1,9 +1,10 @@
-//! Refusals of a run, memory that is used again, and the stack that a run needs.
+//! Refusals of a run, what its records and tally say, memory that is used again, and the stack that a run needs.
 
 use raxdov::Refusal;
+use raxdov::bch::Uncorrectable;
 use raxdov::ldpc::Code;
 use raxdov::ldpc::fixed::Schedule;
-use raxdov::run::{Runner, Settings, State};
+use raxdov::run::{Record, Runner, Settings, State, Window};
 
 fn code() -> Code {
     Code::new(748, &[&[0, 40, 121]])
@@ -150,6 +151,81 @@ fn bits_changed_by_ldpc() {
     assert_eq!(run(50, 1), [(State::Held, Ok(0), 2), waiting]);
     let both = [(State::Met, Ok(0), 3), (State::Held, Ok(0), 2)];
     assert_eq!(run(50, 3), both);
+}
+
+/// Which of kept, doubtful and lost a word is, by its record; none of them before it is finished.
+fn sorts(record: &Record) -> [u32; 3] {
+    match (record.state, record.bch) {
+        (State::Waiting | State::Held, _) => [0, 0, 0],
+        (State::Met, Ok(_)) => [1, 0, 0],
+        (State::Unmet, Ok(_)) => [0, 1, 0],
+        (State::Met | State::Unmet, Err(Uncorrectable)) => [0, 0, 1],
+    }
+}
+
+/// Words of every sort in one run: the tally counts them as their records say, and so does a window.
+#[test]
+fn kept_doubtful_and_lost() {
+    // a codeword of LDPC; no codeword of BCH is near its first 193 bits
+    let thirteen = code().encode(&[vec![1; 13], vec![0; 361]].concat());
+    let values = |bits: &[u8], wrong: &[usize]| -> Vec<i8> {
+        let mut word: Vec<i8> = bits.iter().map(|&b| 9 - 18 * b as i8).collect();
+        for &at in wrong {
+            word[at] = -word[at];
+        }
+        word
+    };
+    let zeros = vec![0; 748];
+    let soft = [
+        values(&zeros, &[]),         // met, accepted
+        values(&zeros, &[0]),        // unmet, and BCH corrects it
+        values(&zeros, &[747]),      // unmet behind the BCH part, which BCH accepts as it is
+        values(&thirteen, &[]),      // met, and BCH gives it up
+        values(&thirteen, &[747]),   // unmet, and BCH gives it up
+        values(&zeros, &[747, 192]), // unmet in both
+    ]
+    .concat();
+    let run = |lanes, rounds| {
+        let settings = Settings {
+            rounds,
+            ..Settings::new(lanes, if rounds == 0 { 1 } else { 0 })
+        };
+        let ran = Runner::new()
+            .run(&code(), &soft, &settings, &mut vec![0; soft.len()])
+            .unwrap();
+        let (tally, finished) = (ran.tally, sorts_of(&ran.records));
+        assert_eq!([tally.kept, tally.doubtful, tally.lost], finished);
+        let mut window = Window::new(4096).unwrap();
+        window.extend(&ran.records);
+        let kept = window.words() - window.doubtful() - window.lost();
+        let figures = [kept, window.doubtful(), window.lost()];
+        assert_eq!(figures, finished.map(u64::from));
+        ran.records
+    };
+    let [met, unmet] = [State::Met, State::Unmet];
+    let records = run(1, u32::MAX);
+    let told: Vec<_> = records.iter().map(|r| (r.state, r.bch)).collect();
+    assert_eq!(
+        told,
+        [
+            (met, Ok(0)),
+            (unmet, Ok(1)),
+            (unmet, Ok(0)),
+            (met, Err(Uncorrectable)),
+            (unmet, Err(Uncorrectable)),
+            (unmet, Ok(1)),
+        ]
+    );
+    assert_eq!(sorts_of(&records), [1, 3, 2]);
+    // held and waiting words are none of them
+    assert_eq!(sorts_of(&run(1, 0)), [1, 0, 0]);
+    assert_eq!(sorts_of(&run(64, 0)), [1, 0, 1]);
+}
+
+fn sorts_of(records: &[Record]) -> [u32; 3] {
+    records.iter().map(sorts).fold([0; 3], |sum, one| {
+        [sum[0] + one[0], sum[1] + one[1], sum[2] + one[2]]
+    })
 }
 
 /// One runner for codes and lanes of any size, in any order.

@@ -40,18 +40,24 @@ fn finished(record: &Record) -> bool {
     matches!(record.state, State::Met | State::Unmet)
 }
 
-/// Words, lost, iterations, corrected bits.
-fn figures(window: &Window) -> [u64; 4] {
+/// Unmet and accepted by BCH.
+fn doubtful(record: &Record) -> bool {
+    record.state == State::Unmet && record.bch.is_ok()
+}
+
+/// Words, lost, iterations, corrected bits, doubtful.
+fn figures(window: &Window) -> [u64; 5] {
     [
         window.words(),
         window.lost(),
         window.iterations(),
         window.corrected(),
+        window.doubtful(),
     ]
 }
 
 /// Of the last `width` finished records.
-fn afresh(width: u32, all: &[Record]) -> [u64; 4] {
+fn afresh(width: u32, all: &[Record]) -> [u64; 5] {
     let finished = all.iter().rev().filter(|r| finished(r));
     let last: Vec<&Record> = finished.take(width as usize).collect();
     [
@@ -59,6 +65,7 @@ fn afresh(width: u32, all: &[Record]) -> [u64; 4] {
         last.iter().filter(|r| r.bch.is_err()).count() as u64,
         last.iter().map(|r| u64::from(r.iterations)).sum(),
         last.iter().map(|r| u64::from(r.bch.unwrap_or(0))).sum(),
+        last.iter().filter(|r| doubtful(r)).count() as u64,
     ]
 }
 
@@ -77,11 +84,15 @@ fn figures_are_those_worked_out_afresh() {
     ] {
         let mut window = Window::new(width).unwrap();
         let mut all = Vec::new();
+        // doubtful words that came for others, and that left for others
+        let (mut came, mut left) = (0, 0);
         for i in 0..count {
             let record = d.record();
             let before = window.clone();
             window.push(&record);
             all.push(record);
+            came += usize::from(window.doubtful() > before.doubtful());
+            left += usize::from(window.doubtful() < before.doubtful());
             if !finished(&record) {
                 assert_eq!(window, before);
             }
@@ -91,6 +102,7 @@ fn figures_are_those_worked_out_afresh() {
             }
         }
         assert_eq!((window.width(), window.words()), (width, u64::from(width)));
+        assert!(came > 5 && left > 5, "width {width}: {came}, {left}");
         // many at once, borrowed and not
         let (early, late) = all.split_at(all.len() / 3);
         let mut again = Window::new(width).unwrap();
@@ -123,13 +135,68 @@ fn the_greatest_sums() {
     };
     window.extend([lost; 4096]);
     assert_eq!((window.lost(), window.corrected()), (4096, 0));
+    // unmet, it is lost all the same; with one corrected bit fewer it is doubtful
+    let unmet = |bch| Record {
+        state: State::Unmet,
+        bch: Ok(bch),
+        ..greatest
+    };
+    window.extend([unmet(u32::MAX); 4096]);
+    assert_eq!((window.lost(), window.doubtful()), (4096, 0));
+    window.extend([unmet(u32::MAX - 1); 4096]);
+    assert_eq!((window.lost(), window.doubtful()), (0, 4096));
+}
+
+/// One of each sort after the other, in a window of three: what each is counted as when it comes and when it leaves.
+#[test]
+fn kept_doubtful_and_lost_come_and_leave() {
+    let record = |state, bch| Record {
+        state,
+        iterations: 1,
+        unsatisfied: 0,
+        check: 0,
+        bch,
+        changed: 0,
+    };
+    let [kept, doubtful] = [State::Met, State::Unmet].map(|state| record(state, Ok(2)));
+    let [lost, lost_unmet] =
+        [State::Met, State::Unmet].map(|state| record(state, Err(Uncorrectable)));
+    let [waiting, held] = [State::Waiting, State::Held].map(|state| record(state, Ok(0)));
+    let mut window = Window::new(3).unwrap();
+    // the record, and then how many are kept, doubtful and lost
+    for (record, sorts) in [
+        (waiting, [0, 0, 0]),
+        (doubtful, [0, 1, 0]),
+        (held, [0, 1, 0]),
+        (doubtful, [0, 2, 0]),
+        (kept, [1, 2, 0]),
+        (lost, [1, 1, 1]),
+        (kept, [2, 0, 1]),
+        (waiting, [2, 0, 1]),
+        (doubtful, [1, 1, 1]),
+        (lost_unmet, [1, 1, 1]),
+        (held, [1, 1, 1]),
+        (doubtful, [0, 2, 1]),
+        (record(State::Unmet, Ok(0)), [0, 2, 1]),
+        (kept, [1, 2, 0]),
+        (lost_unmet, [1, 1, 1]),
+        (lost, [1, 0, 2]),
+    ] {
+        window.push(&record);
+        let kept = window.words() - window.doubtful() - window.lost();
+        assert_eq!([kept, window.doubtful(), window.lost()], sorts);
+    }
+    window.clear();
+    assert_eq!(figures(&window), [0; 5]);
+    window.extend([doubtful; 5]);
+    assert_eq!(figures(&window), [3, 0, 3, 6, 3]);
 }
 
 #[test]
 fn widths() {
     for width in [1, 2, 63, 64, 65, 4095, 4096] {
         let window = Window::new(width).unwrap();
-        assert_eq!((window.width(), figures(&window)), (width, [0; 4]));
+        assert_eq!((window.width(), figures(&window)), (width, [0; 5]));
     }
     for width in [0, 4097, 65_536, 1 << 31, u32::MAX] {
         assert_eq!(Window::new(width), Err(Refusal::Width));
@@ -181,7 +248,7 @@ fn what_it_prints() {
     }]);
     assert_eq!(
         format!("{window:?}"),
-        "Window { width: 5, words: 1, lost: 0, iterations: 50, corrected: 2, .. }"
+        "Window { width: 5, words: 1, lost: 0, iterations: 50, corrected: 2, doubtful: 1, .. }"
     );
 }
 
@@ -193,7 +260,15 @@ fn runs_and_threads() {
     let mut runner = Runner::new();
     let mut all = Vec::new();
     let mut window = Window::new(10).unwrap();
-    for rounds in [u32::MAX, 0, 2, u32::MAX, 3] {
+    // round and iteration limits; without an iteration, words with few errors are doubtful
+    for (rounds, limit) in [
+        (u32::MAX, 5),
+        (0, 5),
+        (2, 5),
+        (u32::MAX, 0),
+        (u32::MAX, 5),
+        (3, 5),
+    ] {
         let soft: Vec<i8> = (0..8 * 748)
             .map(|at| {
                 let noise = 1 + at as u64 / 748;
@@ -202,7 +277,7 @@ fn runs_and_threads() {
             .collect();
         let settings = Settings {
             rounds,
-            ..Settings::new(3, 5)
+            ..Settings::new(3, limit)
         };
         let ran = runner.run(&code, &soft, &settings, &mut vec![0; 8 * 748]);
         let records = ran.unwrap().records;
@@ -217,6 +292,7 @@ fn runs_and_threads() {
     }
     assert_eq!(window.words(), 10);
     assert!(all.iter().any(|r| !finished(r)));
+    assert!(all.iter().any(doubtful));
     fn shared<T: Send + Sync>(_: &T) {}
     shared(&window);
 }

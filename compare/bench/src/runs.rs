@@ -44,7 +44,7 @@ pub fn space(r: &mut Random, table: &Table, words: usize, lanes: u32) -> Space {
     Space {
         out: Lent::filled(need.out, r),
         records: Lent::filled(need.records, r),
-        tally: Lent::filled(5, r),
+        tally: Lent::filled(scope::TALLY, r),
         ending: Lent::filled(1, r),
         work: Lent::filled(need.work, r),
         lists: Lent::filled(need.lists, r),

@@ -3,6 +3,7 @@
 use crate::time::in_turn;
 use harness::archive::{LOST, window_push_all};
 use harness::random::Random;
+use harness::scope::WINDOW;
 
 const RECORDS: usize = 20_000;
 const TURNS: usize = 20;
@@ -30,7 +31,7 @@ fn times(records: &[[u32; 6]]) -> Vec<(f64, f64)> {
     let mut sides: Vec<_> = WIDTHS
         .iter()
         .map(|&width| {
-            let (mut window, mut ring) = ([0; 5], vec![0; 3 * width as usize]);
+            let (mut window, mut ring) = ([0; WINDOW], vec![0; 3 * width as usize]);
             move || {
                 for _ in 0..TURNS {
                     assert!(window_push_all(width, &mut window, records, &mut ring));

@@ -1,6 +1,7 @@
 //! The archive's functions (bindings/c/raxdov.h), over lent slices.
 
 use crate::lent::Lent;
+use crate::scope::{RECORD, TALLY, WINDOW};
 
 #[path = "../../../bindings/rust/src/declared.rs"]
 mod declared;
@@ -213,7 +214,7 @@ pub fn run_sizes(t: &Table, lanes: u32, sizes: &mut Lent<usize>) -> u32 {
 }
 
 pub fn run(t: &Table, soft: &Lent<i8>, set: Settings, to: &mut Space) -> u32 {
-    assert_eq!((to.tally.len(), to.ending.len()), (5, 1));
+    assert_eq!((to.tally.len(), to.ending.len()), (TALLY, 1));
     let (out, records, work, lists) = (
         to.out.len(),
         to.records.len(),
@@ -256,7 +257,7 @@ pub fn window_words() -> u32 {
 }
 
 pub fn window_push(width: u32, window: &mut Window, record: &Lent<u32>) -> u32 {
-    assert_eq!((window.numbers.len(), record.len()), (5, 6));
+    assert_eq!((window.numbers.len(), record.len()), (WINDOW, RECORD));
     let n = window.ring.len();
     unsafe {
         raxdov_window_push(
@@ -272,8 +273,8 @@ pub fn window_push(width: u32, window: &mut Window, record: &Lent<u32>) -> u32 {
 /// Each record in turn, for times; whether all were accepted.
 pub fn window_push_all(
     width: u32,
-    window: &mut [u64; 5],
-    records: &[[u32; 6]],
+    window: &mut [u64; WINDOW],
+    records: &[[u32; RECORD]],
     ring: &mut [u32],
 ) -> bool {
     let (to, n) = (ring.as_mut_ptr(), ring.len());

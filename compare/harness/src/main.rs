@@ -121,7 +121,7 @@ fn tell(seen: &Seen, seed: u64, time: Duration) {
     );
     let refused: u64 = u.refused[1..].iter().sum();
     println!(
-        "| `raxdov_run` | {} | {refused} (by 2 to 13: {:?}) | {} words: {} met, {} unmet, {} held, {} waiting; {} lost, {} of them with flips of the original taken back, {} corrected by BCH; LDPC changed bits in {} finished and {} held words, and in {} BCH would alter that count; {} iterations, at most {} of a word; {} runs stopped by the round limit, {} layered |",
+        "| `raxdov_run` | {} | {refused} (by 2 to 13: {:?}) | {} words: {} met, {} unmet, {} held, {} waiting; {} kept, {} doubtful, {} lost, {} of them with flips of the original taken back, {} corrected by BCH; LDPC changed bits in {} finished and {} held words, and in {} BCH would alter that count; {} iterations, at most {} of a word; {} runs stopped by the round limit, {} layered |",
         u.runs,
         &u.refused[2..],
         u.words,
@@ -129,6 +129,8 @@ fn tell(seen: &Seen, seed: u64, time: Duration) {
         u.unmet,
         u.held,
         u.waiting,
+        u.kept,
+        u.doubtful,
         u.lost,
         u.taken_back,
         u.bch_corrected,
@@ -142,7 +144,7 @@ fn tell(seen: &Seen, seed: u64, time: Duration) {
     );
     let w = &seen.window;
     println!(
-        "| `raxdov_window_push` | {} | {} by 13, {} by 14 ({} of them with a ring that is too short as well) | {} series and {} altered windows; {} records passed over, {} after which the oldest left; figures worked out afresh {} times; {} pushes of records of runs |",
+        "| `raxdov_window_push` | {} | {} by 13, {} by 14 ({} of them with a ring that is too short as well) | {} series and {} altered windows; {} records passed over; {} records of doubtful words taken; {} after which the oldest left, in {} of them a doubtful word's; figures worked out afresh {} times; {} pushes of records of runs |",
         w.pushes,
         w.refused[0],
         w.refused[1],
@@ -150,13 +152,15 @@ fn tell(seen: &Seen, seed: u64, time: Duration) {
         w.series,
         w.altered,
         w.passed,
+        w.doubtful,
         w.full,
+        w.doubtful_left,
         w.afresh,
         w.of_runs
     );
     let c = &seen.combine;
     println!(
-        "| `raxdov_combine` | {} | {} by 13, {} by 15 ({} of them with an output that is too short as well, {} of lengths that add up, {} of lengths that do so modulo 2^32 only) | accepted with 1 to 8 words: {:?}; {} values, {} of them clamped, {} other ones if each word were; the words in another order {} times, a word of zeros more {} times; {} runs of {} combined words: {} met, {} unmet, {} held, {} waiting, {} lost; in {} the bits changed by LDPC would be another number against the first soft word |",
+        "| `raxdov_combine` | {} | {} by 13, {} by 15 ({} of them with an output that is too short as well, {} of lengths that add up, {} of lengths that do so modulo 2^32 only) | accepted with 1 to 8 words: {:?}; {} values, {} of them clamped, {} other ones if each word were; the words in another order {} times, a word of zeros more {} times; {} runs of {} combined words: {} met, {} unmet, {} held, {} waiting; {} kept, {} doubtful, {} lost; in {} the bits changed by LDPC would be another number against the first soft word |",
         c.calls,
         c.refused[0],
         c.refused[1],
@@ -175,6 +179,8 @@ fn tell(seen: &Seen, seed: u64, time: Duration) {
         c.runs.unmet,
         c.runs.held,
         c.runs.waiting,
+        c.runs.kept,
+        c.runs.doubtful,
         c.runs.lost,
         c.runs.other_by_first
     );
@@ -285,15 +291,15 @@ fn selftest(r: &mut Random) {
     }
     println!("selftest: {spoilt} spoilt results found in each of 20 pushes onto a full window");
     flips_left(r);
+    doubtful_kept(r);
     let (wrong, most) = combine::selftest(r, 20).unwrap_or_else(|e| fail(&e));
     println!(
         "selftest: {wrong} wrong ways to combine found, each 20 times, after {most} calls at most"
     );
 }
 
-/// The original's flips left in a lost word, of BCH alone and of a run.
-fn flips_left(r: &mut Random) {
-    bch::selftest(r, 20).unwrap_or_else(|e| fail(&e));
+/// Twenty runs that have such words, each spoilt in this way, are found.
+fn spoilt_runs(r: &mut Random, has: fn(&run::Counts) -> u64, what: run::Spoil, name: &str) {
     let mut done = 0;
     while done < 20 {
         let units = r.within(2, 4);
@@ -302,18 +308,28 @@ fn flips_left(r: &mut Random) {
         let case = run::case(r, &plan, &code);
         let mut counts = run::Counts::default();
         disagree(&case, &mut counts);
-        if counts.taken_back == 0 {
+        if has(&counts) == 0 {
             continue;
         }
-        let spoilt = Some(run::Spoil::Flips);
-        if run::compare(&case, &mut counts, spoilt).is_ok() {
-            fail(&format!(
-                "selftest: flips left in a lost word were not found\n{}",
-                run::text(&case)
-            ));
+        if run::compare(&case, &mut counts, Some(what)).is_ok() {
+            fail(&format!("selftest: {name} not found\n{}", run::text(&case)));
         }
         done += 1;
     }
+}
+
+/// Doubtful words counted as kept ones, in runs that have some.
+fn doubtful_kept(r: &mut Random) {
+    let name = "doubtful words counted as kept";
+    spoilt_runs(r, |c| c.doubtful, run::Spoil::DoubtfulKept, name);
+    println!("selftest: {name} found in each of 20 runs");
+}
+
+/// The original's flips left in a lost word, of BCH alone and of a run.
+fn flips_left(r: &mut Random) {
+    bch::selftest(r, 20).unwrap_or_else(|e| fail(&e));
+    let name = "flips left in a lost word";
+    spoilt_runs(r, |c| c.taken_back, run::Spoil::Flips, name);
     println!(
         "selftest: the original's flips left in a lost word found in each of 20 BCH words and 20 runs"
     );
@@ -348,7 +364,7 @@ fn main() {
     }
     let mut r = Random(seed);
     if archive::record_words() != scope::RECORD as u32
-        || archive::tally_words() != 5
+        || archive::tally_words() != scope::TALLY as u32
         || archive::window_words() != scope::WINDOW as u32
     {
         fail("record_words, tally_words, window_words");

@@ -6,7 +6,7 @@ use crate::input::{self, Kind, Plan};
 use crate::ldpc::spoilt;
 use crate::lent::{Lent, same};
 use crate::random::Random;
-use crate::scope::{self, Lengths, RECORD, Rounds, Status};
+use crate::scope::{self, Lengths, RECORD, Rounds, Status, TALLY};
 use oracle::decode_or_leave;
 use oracle::ldpc::Code;
 use oracle::ldpc::fixed::{Decoder, LaneResult, Params, Schedule};
@@ -25,6 +25,8 @@ pub struct Counts {
     pub unmet: u64,
     pub held: u64,
     pub waiting: u64,
+    pub kept: u64,
+    pub doubtful: u64,
     pub lost: u64,
     /// Lost words with flips of the original taken back.
     pub taken_back: u64,
@@ -84,9 +86,11 @@ pub enum Spoil {
     Soft,
     /// The original's flips in lost words; not in `SPOILS`, as most runs have no such word.
     Flips,
+    /// Doubtful words counted as kept ones; not in `SPOILS` either.
+    DoubtfulKept,
 }
 
-pub const SPOILS: [Spoil; 24] = [
+pub const SPOILS: [Spoil; 25] = [
     Spoil::Answer,
     Spoil::Out,
     Spoil::OutTail,
@@ -103,6 +107,7 @@ pub const SPOILS: [Spoil; 24] = [
     Spoil::Tally(2),
     Spoil::Tally(3),
     Spoil::Tally(4),
+    Spoil::Tally(5),
     Spoil::Ending,
     Spoil::Work,
     Spoil::WorkTail,
@@ -157,6 +162,11 @@ fn spoil(what: Spoil, case: &Case, answer: &mut u32, soft: &mut Lent<i8>, to: &m
             to.work.spoil(n, to.work.guard_value(n) ^ 1);
         }
         Spoil::Soft => soft.spoil(0, soft.now()[0] ^ 1),
+        Spoil::DoubtfulKept => {
+            let (kept, doubtful) = (to.tally.now()[3], to.tally.now()[5]);
+            to.tally.spoil(3, kept + doubtful);
+            to.tally.spoil(5, 0);
+        }
         Spoil::Flips => {
             let n = case.plan.n as usize;
             for w in 0..case.soft.len() / n {
@@ -335,7 +345,7 @@ pub fn compare(case: &Case, counts: &mut Counts, spoils: Option<Spoil>) -> Resul
     let mut to = Space {
         out: Lent::filled(case.lent.out, &mut r),
         records: Lent::filled(case.lent.records, &mut r),
-        tally: Lent::filled(5, &mut r),
+        tally: Lent::filled(TALLY, &mut r),
         ending: Lent::filled(1, &mut r),
         work: Lent::filled(case.lent.work, &mut r),
         lists: Lent::filled(case.lent.lists, &mut r),
@@ -370,7 +380,8 @@ pub fn compare(case: &Case, counts: &mut Counts, spoils: Option<Spoil>) -> Resul
     let (rounds, told) = words_of(case, code);
     let words = told.len();
     let need = scope::needs(plan.n, &plan.lens, &plan.addrs, words, case.set.lanes);
-    let (mut given, mut kept, mut lost, mut loaded) = (0, 0, 0, 0);
+    let (mut given, mut loaded) = (0, 0);
+    let (mut kept, mut lost, mut doubtful) = (0, 0, 0);
     to.out.holds("out", &[], need.out)?;
     to.records.holds("records", &[], need.records)?;
     for (w, word) in told.iter().enumerate() {
@@ -424,22 +435,29 @@ pub fn compare(case: &Case, counts: &mut Counts, spoils: Option<Spoil>) -> Resul
             counts.changed += turned;
             let behind = changed(&case.soft[n * w..n * (w + 1)], bits);
             counts.other_behind_bch += u64::from(record[5] != behind);
-            if record[4] == LOST {
+            // kept, doubtful or lost, by the original's answers
+            if word.record[4] == LOST {
                 lost += 1;
                 counts.taken_back += u64::from(word.taken_back);
             } else {
-                kept += 1;
+                if word.record[0] == 2 {
+                    kept += 1;
+                } else {
+                    doubtful += 1;
+                }
                 counts.bch_corrected += u64::from(record[4] > 0);
             }
         }
         counts.longest = counts.longest.max(u64::from(record[1]));
     }
-    to.tally
-        .holds("tally", &[rounds.rounds, loaded, given, kept, lost], 5)?;
+    let tally = [rounds.rounds, loaded, given, kept, lost, doubtful];
+    to.tally.holds("tally", &tally, TALLY)?;
     to.ending.holds("ending", &[u32::from(rounds.stopped)], 1)?;
     to.work.holds("work", &vec![0; need.work], need.work)?;
     to.lists.holds("lists", &vec![0; need.lists], need.lists)?;
     counts.words += words as u64;
+    counts.kept += u64::from(kept);
+    counts.doubtful += u64::from(doubtful);
     counts.lost += u64::from(lost);
     counts.iterations += u64::from(given);
     counts.stopped += u64::from(rounds.stopped);

@@ -40,6 +40,9 @@ pub fn shape(n: u32, lens: &[u32], addrs: &[u16]) -> (usize, usize, usize, usize
 /// The numbers of a word's record: state, iterations, unsatisfied checks, named check, BCH result, bits changed by LDPC.
 pub const RECORD: usize = 6;
 
+/// The numbers of a tally: rounds, words loaded, iterations given, kept, lost, doubtful.
+pub const TALLY: usize = 6;
+
 /// How long each slice lent to a run is: output, records (in u32s), work, lists.
 #[derive(Clone, Copy, Debug)]
 pub struct Lengths {
@@ -167,8 +170,8 @@ pub fn rounds(ends: &[u32], lanes: usize, limit: u32) -> Rounds {
     }
 }
 
-/// The numbers of a window: place, words, lost, iterations, corrected bits.
-pub const WINDOW: usize = 5;
+/// The numbers of a window: place, words, lost, iterations, corrected bits, doubtful.
+pub const WINDOW: usize = 6;
 
 /// 14 and then 13, or 0: "refuses with 14 a width that is 0 or above 4,096, as the first of its checks".
 pub fn window_refusal(width: u32, ring: usize) -> u32 {
@@ -186,9 +189,14 @@ pub fn finished(record: &[u32; RECORD]) -> bool {
     record[0] == 2 || record[0] == 3
 }
 
+/// "BCH accepted it but LDPC left checks unmet"
+pub fn doubtful(state: u32, bch: u32) -> bool {
+    state == 3 && bch != u32::MAX
+}
+
 /// "the number lost, the sums of iterations and of corrected bits, over the last w records or all if there are fewer", of
-/// finished records; and how many these are. "A lost word adds 0 corrected bits."
-pub fn afresh(width: usize, finished: &[[u32; RECORD]]) -> [u64; 4] {
+/// finished records; and how many these are. "A lost word adds 0 corrected bits." "The window counts doubtful words as well."
+pub fn afresh(width: usize, finished: &[[u32; RECORD]]) -> [u64; 5] {
     let last = &finished[finished.len().saturating_sub(width)..];
     let lost = |r: &[u32; RECORD]| r[4] == u32::MAX;
     [
@@ -198,6 +206,7 @@ pub fn afresh(width: usize, finished: &[[u32; RECORD]]) -> [u64; 4] {
         last.iter()
             .map(|r| if lost(r) { 0 } else { u64::from(r[4]) })
             .sum(),
+        last.iter().filter(|r| doubtful(r[0], r[4])).count() as u64,
     ]
 }
 
@@ -231,12 +240,13 @@ pub fn window_push(
             i128::from(counted),
             i128::from(iterations),
             if lost { 0 } else { i128::from(bch) },
+            i128::from(doubtful(state, bch)),
         ]
     };
     let (more, less) = (adds(new), adds(old));
     window[0] = (slot + 1) % width;
     window[1] = (words.min(width - 1)) + 1;
-    for i in 0..3 {
+    for i in 0..4 {
         let sum = i128::from(sums[i]) + more[i] - less[i];
         window[2 + i] = sum.rem_euclid(1 << 64) as u64;
     }

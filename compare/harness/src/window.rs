@@ -14,10 +14,12 @@ pub struct Counts {
     pub series: u64,
     pub altered: u64,
     pub pushes: u64,
-    /// Of them: of unfinished records, of records before which the oldest left, with figures worked out afresh, of a run's
-    /// records.
+    /// Of them: of unfinished records, of records before which the oldest left, of doubtful words, before which a doubtful word left,
+    /// with figures worked out afresh, of a run's records.
     pub passed: u64,
     pub full: u64,
+    pub doubtful: u64,
+    pub doubtful_left: u64,
     pub afresh: u64,
     pub of_runs: u64,
     /// By 13 and by 14; by 14 where the ring was too short as well.
@@ -38,13 +40,14 @@ pub enum Spoil {
     Record,
 }
 
-pub const SPOILS: [Spoil; 14] = [
+pub const SPOILS: [Spoil; 15] = [
     Spoil::Answer,
     Spoil::Number(0),
     Spoil::Number(1),
     Spoil::Number(2),
     Spoil::Number(3),
     Spoil::Number(4),
+    Spoil::Number(5),
     Spoil::Slot(0),
     Spoil::Slot(1),
     Spoil::Slot(2),
@@ -71,7 +74,7 @@ impl State {
         }
     }
 
-    fn figures(&self) -> [u64; 4] {
+    fn figures(&self) -> [u64; 5] {
         let [_, figures @ ..] = self.numbers;
         figures
     }
@@ -139,8 +142,14 @@ fn push(
         scope::window_push(width, &mut next.numbers, record, &mut next.ring);
         if !scope::finished(record) {
             counts.passed += 1;
-        } else if state.numbers[1] >= u64::from(width) {
-            counts.full += 1;
+        } else {
+            counts.doubtful += u64::from(scope::doubtful(record[0], record[4]));
+            if state.numbers[1] >= u64::from(width) {
+                counts.full += 1;
+                let at = state.numbers[0] as usize;
+                let old = &state.ring[3 * if at < width as usize { at } else { 0 }..];
+                counts.doubtful_left += u64::from(scope::doubtful(old[0], old[2]));
+            }
         }
     } else {
         counts.refused[wanted as usize - 13] += 1;
@@ -363,7 +372,10 @@ pub fn selftest(r: &mut Random) -> Result<usize, String> {
     let width = r.within(2, 9) as u32;
     let mut state = State::empty(r, 3 * width as usize + 1);
     let counts = &mut Counts::default();
-    let record = |r: &mut Random| [2, r.below(50) as u32, 0, 0, r.below(13) as u32, 0];
+    let record = |r: &mut Random| {
+        let (state, iterations) = (r.within(2, 3), r.below(50));
+        [state as u32, iterations as u32, 0, 0, r.below(13) as u32, 0]
+    };
     for _ in 0..r.within(width as usize, 20) {
         let record = record(r);
         push(r, width, &mut state, &record, counts, None)?;

@@ -86,6 +86,7 @@ pub struct Ran {
     pub given: usize,
     pub kept: usize,
     pub lost: usize,
+    pub doubtful: usize,
     pub words: Vec<Word>,
 }
 
@@ -313,14 +314,16 @@ pub fn run(code: &Code, soft: &[i8], s: &Settings) -> (Ran, u32) {
     let words: Vec<Word> = (0..soft.len())
         .map(|w| if w < rule.loaded { word(code, soft[w], &seen[w], given[w], s) } else { waiting.clone() })
         .collect();
-    let finished = || words.iter().filter(|w| matches!(w.state, State::Met | State::Unmet));
+    // kept: met and accepted by BCH; doubtful: accepted, with checks left unmet; lost: finished and not accepted
+    let count = |which: fn(&Word) -> bool| words.iter().filter(|w| which(w)).count();
     let ran = Ran {
         stopped: rule.stopped,
         rounds: rule.by_round.len() as u32,
         loaded: rule.loaded,
         given: given.iter().sum(),
-        kept: finished().filter(|w| w.bch.is_some()).count(),
-        lost: finished().filter(|w| w.bch.is_none()).count(),
+        kept: count(|w| w.state == State::Met && w.bch.is_some()),
+        lost: count(|w| matches!(w.state, State::Met | State::Unmet) && w.bch.is_none()),
+        doubtful: count(|w| w.state == State::Unmet && w.bch.is_some()),
         words,
     };
     (ran, whole.by_round.len() as u32)

@@ -19,7 +19,7 @@ answer_number (Ok r) = refl
 answer_number (Err e) = refl
 
 -- an accepted run counts afresh, whatever the tally was
-pub counted_afresh : (r : Ran) (t : Tally) → tally_of (Ok r) t ≡ record { rounds = r.rounds; loaded = r.loaded; iterations = r.given; kept = r.kept; lost = r.lost }
+pub counted_afresh : (r : Ran) (t : Tally) → tally_of (Ok r) t ≡ record { rounds = r.rounds; loaded = r.loaded; iterations = r.given; kept = r.kept; lost = r.lost; doubtful = r.doubtful }
 counted_afresh r t = refl
 
 -- a refused run leaves the tally as it was

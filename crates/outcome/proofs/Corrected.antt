@@ -83,9 +83,9 @@ module _ (part : Part) (b : List ℕ) (P : PartInside part b) where
       go None e = inr refl
 
   -- a word is not lost exactly when its part has a codeword within 12 bits
-  pub kept_exactly : (bch_of part b ≢ lost) ↔ ((v : List ℕ) × Near bits v)
+  pub accepted_exactly : (bch_of part b ≢ lost) ↔ ((v : List ℕ) × Near bits v)
   unfolding bch_result lost
-  kept_exactly = (λ h. go (answer_of bits) refl (λ e. h (result ∙ e)), λ h q. back (part_exact.exactly.1 h) (sym result ∙ q))
+  accepted_exactly = (λ h. go (answer_of bits) refl (λ e. h (result ∙ e)), λ h q. back (part_exact.exactly.1 h) (sym result ∙ q))
     where
       go : (d : Option ℕ) → answer_of bits ≡ d → (bch_result (Ok d) ≢ lost) → (v : List ℕ) × Near bits v
       go (Some k) e h = part_exact.exactly.0 (k, e)
@@ -118,9 +118,9 @@ module _ (part : Part) (b : List ℕ) (P : PartInside part b) where
       ∙ take_at (word_out bits) (drop (first + size) b) size (word_length bits ∙ part_length)
 
   -- a word that is not lost: its part is then a codeword, and the result is the number of bits that were changed
-  pub kept_count : bch_of part b ≢ lost → Near bits (part_of part (corrected part b)) × (distance bits (part_of part (corrected part b)) ≡ bch_of part b)
+  pub accepted_count : bch_of part b ≢ lost → Near bits (part_of part (corrected part b)) × (distance bits (part_of part (corrected part b)) ≡ bch_of part b)
   unfolding bch_result
-  kept_count h = subst (λ (x : List ℕ). Near bits x × (distance bits x ≡ bch_of part b)) (sym part_out) (go (answer_of bits) refl)
+  accepted_count h = subst (λ (x : List ℕ). Near bits x × (distance bits x ≡ bch_of part b)) (sym part_out) (go (answer_of bits) refl)
     where
       go : (d : Option ℕ) → answer_of bits ≡ d → Near bits (word_out bits) × (distance bits (word_out bits) ≡ bch_of part b)
       go (Some k) e = let c = part_exact.count k e in (c.0, c.1 ∙ sym (result ∙ ap (λ d. bch_result (Ok d)) e))

@@ -66,13 +66,16 @@ is_lost bch = eqb bch lost
 unfoldable pub unless_lost : ℕ → Option ℕ
 unless_lost bch = cond (is_lost bch) None (Some bch)
 
--- "A finished word is lost if BCH refuses, else kept": what a word's record adds to the tally's `lost` and to its `kept`. Words that wait or
--- are held are neither.
+-- "Kept now needs state met and BCH accepted"; "BCH accepted it but LDPC left checks unmet. Such a word becomes doubtful"; "A finished word is lost if
+-- BCH refuses", whatever its state: what a word's record adds to the tally's `kept`, `doubtful` and `lost`. Words that wait or are held are none of them.
+unfoldable pub kept_of : ℕ → ℕ → ℕ
+kept_of state bch = cond (eqb state 2) (cond (is_lost bch) 0 1) 0
+
+unfoldable pub doubtful_of : ℕ → ℕ → ℕ
+doubtful_of state bch = cond (eqb state 3) (cond (is_lost bch) 0 1) 0
+
 unfoldable pub lost_of : ℕ → ℕ → ℕ
 lost_of state bch = cond (is_finished state) (cond (is_lost bch) 1 0) 0
-
-unfoldable pub kept_of : ℕ → ℕ → ℕ
-kept_of state bch = cond (is_finished state) (cond (is_lost bch) 0 1) 0
 
 -- all of a finished word's record but the named check, and its bits
 pub record Outcome : Type 0 where

@@ -6,7 +6,7 @@ ghost use Rattle.iteration.specs.Iteration.{negatives};
 ghost use Rattle.iteration.specs.Lists.{var, code_in};
 ghost use Rattle.iteration.specs.Count.{unmet_at};
 ghost use Rattle.iteration.specs.CountLaws.{UnmetCounted};
-ghost use Rattle.outcome.specs.Outcome.{begin, bits_of, met_of, corrected, bch_result, bch_of, is_finished, kept_of, lost_of, unless_lost};
+ghost use Rattle.outcome.specs.Outcome.{begin, bits_of, met_of, corrected, bch_result, bch_of, is_finished, kept_of, doubtful_of, lost_of, unless_lost};
 ghost use Rattle.outcome.specs.State.{number, ended};
 ghost use Rattle.outcome.specs.Changed.{changed_bits, Comparing};
 ghost use Rattle.outcome.specs.Soft.{Edges, values};
@@ -189,13 +189,21 @@ pub fn is_finished(state: u32) -> bool
     state == State::Met.number() || state == State::Unmet.number()
 }
 
-// What a word adds to the tally's `kept`, by its record's numbers. (It and `lost_of` differ in one operator, and stay two: each equals a definition of its
-// own, and one function of both would need a flag.)
+// What a word adds to the tally's `kept`, by its record's numbers. (It and the next two stay three: each equals a definition of its own, and one function of
+// them would need a flag.)
 #[tactic(auto, unfolding(crate::specs::Outcome::kept_of, crate::specs::Outcome::is_lost, crate::specs::Outcome::lost))]
 pub fn kept_of(state: u32, bch: u32) -> u32
     ensures { result ≡ kept_of state bch }
 {
-    u32::from(is_finished(state) && bch != LOST)
+    u32::from(state == State::Met.number() && bch != LOST)
+}
+
+// What a word adds to the tally's `doubtful`, by its record's numbers.
+#[tactic(auto, unfolding(crate::specs::Outcome::doubtful_of, crate::specs::Outcome::is_lost, crate::specs::Outcome::lost))]
+pub fn doubtful_of(state: u32, bch: u32) -> u32
+    ensures { result ≡ doubtful_of state bch }
+{
+    u32::from(state == State::Unmet.number() && bch != LOST)
 }
 
 // What a word adds to the tally's `lost`, by its record's numbers.

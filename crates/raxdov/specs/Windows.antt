@@ -62,8 +62,8 @@ window_alone w some few fs ring room =
     subst (λ (rs : List Record). Shows w rs (series w (empty ring) (map recorded fs)).window) (all_finished fs ∙ same_records fs)
     (series_shows w some few (map recorded fs) (all_fit fs) ring room)
 
--- of a window as numbers, five zeros are the empty one
-pub zeros_empty : (ring : List ℕ) → handed_of (0 ∷ 0 ∷ 0 ∷ 0 ∷ 0 ∷ []) ring ≡ empty ring
+-- of a window as numbers, six zeros are the empty one
+pub zeros_empty : (ring : List ℕ) → handed_of (0 ∷ 0 ∷ 0 ∷ 0 ∷ 0 ∷ 0 ∷ []) ring ≡ empty ring
 zeros_empty ring = refl
 
 -- a chain of calls of `raxdov_window_push` that are not refused is a series: what one leaves, by its promises of window and ring, is what the next one's `afresh`

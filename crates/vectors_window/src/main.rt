@@ -1,6 +1,6 @@
 // Pushes made records into windows. Standard input has blocks of records in the form of compare/oracle/src/bin/window.rs, each with the
-// checksum that a second model gives for it: of the refusal, words, lost, iterations and corrected after each record, and of what is left
-// in the ring. In a series, which begins with an empty window, the figures after each record are also compared with sums made afresh here
+// checksum that a second model gives for it: of the refusal, words, lost, iterations, corrected and doubtful after each record, and of what is
+// left in the ring. In a series, which begins with an empty window, the figures after each record are also compared with sums made afresh here
 // over the last finished records.
 #![tactic(auto)]
 
@@ -32,6 +32,9 @@ const ALTERED: [u64; 16] = [
 
 // The BCH result of a lost word, written out and not `outcome::LOST`: the sums made afresh ask the code under test nothing.
 const LOST: u32 = 4294967295;
+
+// The state of a word that left checks unmet, written out for the same reason.
+const UNMET: u32 = 3;
 
 // Whether a record is of a finished word. The numbers 2 and 3, and not `outcome::is_finished`, for the same reason.
 fn is_finished(of: Record) -> bool {
@@ -155,6 +158,7 @@ impl<'a> Block<'a> {
             lost: any_altered(x + 11),
             iterations: any_altered(x + 15),
             corrected: any_altered(x + 19),
+            doubtful: any_altered(x + 23),
         }
     }
 
@@ -173,6 +177,7 @@ struct Figures {
     lost: u64,
     iterations: u64,
     corrected: u64,
+    doubtful: u64,
 }
 
 impl From<Window> for Figures {
@@ -182,6 +187,7 @@ impl From<Window> for Figures {
             lost,
             iterations,
             corrected,
+            doubtful,
             ..
         } = of;
         Figures {
@@ -189,6 +195,7 @@ impl From<Window> for Figures {
             lost,
             iterations,
             corrected,
+            doubtful,
         }
     }
 }
@@ -198,11 +205,13 @@ impl Figures {
     fn with(self, of: &Record) -> Figures {
         let lost = of.bch == LOST;
         let corrected = if lost { 0 } else { of.bch };
+        let doubtful = of.state == UNMET && !lost;
         Figures {
             words: self.words.wrapping_add(1),
             lost: self.lost.wrapping_add(u64::from(lost)),
             iterations: self.iterations.wrapping_add(u64::from(of.iterations)),
             corrected: self.corrected.wrapping_add(u64::from(corrected)),
+            doubtful: self.doubtful.wrapping_add(u64::from(doubtful)),
         }
     }
 }
@@ -223,7 +232,8 @@ impl Checksum {
 
     fn with_figures(self, of: Figures) -> Checksum {
         let sum = self.with_wide(of.words).with_wide(of.lost);
-        sum.with_wide(of.iterations).with_wide(of.corrected)
+        let sum = sum.with_wide(of.iterations).with_wide(of.corrected);
+        sum.with_wide(of.doubtful)
     }
 
     // That with the ring from a place on.

@@ -6,7 +6,7 @@ use Rattle.window.specs.declared.Record.{Record}
 use Rattle.window.specs.declared.Window.{Window}
 use Rattle.refusal.specs.Number.{number_of, answer}
 use Rattle.refusal.specs.declared.Refusal.{Refusal}
-use Rattle.window.specs.Figures.{finished_in, lost_by, iterations_by, corrected_by, Shows}
+use Rattle.window.specs.Figures.{finished_in, lost_by, iterations_by, corrected_by, doubtful_by, Shows}
 
 -- ---- refusals, a number or 0. "It refuses with 14 a width that is 0 or above 4,096, as the first of its checks"; then 13, a ring of fewer than 3 numbers
 -- for each of w records. What the record holds plays no part
@@ -52,6 +52,7 @@ moved w W s old r =
       lost = slid W.lost (lost_by r) (lost_by old);
       iterations = slid W.iterations (iterations_by r) (iterations_by old);
       corrected = slid W.corrected (corrected_by r) (corrected_by old);
+      doubtful = slid W.doubtful (doubtful_by r) (doubtful_by old);
     }
 
 -- ---- what is handed on from record to record: the window and its ring
@@ -61,7 +62,7 @@ pub record Handed : Type 0 where
 
 -- "begins empty": zeros, whatever the ring holds
 abbrev pub empty : List ℕ → Handed
-empty ring = record { window = record { at = 0; words = 0; lost = 0; iterations = 0; corrected = 0 }; ring = ring }
+empty ring = record { window = record { at = 0; words = 0; lost = 0; iterations = 0; corrected = 0; doubtful = 0 }; ring = ring }
 
 unfoldable pub taken : ℕ → Handed → Record → Handed
 taken w h r =

@@ -1,5 +1,5 @@
 -- The figures after any series of records: `series_shows`, one theorem over every figure.
-use Rattle.std.specs.Prelude.{◌≡◌, ℕ, suc, ◌+◌, ◌-◌, ◌*◌, ◌%◌, ◌^◌, ◌<◌, ◌≤◌, Bool, true, false, cond, List, [], ◌∷◌, ◌++◌, length, get_or, drop, nat_lt, slice_index_or, refl}
+use Rattle.std.specs.Prelude.{◌≡◌, ℕ, zero, suc, ◌+◌, ◌-◌, ◌*◌, ◌%◌, ◌^◌, ◌<◌, ◌≤◌, Bool, true, false, cond, List, [], ◌∷◌, ◌++◌, length, eqb, get_or, drop, nat_lt, slice_index_or, refl}
 use Rattle.std.proofs.Math.Path.{sym, ap, subst}
 use Rattle.std.proofs.Common.{ap₂, ◌∙◌, append_assoc, append-nil, mod-lt, mod-eq_of_lt, lt-ltb, le-ltb, length-append, get_or-drop, drop-cons, get_or-append-add}
 use Rattle.std.proofs.Math.Nat.{mul-le-mul_right}
@@ -8,11 +8,14 @@ use native.Mathlib.Omega.{arith}
 use Rattle.std.proofs.Math.ListN.{length-drop, get_or-append}
 use Rattle.std.proofs.Math.Seq.{drop-nil}
 use Rattle.std.proofs.lemmas.List.{drop-append-le}
+use Rattle.std.specs.List.{All}
+use Rattle.std.proofs.lemmas.List.Elements.{All-drop}
 use Rattle.schedule.specs.Status.{sum}
-use Rattle.outcome.specs.Outcome.{is_finished, is_lost, lost_of, lost}
+use Rattle.outcome.specs.Outcome.{is_finished, is_lost, kept_of, doubtful_of, lost_of, lost}
+use Rattle.outcome.specs.Laws.{over, one_of_three}
 use Rattle.window.specs.declared.Record.{Record}
 use Rattle.window.specs.declared.Window.{Window}
-use Rattle.window.specs.Figures.{finished_in, last_of, lost_by, iterations_by, corrected_by, Shows}
+use Rattle.window.specs.Figures.{finished_in, last_of, lost_by, iterations_by, corrected_by, doubtful_by, Shows}
 use Rattle.window.specs.Push.{none, record_in, written, slot_of, next_at, next_words, leaving, slid, moved, Handed, empty, taken, pushed, series, Fit}
 use Rattle.window.specs.Ring.{next_mod, apart, oldest_slot, written_long, written_here, written_else}
 
@@ -108,12 +111,12 @@ holds_none w ring some room =
     record {
       room = room;
       at = sym (mod-eq_of_lt some);
-      shown = record { words = omega (arith, length_last w []); lost = sum_none lost_by w; iterations = sum_none iterations_by w; corrected = sum_none corrected_by w };
+      shown = record { words = omega (arith, length_last w []); lost = sum_none lost_by w; iterations = sum_none iterations_by w; corrected = sum_none corrected_by w; doubtful = sum_none doubtful_by w };
       held = λ i q _. absurd (omega (arith, q));
       small = λ i q. absurd (omega (arith, q));
     }
 
--- ---- the three figures: a record of zeros adds nothing, and no record adds more than a u32
+-- ---- the four figures: a record of zeros adds nothing, and no record adds more than a u32
 lost_none : lost_by none ≡ 0
 unfolding lost_by lost_of is_finished
 lost_none = refl
@@ -125,6 +128,10 @@ iterations_none = refl
 corrected_none : corrected_by none ≡ 0
 unfolding corrected_by is_lost lost
 corrected_none = refl
+
+doubtful_none : doubtful_by none ≡ 0
+unfolding doubtful_by doubtful_of
+doubtful_none = refl
 
 lost_small : (r : Record) → Small r → lost_by r ≤ largest
 unfolding lost_by lost_of
@@ -146,6 +153,15 @@ corrected_small r h = at (is_lost r.bch)
     at : (b : Bool) → cond b 0 r.bch ≤ largest
     at true = omega arith
     at false = omega (arith, h.bch)
+
+doubtful_small : (r : Record) → Small r → doubtful_by r ≤ largest
+unfolding doubtful_by doubtful_of
+doubtful_small r h = at (eqb r.state 3) (is_lost r.bch)
+  where
+    at : (a b : Bool) → cond a (cond b 0 1) 0 ≤ largest
+    at true true = omega arith
+    at true false = omega arith
+    at false b = omega arith
 
 -- ---- one finished record more
 module _ (w : ℕ) (some : 0 < w) (few : w ≤ 4096) (rs : List Record) (h : Handed) (r : Record) (sm : Small r) (H : Holds w rs h) where
@@ -228,6 +244,7 @@ module _ (w : ℕ) (some : 0 < w) (few : w ≤ 4096) (rs : List Record) (h : Han
           lost = figure_moves lost_by lost_none lost_small W.lost H.shown.lost;
           iterations = figure_moves iterations_by iterations_none iterations_small W.iterations H.shown.iterations;
           corrected = figure_moves corrected_by corrected_none corrected_small W.corrected H.shown.corrected;
+          doubtful = figure_moves doubtful_by doubtful_none doubtful_small W.doubtful H.shown.doubtful;
         };
         held = λ i q near. held_after i q near (ℕ_discrete i N);
         small = λ i q. small_after i q (ℕ_discrete i N);
@@ -304,3 +321,33 @@ passed_over w h r e = ap (λ (b : Bool). cond b (taken w h r) h) e
 pub lost_adds_none : (r : Record) → is_lost r.bch ≡ true → corrected_by r ≡ 0
 unfolding corrected_by
 lost_adds_none r e = ap (λ (b : Bool). cond b 0 r.bch) e
+
+-- ---- a window's words are those kept, those doubtful and those lost
+abbrev pub kept_by : Record → ℕ
+kept_by r = kept_of r.state r.bch
+
+abbrev Over : Record → Type 0
+Over r = is_finished r.state ≡ true
+
+all_over : (rs : List Record) → All Over (finished_in rs)
+unfolding finished_in
+all_over [] = λ k d q. absurd (omega (arith, q))
+all_over (r ∷ rs) = at (is_finished r.state) refl (all_over rs)
+  where
+    at : (b : Bool) → is_finished r.state ≡ b → All Over (finished_in rs) → All Over (cond b (r ∷ finished_in rs) (finished_in rs))
+    at true e h zero d q = e
+    at true e h (suc k) d q = h k d (omega (arith, q))
+    at false e h k d q = h k d q
+
+three_are : (rs : List Record) → All Over rs → sum kept_by rs + sum doubtful_by rs + sum lost_by rs ≡ length rs
+unfolding sum doubtful_by lost_by
+three_are [] h = refl
+three_are (r ∷ rs) h =
+    let e : over r.state ≡ 1 = ap (λ (b : Bool). cond b 1 0) (h 0 r (omega arith)) in
+    omega (arith, one_of_three r.state r.bch, e, three_are rs (λ k d q. h (suc k) d (omega (arith, q))))
+
+pub three_shown : (w : ℕ) (rs : List Record) (W : Window) → Shows w (finished_in rs) W → sum kept_by (last_of w (finished_in rs)) + W.doubtful + W.lost ≡ W.words
+unfolding last_of
+three_shown w rs W s =
+    let l = drop (length (finished_in rs) - w) (finished_in rs) in
+    omega (arith, s.words, s.doubtful, s.lost, three_are l (All-drop Over (length (finished_in rs) - w) (finished_in rs) (all_over rs)))

@@ -40,30 +40,45 @@ pub struct Window {
     pub lost: u64,
     pub iterations: u64,
     pub corrected: u64,
+    pub doubtful: u64,
 }
 
 // Its numbers, in their order.
-impl From<Window> for [u64; 5] {
-    ghost from_gives = { λ of own. own ≡ of.at ∷ of.words ∷ of.lost ∷ of.iterations ∷ of.corrected ∷ [] };
+impl From<Window> for [u64; 6] {
+    ghost from_gives = { λ of own. own ≡ of.at ∷ of.words ∷ of.lost ∷ of.iterations ∷ of.corrected ∷ of.doubtful ∷ [] };
 
-    fn from(of: Window) -> [u64; 5] {
-        [of.at, of.words, of.lost, of.iterations, of.corrected]
+    fn from(of: Window) -> [u64; 6] {
+        [
+            of.at,
+            of.words,
+            of.lost,
+            of.iterations,
+            of.corrected,
+            of.doubtful,
+        ]
     }
 }
 
 // The window that such numbers are.
-impl From<[u64; 5]> for Window {
-    ghost from_gives = { λ own of. of
-        ≡ record { at = get_or own 0 0; words = get_or own 1 0; lost = get_or own 2 0; iterations = get_or own 3 0; corrected = get_or own 4 0 } };
+impl From<[u64; 6]> for Window {
+    ghost from_gives = { λ own of. of ≡ record {
+      at = get_or own 0 0;
+      words = get_or own 1 0;
+      lost = get_or own 2 0;
+      iterations = get_or own 3 0;
+      corrected = get_or own 4 0;
+      doubtful = get_or own 5 0;
+    } };
 
-    fn from(own: [u64; 5]) -> Window {
-        let [at, words, lost, iterations, corrected] = own;
+    fn from(own: [u64; 6]) -> Window {
+        let [at, words, lost, iterations, corrected, doubtful] = own;
         Window {
             at,
             words,
             lost,
             iterations,
             corrected,
+            doubtful,
         }
     }
 }
@@ -122,7 +137,7 @@ fn next_words(width: u64, words: u64) -> u64
 }
 
 // The record that leaves: a full window's oldest, whose slot it is; else zeros, which take nothing from any figure. (An Option would be
-// looked into for each of the three.)
+// looked into for each of the four.)
 // (A record's three numbers are read and written one by one here and in `put`: a conversion each way would name them again.)
 #[tactic(auto, unfolding(crate::specs::Push::leaving, crate::specs::Push::record_in))]
 fn oldest(width: u64, words: u64, ring: &[u32], slot: usize) -> Record
@@ -151,19 +166,22 @@ fn put(ring: &mut [u32], slot: usize, of: Record)
 }
 
 // The window with `new` in its slot, which `old` leaves.
-#[tactic(auto, unfolding(crate::specs::Push::moved, crate::specs::Figures::lost_by, crate::specs::Figures::iterations_by))]
+#[tactic(auto, unfolding(crate::specs::Push::moved, crate::specs::Figures::lost_by, crate::specs::Figures::iterations_by, crate::specs::Figures::doubtful_by))]
 fn advance(width: u64, was: Window, slot: u64, old: Record, new: Record) -> Window
     requires { slot < width }
     ensures { result ≡ moved width was slot old new }
 {
     let lost_new = outcome::lost_of(new.state, new.bch);
     let lost_old = outcome::lost_of(old.state, old.bch);
+    let doubtful_new = outcome::doubtful_of(new.state, new.bch);
+    let doubtful_old = outcome::doubtful_of(old.state, old.bch);
     Window {
         at: next_at(width, slot),
         words: next_words(width, was.words),
         lost: slide(was.lost, lost_new, lost_old),
         iterations: slide(was.iterations, new.iterations, old.iterations),
         corrected: slide(was.corrected, corrected_by(new), corrected_by(old)),
+        doubtful: slide(was.doubtful, doubtful_new, doubtful_old),
     }
 }
 

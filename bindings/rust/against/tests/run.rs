@@ -1,10 +1,10 @@
 //! A run against the original's `decode_all_traced` with its `bch::decode` after it, but that lost words stay as they
-//! were: records, bits and tally, at every kind of round limit.
+//! were: records, bits and tally, at every kind of round limit; and a window over the records of all runs.
 
 use against::{Draw, given_up, rows, words};
 use oracle::ldpc::fixed::{Decoder, Params, Schedule};
 use raxdov::bch::Uncorrectable;
-use raxdov::run::{Ending, Ran, Runner, Settings, State};
+use raxdov::run::{Ending, Ran, Runner, Settings, State, Window};
 
 /// A word of the original: its bits after 0, 1, 2, .. iterations; whether it met every check; its last bits, corrected by
 /// BCH if it is not lost; what BCH said, and how many bits of a lost word it left changed.
@@ -81,7 +81,7 @@ fn compare(
 ) {
     let ends: Vec<usize> = alone.iter().map(|a| a.bits.len() - 1).collect();
     let (given, stopped, rounds) = schedule(&ends, settings.lanes as usize, settings.rounds);
-    let (mut kept, mut lost) = (0, 0);
+    let (mut kept, mut doubtful, mut lost) = (0, 0, 0);
     for (w, (word, record)) in alone.iter().zip(&ran.records).enumerate() {
         let bits = &out[n * w..n * (w + 1)];
         let Some(i) = given[w] else {
@@ -100,7 +100,8 @@ fn compare(
             (true, false) => (State::Unmet, word.bch, &word.after),
         };
         if i == ends[w] {
-            kept += u32::from(bch.is_ok());
+            kept += u32::from(word.met && bch.is_ok());
+            doubtful += u32::from(!word.met && bch.is_ok());
             lost += u32::from(bch.is_err());
         }
         assert_eq!(bits, after);
@@ -116,13 +117,34 @@ fn compare(
         assert!(record.unsatisfied > 0 || record.check == 0);
     }
     let tally = ran.tally;
-    assert_eq!((tally.rounds, tally.kept, tally.lost), (rounds, kept, lost));
+    assert_eq!(tally.rounds, rounds);
+    assert_eq!(
+        (tally.kept, tally.doubtful, tally.lost),
+        (kept, doubtful, lost)
+    );
     assert_eq!(tally.loaded as usize, given.iter().flatten().count());
     assert_eq!(
         tally.iterations as usize,
         given.iter().flatten().sum::<usize>()
     );
     assert_eq!(ran.ending == Ending::Stopped, stopped);
+}
+
+/// A finished word's answers by the original: its iterations, whether it met every check, and what BCH said.
+type Finished = (usize, bool, Result<u32, Uncorrectable>);
+
+/// Words, iterations, corrected bits, lost, doubtful.
+fn figures(last: &[Finished]) -> [u64; 5] {
+    let mut sums = [last.len() as u64, 0, 0, 0, 0];
+    for (iterations, met, bch) in last {
+        sums[1] += *iterations as u64;
+        match bch {
+            Ok(count) => sums[2] += u64::from(*count),
+            Err(Uncorrectable) => sums[3] += 1,
+        }
+        sums[4] += u64::from(!met && bch.is_ok());
+    }
+    sums
 }
 
 #[test]
@@ -135,6 +157,11 @@ fn runs() {
     let mut flipped = [0; 4];
     // words with bits changed by LDPC, by state; those where it counts that BCH comes behind
     let (mut changed, mut before_bch) = ([0; 4], 0);
+    // words that are kept, doubtful and lost
+    let mut sorts = [0; 3];
+    // over the records of all runs, and what the original answered
+    let mut window = Window::new(40).unwrap();
+    let mut answers: Vec<Finished> = Vec::new();
     for _ in 0..150 {
         let groups = 2 + d.below(6);
         let count = 1 + d.below(groups - 1);
@@ -185,6 +212,13 @@ fn runs() {
         assert_eq!(out[n * soft.len()..], [9; 3]);
         assert_eq!(ran.records.len(), soft.len());
         compare(&ran, &out, n, &code, &alone, &settings);
+        let tally = ran.tally;
+        for (sum, count) in sorts
+            .iter_mut()
+            .zip([tally.kept, tally.doubtful, tally.lost])
+        {
+            *sum += count;
+        }
         for (w, record) in ran.records.iter().enumerate() {
             states[record.state as usize] += 1;
             corrected += usize::from(matches!(record.bch, Ok(1..)));
@@ -194,6 +228,20 @@ fn runs() {
             changed[record.state as usize] += usize::from(record.changed > 0);
             let after = distance(&out[n * w..n * (w + 1)], &alone[w].bits[0]);
             before_bch += usize::from(finished && record.changed as usize != after);
+            if finished {
+                answers.push((alone[w].bits.len() - 1, alone[w].met, alone[w].bch));
+            }
+            window.push(record);
+            assert_eq!(
+                [
+                    window.words(),
+                    window.iterations(),
+                    window.corrected(),
+                    window.lost(),
+                    window.doubtful()
+                ],
+                figures(&answers[answers.len().saturating_sub(40)..])
+            );
         }
     }
     assert!(states.iter().all(|&count| count > 50), "{states:?}");
@@ -201,4 +249,5 @@ fn runs() {
     assert!(flipped[2..].iter().all(|&count| count > 10), "{flipped:?}");
     assert!(changed[1..].iter().all(|&count| count > 50), "{changed:?}");
     assert!(before_bch > 20, "{before_bch}");
+    assert!(sorts.iter().all(|&count| count > 50), "{sorts:?}");
 }

@@ -7,12 +7,14 @@ use std::fmt;
 
 /// Numbers that the ring has for each record: state, iterations, BCH result.
 const RING: usize = 3;
-/// A window over a long series of records, of many runs: how many of the last finished words are lost, and how many
-/// iterations and corrected bits they had. It covers as many words as its width, or all if there are fewer. It owns the
-/// memory for its records, which is made once; the time of a push does not depend on the width.
+/// A window over a long series of records, of many runs: how many of the last finished words are lost and how many
+/// doubtful, and how many iterations and corrected bits they had. It covers as many words as its width, or all if there are
+/// fewer. It owns the memory for its records, which is made once; the time of a push does not depend on the width.
 ///
-/// A window cannot be stored: to go on after a restart, keep the last `width` finished records and push them into a new
-/// window, which is then equal to the one that was.
+/// A word that is neither lost nor doubtful is kept (see [`Tally`](super::Tally)).
+///
+/// A window cannot be stored: to go on after a restart, or with another archive, store the last `width` finished records
+/// and push them into a new window, which is then equal to the one that was.
 ///
 /// Two windows are equal if they have the same width and cover the same words in the same order, by state, iterations
 /// and BCH result, whatever was pushed before: they then show the same figures, and go on to do so.
@@ -33,8 +35,8 @@ const RING: usize = 3;
 ///     let ran = runner.run(&code, &soft, &Settings::new(2, 0), &mut vec![0; 2 * 748]).unwrap();
 ///     window.extend(&ran.records);
 /// }
-/// // 9 bits corrected have left; there remain 1, lost, 1
-/// assert_eq!((window.words(), window.lost(), window.corrected()), (3, 1, 2));
+/// // 9 bits corrected have left; there remain 1, lost, 1. No word met its checks, so what BCH corrected is doubtful
+/// assert_eq!((window.words(), window.lost(), window.doubtful(), window.corrected()), (3, 1, 2, 2));
 /// ```
 #[derive(Clone)]
 pub struct Window {
@@ -82,8 +84,8 @@ impl Window {
 
     /// One record more. That of a word which is not finished, waiting or held, is passed over: it changes nothing.
     ///
-    /// A lost word adds its iterations, and no corrected bits. (In a record made by hand, a BCH result of 4,294,967,295
-    /// corrected bits is that of a lost word.)
+    /// A lost word adds its iterations, and no corrected bits; a doubtful one adds both. (In a record made by hand, a BCH
+    /// result of 4,294,967,295 corrected bits is that of a lost word.)
     ///
     /// ```
     /// use raxdov::bch::Uncorrectable;
@@ -94,11 +96,11 @@ impl Window {
     /// window.push(&record(State::Met, 7, Ok(3)));
     /// window.push(&record(State::Held, 2, Ok(0)));
     /// window.push(&record(State::Unmet, 50, Err(Uncorrectable)));
-    /// assert_eq!((window.words(), window.lost()), (2, 1));
+    /// assert_eq!((window.words(), window.lost(), window.doubtful()), (2, 1, 0));
     /// assert_eq!((window.iterations(), window.corrected()), (57, 3));
-    /// window.push(&record(State::Met, 4, Ok(1)));
-    /// assert_eq!((window.words(), window.lost()), (2, 1));
-    /// assert_eq!((window.iterations(), window.corrected()), (54, 1));
+    /// window.push(&record(State::Unmet, 50, Ok(1)));
+    /// assert_eq!((window.words(), window.lost(), window.doubtful()), (2, 1, 1));
+    /// assert_eq!((window.iterations(), window.corrected()), (100, 1));
     /// ```
     pub fn push(&mut self, record: &Record) {
         self.take(&numbers(record))
@@ -142,13 +144,31 @@ impl Window {
         self.numbers[1]
     }
 
-    /// How many of them are lost.
+    /// How many of them are lost: BCH called them uncorrectable.
     ///
     /// ```
     /// assert_eq!(raxdov::run::Window::new(64).unwrap().lost(), 0);
     /// ```
     pub fn lost(&self) -> u64 {
         self.numbers[2]
+    }
+
+    /// How many of them are doubtful: BCH accepted them, and checks were unmet. The others are kept: `words() - lost() -
+    /// doubtful()`.
+    ///
+    /// ```
+    /// use raxdov::run::{Record, State, Window};
+    ///
+    /// let record = |state| Record { state, iterations: 50, unsatisfied: 0, check: 0, bch: Ok(2), changed: 0 };
+    /// let mut window = Window::new(2).unwrap();
+    /// window.extend([State::Unmet, State::Met].map(record));
+    /// assert_eq!((window.doubtful(), window.words() - window.lost() - window.doubtful()), (1, 1));
+    /// // it leaves the window
+    /// window.push(&record(State::Met));
+    /// assert_eq!(window.doubtful(), 0);
+    /// ```
+    pub fn doubtful(&self) -> u64 {
+        self.numbers[5]
     }
 
     /// The sum of their iterations, lost words' too.
@@ -160,7 +180,7 @@ impl Window {
         self.numbers[3]
     }
 
-    /// The sum of the bits that BCH corrected in them; a lost word adds 0.
+    /// The sum of the bits that BCH corrected in them, doubtful words' too; a lost word adds 0.
     ///
     /// ```
     /// assert_eq!(raxdov::run::Window::new(64).unwrap().corrected(), 0);
@@ -213,6 +233,7 @@ impl fmt::Debug for Window {
             .field("lost", &self.lost())
             .field("iterations", &self.iterations())
             .field("corrected", &self.corrected())
+            .field("doubtful", &self.doubtful())
             .finish_non_exhaustive()
     }
 }

@@ -15,7 +15,7 @@
 //! named check is right), and the bits that LDPC changed. A lost word's bits, in the sum over the output, are those that LDPC left:
 //! the original's flips are taken back.
 //!
-//! The output is lent with (7i + 13) mod 251 at place i, work with 77, lists with 777,777,777, and the tally with 901 to 905.
+//! The output is lent with (7i + 13) mod 251 at place i, work with 77, lists with 777,777,777, and the tally with 901 to 906.
 
 use oracle::bch;
 use oracle::ldpc::Code;
@@ -212,7 +212,7 @@ impl Seen {
         self.input.extend(case.bytes(0, &[]));
         let out: Vec<u8> = (0..case.out).map(|i| ((7 * i + 13) % 251) as u8).collect();
         let (work, lists) = (case.work, case.lists);
-        writeln!(self.output, "{} refused {number} 901 902 903 904 905 {} 0 {work} 0 {lists}", self.cases, sum(&out)).unwrap();
+        writeln!(self.output, "{} refused {number} 901 902 903 904 905 906 {} 0 {work} 0 {lists}", self.cases, sum(&out)).unwrap();
         self.cases += 1;
         self.count("refused");
     }
@@ -233,7 +233,7 @@ impl Seen {
         let (work, lists) = rounds::work(case.n, &case.lens, &case.addrs, case.set.lanes);
         let ending = if ran.stopped { "stopped" } else { "finished" };
         write!(self.output, "{} {ending} {} {} ", self.cases, ran.rounds, ran.loaded).unwrap();
-        write!(self.output, "{} {} {} {} ", ran.given, ran.kept, ran.lost, sum(&out)).unwrap();
+        write!(self.output, "{} {} {} {} {} ", ran.given, ran.kept, ran.lost, ran.doubtful, sum(&out)).unwrap();
         writeln!(self.output, "{work} {} {lists} {}", case.work - work, case.lists - lists).unwrap();
         for word in &ran.words {
             let state = word.state as u32;
@@ -277,6 +277,9 @@ impl Seen {
             };
             self.count(&format!("words {end}"));
             self.count("words");
+        }
+        for (what, words) in [("kept", ran.kept), ("doubtful", ran.doubtful), ("lost", ran.lost)] {
+            *self.counts.entry(format!("tally {what}")).or_default() += words as u32;
         }
         rounds::tell(&mut self.counts, &ran.words);
     }

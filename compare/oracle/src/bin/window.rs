@@ -113,6 +113,10 @@ impl Record {
         self.finished() && self.bch == LOST
     }
 
+    fn doubtful(&self) -> bool {
+        self.state == 3 && self.bch != LOST
+    }
+
     fn corrected(&self) -> u128 {
         if self.bch == LOST { 0 } else { self.bch.into() }
     }
@@ -161,7 +165,7 @@ fn garbage(number: u32, j: u32) -> u32 {
 }
 
 fn altered(number: u32) -> Window {
-    [3, 7, 11, 15, 19].map(|k| ALTERED[stir(number * 4096 + k) as usize % 16])
+    [3, 7, 11, 15, 19, 23].map(|k| ALTERED[stir(number * 4096 + k) as usize % 16])
 }
 
 fn mix(h: u64, v: u32) -> u64 {
@@ -174,8 +178,8 @@ fn mix_wide(h: u64, v: u64) -> u64 {
 
 // The model of a series.
 
-/// Words, lost, iterations and corrected over the last `width` of the finished records.
-fn figures(width: usize, finished: &[Record]) -> [u64; 4] {
+/// Words, lost, iterations, corrected and doubtful over the last `width` of the finished records.
+fn figures(width: usize, finished: &[Record]) -> [u64; 5] {
     let last = &finished[finished.len().saturating_sub(width)..];
     let sum = |of: fn(&Record) -> u128| last.iter().map(of).sum::<u128>();
     [
@@ -183,14 +187,15 @@ fn figures(width: usize, finished: &[Record]) -> [u64; 4] {
         sum(|r| r.lost().into()),
         sum(|r| r.iterations.into()),
         sum(Record::corrected),
+        sum(|r| r.doubtful().into()),
     ]
     .map(|sum| sum.try_into().unwrap())
 }
 
 // The model of one push into any window.
 
-/// The slot that is next, words, lost, iterations and corrected.
-type Window = [u64; 5];
+/// The slot that is next, words, lost, iterations, corrected and doubtful.
+type Window = [u64; 6];
 
 fn refusal(width: u32, room: usize) -> u32 {
     match width {
@@ -214,12 +219,19 @@ fn pushed(width: u32, was: Window, new: Record, ring: &mut [u32]) -> Window {
         bch: own[2],
     };
     own.copy_from_slice(&[new.state, new.iterations, new.bch]);
-    let adds = |r: Record| [r.lost().into(), r.iterations.into(), r.corrected()];
-    let (more, less) = (adds(new), if full { adds(old) } else { [0; 3] });
+    let adds = |r: Record| {
+        [
+            r.lost().into(),
+            r.iterations.into(),
+            r.corrected(),
+            r.doubtful().into(),
+        ]
+    };
+    let (more, less) = (adds(new), if full { adds(old) } else { [0; 4] });
     let sum =
         |k: usize| ((u128::from(was[2 + k]) + (1 << 64) + more[k] - less[k]) % (1 << 64)) as u64;
     let words = if full { width } else { was[1] + 1 };
-    [(slot + 1) % width, words, sum(0), sum(1), sum(2)]
+    [(slot + 1) % width, words, sum(0), sum(1), sum(2), sum(3)]
 }
 
 #[derive(Default)]
@@ -265,6 +277,19 @@ impl Written {
         ));
     }
 
+    /// That a record comes or goes, if it is doubtful.
+    fn doubtful(&mut self, of: &Record, how: &str) {
+        if of.doubtful() {
+            let bch = match of.bch {
+                0 => "0",
+                12 => "12",
+                4_294_967_294 => "4,294,967,294",
+                _ => "another",
+            };
+            self.count(format!("{how}, bch {bch}"));
+        }
+    }
+
     /// A series: so many records of each palette, in blocks of at most 64, in a ring with a tail.
     fn series(&mut self, width: u32, parts: &[(usize, u32)]) {
         let tail = self.number() as usize % 4 * 5;
@@ -282,6 +307,10 @@ impl Written {
                     let new = record(palette, self.number(), i);
                     self.seen(new);
                     if new.finished() {
+                        if let Some(old) = finished.len().checked_sub(width as usize) {
+                            self.doubtful(&finished[old], "doubtful leaves a series");
+                        }
+                        self.doubtful(&new, "doubtful enters a series");
                         finished.push(new);
                     }
                     sum = figures(width as usize, &finished)
@@ -340,6 +369,22 @@ impl Written {
             if new.finished() && window[1] > width.into() {
                 self.count("single: taken, more words than the width".into());
             }
+            if new.finished() {
+                self.doubtful(&new, "single: doubtful enters");
+                if window[1] >= width.into() {
+                    let at = 3 * if window[0] < width.into() {
+                        window[0] as usize
+                    } else {
+                        0
+                    };
+                    let old = Record {
+                        state: ring[at],
+                        iterations: ring[at + 1],
+                        bch: ring[at + 2],
+                    };
+                    self.doubtful(&old, "single: doubtful leaves");
+                }
+            }
             *window = pushed(width, *window, new, ring);
         }
         let sum = window[1..]
@@ -393,7 +438,7 @@ fn all_series(to: &mut Written) {
 }
 
 fn all_singles(to: &mut Written) {
-    let (mut ring, mut window) = (Vec::new(), [0; 5]);
+    let (mut ring, mut window) = (Vec::new(), [0; 6]);
     for width in ALL_WIDTHS {
         for room in ROOMS {
             for palette in [FINISHED, UNFINISHED] {

@@ -55,4 +55,5 @@ returns c =
       given_are = c.tally-given.ensures.0;
       kept_are = c.tally-given.ensures.1;
       lost_are = c.tally-given.ensures.2;
+      doubtful_are = c.tally-given.ensures.3;
     }
