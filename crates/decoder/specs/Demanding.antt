@@ -10,7 +10,7 @@ use Rattle.schedule.specs.Status.{Status, waiting, holding, done, status, spent,
 use Rattle.schedule.specs.WholeRun.{case, given, longest, WholeRun, AsAlone}
 use Rattle.schedule.proofs.Places.{sum_ext}
 use Rattle.schedule.proofs.Theorem.{spent_within}
-use Rattle.outcome.specs.Laws.{over}
+use Rattle.outcome.specs.Laws.{finished_of}
 use Rattle.outcome.specs.Outcome.{Outcome, met_of, bits_of, changed_of, state_of, is_finished, outcome_of, alone}
 use Rattle.decoder_plan.specs.declared.Plan.{Plan}
 use Rattle.decoder_words.specs.Book.{View}
@@ -48,21 +48,21 @@ module _ (code : Code) (iterate : Word → Word) (plan : Plan) (soft : List ℤ)
       at (done x i) t = ap (λ (o : Outcome). o.iterations) t.outcome
 
   -- those that are finished
-  finished_at : (w : ℕ) → over (v w).state ≡ case 0 0 1 (status r.last w)
+  finished_at : (w : ℕ) → finished_of (v w).state ≡ case 0 0 1 (status r.last w)
   unfolding outcome_of is_finished
   finished_at w = at (status r.last w) (as_status w)
     where
-      ended : (met : Bool) → over (state_of met) ≡ 1
+      ended : (met : Bool) → finished_of (state_of met) ≡ 1
       ended true = refl
       ended false = refl
 
-      at : (st : Status Word) → Tells code plan.sizes.n plan.sizes.p plan.part (bits w) (beginning plan soft w) st (v w) → over (v w).state ≡ case 0 0 1 st
-      at waiting t = ap (λ (x : View). over x.state) t
-      at (holding x i) t = ap over t.state
-      at (done x i) t = ap (λ (o : Outcome). over o.state) t.outcome ∙ ended (met_of code plan.sizes.p x)
+      at : (st : Status Word) → Tells code plan.sizes.n plan.sizes.p plan.part (bits w) (beginning plan soft w) st (v w) → finished_of (v w).state ≡ case 0 0 1 st
+      at waiting t = ap (λ (x : View). finished_of x.state) t
+      at (holding x i) t = ap finished_of t.state
+      at (done x i) t = ap (λ (o : Outcome). finished_of o.state) t.outcome ∙ ended (met_of code plan.sizes.p x)
 
-  pub finished_is : sum (λ w. over (v w).state) order ≡ sum (λ w. case 0 0 1 (status r.last w)) order
-  finished_is = sum_ext (λ w. over (v w).state) (λ w. case 0 0 1 (status r.last w)) order (λ w l. finished_at w)
+  pub finished_is : sum (λ w. finished_of (v w).state) order ≡ sum (λ w. case 0 0 1 (status r.last w)) order
+  finished_is = sum_ext (λ w. finished_of (v w).state) (λ w. case 0 0 1 (status r.last w)) order (λ w l. finished_at w)
 
   largest_same : (f g : ℕ → ℕ) → ((w : ℕ) → f w ≡ g w) → (ws : List ℕ) → largest f ws ≡ largest g ws
   unfolding largest

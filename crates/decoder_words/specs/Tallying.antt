@@ -5,7 +5,7 @@ use Rattle.laws.specs.Choice.{by_cond}
 use Rattle.schedule.specs.Status.{sum}
 use Rattle.schedule.specs.Run.{counting, input_order}
 use Rattle.outcome.specs.Outcome.{is_finished}
-use Rattle.outcome.specs.Laws.{over, one_of_three}
+use Rattle.outcome.specs.Laws.{finished_of, one_of_three}
 use Rattle.decoder_words.specs.Fields.{record_at}
 use Rattle.decoder_words.specs.Tally.{given_in, kept_by, lost_by, doubtful_by, kept_in, lost_in, doubtful_in}
 use Rattle.decoder_words.specs.declared.Noted.{Noted}
@@ -86,8 +86,8 @@ sum_of_three f g h s e [] = refl
 sum_of_three f g h s e (w ∷ ws) = omega (arith, e w, sum_of_three f g h s e ws)
 
 pub three_in : (records : List ℕ) (words : ℕ)
-    → kept_in records words + doubtful_in records words + lost_in records words ≡ sum (λ w. over (record_at records w).state) (input_order words)
+    → kept_in records words + doubtful_in records words + lost_in records words ≡ sum (λ w. finished_of (record_at records w).state) (input_order words)
 unfolding kept_in doubtful_in lost_in
 three_in records words =
-    sum_of_three (λ w. kept_by (record_at records w)) (λ w. doubtful_by (record_at records w)) (λ w. lost_by (record_at records w)) (λ w. over (record_at records w).state)
+    sum_of_three (λ w. kept_by (record_at records w)) (λ w. doubtful_by (record_at records w)) (λ w. lost_by (record_at records w)) (λ w. finished_of (record_at records w).state)
     (λ w. one_of_three (record_at records w).state (record_at records w).bch) (input_order words)

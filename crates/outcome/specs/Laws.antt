@@ -49,10 +49,11 @@ bits_again x i b out h e f =
     ∙ ap (λ (k : ℕ). bits_from x 0 k) (sym (add-one i))
 
 -- ---- kept, doubtful and lost: a finished word is just one of them, and no other is any
-abbrev pub over : ℕ → ℕ
-over state = cond (is_finished state) 1 0
+-- (what it adds to the number of finished words)
+abbrev pub finished_of : ℕ → ℕ
+finished_of state = cond (is_finished state) 1 0
 
-pub one_of_three : (state bch : ℕ) → kept_of state bch + doubtful_of state bch + lost_of state bch ≡ over state
+pub one_of_three : (state bch : ℕ) → kept_of state bch + doubtful_of state bch + lost_of state bch ≡ finished_of state
 unfolding kept_of doubtful_of lost_of is_finished
 one_of_three state bch = go (eqb state 2) (eqb state 3) (is_lost bch) (λ a b. absurd (omega (arith, eqb-true state 2 a, eqb-true state 3 b)))
   where
@@ -65,40 +66,40 @@ one_of_three state bch = go (eqb state 2) (eqb state 3) (is_lost bch) (λ a b. a
     go false false l h = refl
 
 -- each of the three by state and BCH result
-abbrev accepted_in : ℕ → ℕ → ℕ → ℕ
-accepted_in s state bch = cond (eqb state s) (cond (is_lost bch) 0 1) 0
+abbrev accepted_as : ℕ → ℕ → ℕ → ℕ
+accepted_as s state bch = cond (eqb state s) (cond (is_lost bch) 0 1) 0
 
-accepted_in_exactly : (s state bch : ℕ) → (accepted_in s state bch ≡ 1) ↔ ((state ≡ s) × (bch ≢ lost))
+accepted_as_exactly : (s state bch : ℕ) → (accepted_as s state bch ≡ 1) ↔ ((state ≡ s) × (bch ≢ lost))
 unfolding is_lost
-accepted_in_exactly s state bch = at (ℕ_discrete state s) (ℕ_discrete bch lost)
+accepted_as_exactly s state bch = at (ℕ_discrete state s) (ℕ_discrete bch lost)
   where
-    at : Dec (state ≡ s) → Dec (bch ≡ lost) → (accepted_in s state bch ≡ 1) ↔ ((state ≡ s) × (bch ≢ lost))
+    at : Dec (state ≡ s) → Dec (bch ≡ lost) → (accepted_as s state bch ≡ 1) ↔ ((state ≡ s) × (bch ≢ lost))
     at (no a) d =
-        let e : accepted_in s state bch ≡ 0 = ap (λ (b : Bool). cond b (cond (is_lost bch) 0 1) 0) (ne_eqb state s a) in
+        let e : accepted_as s state bch ≡ 0 = ap (λ (b : Bool). cond b (cond (is_lost bch) 0 1) 0) (ne_eqb state s a) in
         (λ h. absurd (omega (arith, e, h)), λ h. absurd (a h.0))
     at (yes a) (yes b) =
-        let e : accepted_in s state bch ≡ 0 = ap₂ (λ (x y : Bool). cond x (cond y 0 1) 0) (eq-eqb state s a) (eq-eqb bch lost b) in
+        let e : accepted_as s state bch ≡ 0 = ap₂ (λ (x y : Bool). cond x (cond y 0 1) 0) (eq-eqb state s a) (eq-eqb bch lost b) in
         (λ h. absurd (omega (arith, e, h)), λ h. absurd (h.1 b))
     at (yes a) (no b) = (λ h. (a, b), λ h. ap₂ (λ (x y : Bool). cond x (cond y 0 1) 0) (eq-eqb state s a) (ne_eqb bch lost b))
 
 pub kept_exactly : (state bch : ℕ) → (kept_of state bch ≡ 1) ↔ ((state ≡ 2) × (bch ≢ lost))
 unfolding kept_of
-kept_exactly state bch = accepted_in_exactly 2 state bch
+kept_exactly state bch = accepted_as_exactly 2 state bch
 
 pub doubtful_exactly : (state bch : ℕ) → (doubtful_of state bch ≡ 1) ↔ ((state ≡ 3) × (bch ≢ lost))
 unfolding doubtful_of
-doubtful_exactly state bch = accepted_in_exactly 3 state bch
+doubtful_exactly state bch = accepted_as_exactly 3 state bch
 
-abbrev lost_in : Bool → ℕ → ℕ
-lost_in finished bch = cond finished (cond (is_lost bch) 1 0) 0
+abbrev lost_if : Bool → ℕ → ℕ
+lost_if finished bch = cond finished (cond (is_lost bch) 1 0) 0
 
 pub lost_exactly : (state bch : ℕ) → (lost_of state bch ≡ 1) ↔ ((is_finished state ≡ true) × (bch ≡ lost))
 unfolding lost_of is_lost
 lost_exactly state bch = at (is_finished state) (ℕ_discrete bch lost)
   where
-    at : (f : Bool) → Dec (bch ≡ lost) → (lost_in f bch ≡ 1) ↔ ((f ≡ true) × (bch ≡ lost))
+    at : (f : Bool) → Dec (bch ≡ lost) → (lost_if f bch ≡ 1) ↔ ((f ≡ true) × (bch ≡ lost))
     at true (yes b) = (λ h. (refl, b), λ h. ap (λ (x : Bool). cond x 1 0) (eq-eqb bch lost b))
     at true (no b) =
-        let e : lost_in true bch ≡ 0 = ap (λ (x : Bool). cond x 1 0) (ne_eqb bch lost b) in
+        let e : lost_if true bch ≡ 0 = ap (λ (x : Bool). cond x 1 0) (ne_eqb bch lost b) in
         (λ h. absurd (omega (arith, e, h)), λ h. absurd (b h.1))
     at false d = (λ h. absurd (omega (arith, h)), λ h. absurd (subst T (sym h.0) tt))

@@ -12,7 +12,7 @@ use Rattle.std.specs.List.{All}
 use Rattle.std.proofs.lemmas.List.Elements.{All-drop}
 use Rattle.schedule.specs.Status.{sum}
 use Rattle.outcome.specs.Outcome.{is_finished, is_lost, kept_of, doubtful_of, lost_of, lost}
-use Rattle.outcome.specs.Laws.{over, one_of_three}
+use Rattle.outcome.specs.Laws.{finished_of, one_of_three}
 use Rattle.window.specs.declared.Record.{Record}
 use Rattle.window.specs.declared.Window.{Window}
 use Rattle.window.specs.Figures.{finished_in, last_of, lost_by, iterations_by, corrected_by, doubtful_by, Shows}
@@ -343,7 +343,7 @@ three_are : (rs : List Record) → All Over rs → sum kept_by rs + sum doubtful
 unfolding sum doubtful_by lost_by
 three_are [] h = refl
 three_are (r ∷ rs) h =
-    let e : over r.state ≡ 1 = ap (λ (b : Bool). cond b 1 0) (h 0 r (omega arith)) in
+    let e : finished_of r.state ≡ 1 = ap (λ (b : Bool). cond b 1 0) (h 0 r (omega arith)) in
     omega (arith, one_of_three r.state r.bch, e, three_are rs (λ k d q. h (suc k) d (omega (arith, q))))
 
 pub three_shown : (w : ℕ) (rs : List Record) (W : Window) → Shows w (finished_in rs) W → sum kept_by (last_of w (finished_in rs)) + W.doubtful + W.lost ≡ W.words
