@@ -1,3 +1,3 @@
 pub mod Held
-mod Taking
+pub mod Taking
 mod Filling

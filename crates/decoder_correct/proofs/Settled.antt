@@ -1,6 +1,6 @@
 -- What holds of settling: by the state; one word; all of them, one after the other; what memory then says (`settles_all`). Proofs, not specs, since
 -- a wrong definition shall be refused for what it means (must-fail/counted_after_bch.edit, first_words_soft_values.edit).
-use Rattle.std.specs.Prelude.{◌≡◌, ◌≢◌, Bool, List, ℕ, ◌*◌, ◌≤◌, ◌<◌, ltb, ℤ, take}
+use Rattle.std.specs.Prelude.{◌≡◌, ◌≢◌, Bool, List, ℕ, ◌+◌, ◌*◌, ◌≤◌, ◌<◌, ltb, ℤ, take}
 use Rattle.std.proofs.Math.Path.{refl, sym, ap, subst}
 use Rattle.std.proofs.Common.{◌∙◌, arith, ltb-true, ltb-false, lt-ltb, le-ltb, eq-eqb, ne_eqb, drop_of_length-le}
 use Rattle.std.proofs.Math.Bool.{true, false, cond}
@@ -14,6 +14,7 @@ use Rattle.outcome.specs.Changed.{changed_bits, changed_is}
 use Rattle.decoder_words.specs.Fields.{fields, entry, own_part, record_at}
 use Rattle.decoder_words.specs.Noting.{with_results}
 use Rattle.decoder_words.specs.Book.{Book, View, seen, view}
+use Rattle.decoder_words.specs.Written.{Only, same_refl, same_on}
 use Rattle.decoder_words.specs.Shows.{Over, Held, Shows}
 use Rattle.decoder_words.specs.Given.{ShownIn}
 use Rattle.decoder_plan.specs.declared.Part.{Part}
@@ -77,6 +78,27 @@ module _ (n w : ℕ) (part : Part) (own : List ℤ) (B : Book) (was : Noted) (is
       ∙ sym (settled_some n part own (view n B w) (λ z. h (state_is ∙ z)))
 
 -- ---- all of them
+pub settling_start : (plan : Plan) (soft : List ℤ) (B : Book) → Settling plan soft B 0 B
+settling_start plan soft B = record { below = λ u h. absurd (omega (arith, h)); above = λ u h. refl; tail = refl; same = same_refl B }
+
+pub settling_again : (plan : Plan) (soft : List ℤ) (B : Book) (w : ℕ) (B' B'' : Book) → w < plan.words → Only plan.sizes.n w B' B''
+    → view plan.sizes.n B'' w ≡ settled_in plan soft B' w → Settling plan soft B w B' → Settling plan soft B (w + 1) B''
+settling_again plan soft B w B' B'' h o e t =
+    record {
+      below = λ u g. at u g (ltb u w) refl;
+      above = λ u g. o.others u (λ q. absurd (omega (arith, g, q))) ∙ t.above u (omega (arith, g));
+      tail = o.tail plan.words h ∙ t.tail;
+      same = same_on t.same o.same;
+    }
+  where
+    here : view plan.sizes.n B'' w ≡ settled_in plan soft B w
+    here = e ∙ ap (settled plan.sizes.n plan.part (own_part plan.sizes.n w soft)) (t.above w (omega arith))
+
+    at : (u : ℕ) → u < w + 1 → (b : Bool) → ltb u w ≡ b → view plan.sizes.n B'' u ≡ settled_in plan soft B u
+    at u g true q = let l = ltb-true u w q in o.others u (λ z. absurd (omega (arith, l, z))) ∙ t.below u l
+    at u g false q =
+        let z : w ≡ u = omega (arith, g, ltb-false u w q) in
+        subst (λ k. view plan.sizes.n B'' k ≡ settled_in plan soft B k) z here
 
 -- past the records' end there are zeros
 pub past_waits : (n words w : ℕ) (B : Book) → length B.records ≡ words * fields → words ≤ w → (view n B w).state ≡ 0

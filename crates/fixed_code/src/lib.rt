@@ -47,6 +47,14 @@ impl<'a> CodeLists<'a> {
     }
 }
 
+// Where check c's edges begin, in lists of which nothing more is known: what `CodeLists::start` says of a code's.
+pub fn start(lists: &[u32], c: usize) -> usize
+    requires { c < length lists.now }
+    ensures { result ≡ get_or lists.now c 0 }
+{
+    lists[c] as usize
+}
+
 // The variable of edge e.
 pub fn variable(rows: &[u32], e: usize) -> usize
     requires { e < length rows.now }

@@ -110,3 +110,6 @@ cleared_fresh {n} {lanes} {fresh} {a} {a'} {E} {i} v q e =
 pub cleared_other : {n lanes : ℕ} {fresh : List Bool} {a a' : List ℤ} {E i : ℕ} → Cleared n lanes fresh a E a' → i < lanes → on fresh i ≡ false
     → column lanes a' i ≡ column lanes a i
 cleared_other {n} {lanes} {fresh} {a} {a'} {E} {i} v q e = v.columns i q ∙ ap (λ (b : Bool). cond b (blank n E (column lanes a i)) (column lanes a i)) e
+
+pub row_end : {lanes u : ℕ} {fresh : List Bool} {a a' : List ℤ} {k : ℕ} → k ≡ lanes → RowCleared lanes u fresh a k a' → RowCleared lanes u fresh a lanes a'
+row_end {lanes} {u} {fresh} {a} {a'} {k} e v = subst (λ (j : ℕ). RowCleared lanes u fresh a j a') e v

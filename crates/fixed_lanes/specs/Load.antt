@@ -1,6 +1,6 @@
 -- A word loaded into one lane: its soft values are the lane's first n rows; the lane's other rows and every other lane are as they were.
 use Rattle.std.specs.Prelude.{◌≡◌, refl, Bool, true, false, cond, List, ℕ, ◌+◌, ◌<◌, eqb, ltb, get_or, ℤ, pos}
-use Rattle.std.proofs.Common.{sym, ap, ◌∙◌, arith, eqb-true, ltb-true, ltb-false, lt-ltb, le-ltb}
+use Rattle.std.proofs.Common.{sym, ap, ◌∙◌, arith, eqb-true, ltb-true, ltb-false, lt-ltb, le-ltb, subst}
 use Rattle.std.proofs.lemmas.Bool.{eqb-false}
 use Rattle.laws.specs.Definitions.{put}
 use Rattle.lane16.specs.Column.{column}
@@ -55,3 +55,6 @@ loaded_word {n} {lanes} {lane} {soft} {a} {a'} E v =
 
     messages : (e : ℕ) → cond (ltb (n + e) n) (get_or soft (n + e) (pos 0)) (column lanes a lane (n + e)) ≡ column lanes a lane (n + e)
     messages e = ap (λ (b : Bool). cond b (get_or soft (n + e) (pos 0)) (column lanes a lane (n + e))) (le-ltb (n + e) n (omega arith))
+
+pub load_end : {lanes lane k n : ℕ} {soft a a' : List ℤ} → k ≡ n → Loaded k lanes lane soft a a' → Loaded n lanes lane soft a a'
+load_end {lanes} {lane} {k} {n} {soft} {a} {a'} e v = subst (λ (j : ℕ). Loaded j lanes lane soft a a') e v

@@ -1,9 +1,9 @@
 -- One value written: one row of one column changes, and no other column.
-use Rattle.std.specs.Prelude.{◌≡◌, refl, Bool, true, false, cond, List, ℕ, ◌+◌, ◌*◌, ◌<◌, eqb, get_or, set, length, ℤ, pos}
-use Rattle.std.proofs.Common.{sym, ap, ◌∙◌, eqb-true, get_or-set_same, get_or-set_other}
+use Rattle.std.specs.Prelude.{◌≡◌, refl, Bool, true, false, cond, List, ℕ, ◌+◌, ◌*◌, ◌<◌, eqb, get_or, set, length, ℤ, pos, ◌≤◌}
+use Rattle.std.proofs.Common.{sym, ap, ◌∙◌, eqb-true, get_or-set_same, get_or-set_other, arith}
 use Rattle.std.proofs.lemmas.Bool.{eqb-false}
 use Rattle.laws.specs.Definitions.{put}
-use Rattle.lane16.specs.ColumnLaws.{one_place}
+use Rattle.lane16.specs.ColumnLaws.{one_place, row_ends}
 use Rattle.lane16.specs.Column.{column}
 
 pub record Placed (lanes lane u : ℕ) (x : ℤ) (a a' : List ℤ) : Type 0 where
@@ -28,3 +28,7 @@ placed lanes lane u x a room few =
     within r false e =
         get_or-set_other a (u * lanes + lane) (r * lanes + lane) x (pos 0) (λ k. eqb-false r u e (one_place lanes r lane u lane few few k).0)
         ∙ sym (ap (λ (b : Bool). cond b x (get_or a (r * lanes + lane) (pos 0))) e)
+
+-- a row below n lies in memory of n rows
+pub inside_rows : (u n lanes lane m : ℕ) → u < n → lane < lanes → n * lanes ≤ m → u * lanes + lane < m
+inside_rows u n lanes lane m h q k = omega (arith, row_ends u n lanes h)

@@ -61,3 +61,6 @@ deciding_end {L} {old} {new} {k} {n} e h d =
         ∙ get_or-append-add (decisions L 0 n) (drop n old) (u - n) 0
         ∙ get_or-drop n old (u - n) 0
         ∙ ap (λ (j : ℕ). get_or old j 0) y)
+
+pub deciding_start : (L : ℕ → ℤ) (old : List ℕ) → Deciding L old 0 old
+deciding_start L old = record { long = refl; bits = λ u q. absurd (omega (arith, q)); rest = λ u q. refl }

@@ -37,5 +37,8 @@ module _ (x y : ℤ) (f : SFits w8 x) (g : SFits w8 y) where
   pub diff_fits32 : SFits w32 (x -ℤ y)
   diff_fits32 = fits32 (x -ℤ y) (omega (arith, abs_sub x y, abs_byte x f, abs_byte y g))
 
+  pub sum_fits32 : SFits w32 (x +ℤ y)
+  sum_fits32 = fits32 (x +ℤ y) (omega (arith, abs_add x y, abs_byte x f, abs_byte y g))
+
   pub more_fits32 : (s : ℤ) → nat_abs s ≤ 2000000000 → SFits w32 (s +ℤ (x -ℤ y))
   more_fits32 s h = fits32 (s +ℤ (x -ℤ y)) (omega (arith, abs_add s (x -ℤ y), abs_sub x y, abs_byte x f, abs_byte y g))

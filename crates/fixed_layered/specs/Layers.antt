@@ -16,6 +16,7 @@ use Rattle.fixed_conflicts.specs.Table.{spans_length, Split, Shares, Flagged, sp
 use Rattle.iteration.specs.Once.{stepped, Once}
 use Rattle.fixed_layered.specs.RunMemory.{InRun}
 use Rattle.fixed_layered.specs.Rows.{InRow, Grouped, part_in}
+use Rattle.fixed_layered.specs.Layered.{Layered}
 
 -- ---- one run. What the rows of t and of old messages hold is left to the program; all behind them is as it was.
 pub record RunMade (n p lanes : ℕ) (o : ℤ) (lists : List ℕ) (first q m : ℕ) (a a' : List ℤ) : Type 0 where
@@ -199,3 +200,11 @@ pub record Sharing (n p q rows : ℕ) (lists table : List ℕ) : Type 0 where
   pub few_rows : rows ≤ 119
   pub few_layers : q ≤ 120
   pub shares : (l : ℕ) → l < q → (flags : List Bool) (any : Bool) → Flagged table rows q l rows flags any → Shares n q (code_in p lists) l 374 l table flags
+
+pub layers_end : {n p lanes : ℕ} {o o' : ℤ} {lists : List ℕ} {q s : ℕ} {a a' : List ℤ} {l : ℕ} → o ≡ o' → l ≡ q → LayersMade n p lanes o lists q s a l a' → LayersMade n p lanes o' lists q s a q a'
+layers_end {n} {p} {lanes} {o} {o'} {lists} {q} {s} {a} {a'} {l} g e v =
+    subst (λ (y : ℕ). LayersMade n p lanes o' lists q s a y a') e (subst (λ (z : ℤ). LayersMade n p lanes z lists q s a l a') g v)
+
+-- all layers made are the iteration
+pub layered_law : {n p q lanes s : ℕ} {o : ℤ} {lists : List ℕ} {a a' : List ℤ} → LayersMade n p lanes o lists q s a q a' → Layered n p q lanes o s lists a a'
+layered_law v = record { words = v.words; rest = v.rest }

@@ -133,7 +133,10 @@ module _ (n E lanes : ℕ) (v : ℕ → ℕ) (base s pl : ℕ) (a : List ℤ) (B
           let w = g.small k r (sym (get_or-set_other seen j k true false t) ∙ f) in
           record { small = λ i q. subst (λ (x : ℤ). nat_abs x ≤ 256 * (pl + suc d + 1)) (sym (e.sums_is.still (k * lanes + i) (λ i' q' y. apart lanes i k i' j q q' t y))) (omega (arith, w.small i q)) }
 
--- ---- the row's edges of a whole check, u a variable of the row
+  -- ---- the row's edges of a whole check, u a variable of the row
+  pub gathers_end : {d d' : ℕ} {seen : List Bool} {sums : List ℤ} → d ≡ d' → Gathers lanes (pl + d) (after d) seen sums → Gathers lanes (pl + d') (after d') seen sums
+  gathers_end {d} {d'} {seen} {sums} e g = subst (λ (k : ℕ). Gathers lanes (pl + k) (after k) seen sums) e g
+
 module _ {code : Code} {c : ℕ → ℕ} {m base from upto : ℕ} (g : Grouped code c m base from upto) (n E : ℕ) {x : ℕ} (h : x < m) (end : ℕ) (up : end ≤ upto) (most : end ≤ degree code (c x)) (least : from ≤ end) (all : end < upto → end ≡ degree code (c x)) where
   pub part_is : (u : ℕ) (f : ℕ → ℤ) (a : Sum) → base ≤ u → u < base + 374
       → gather_at n E code.rows u (code.row_start (c x)) (place_of code c x) f (degree code (c x)) a ≡ gather_at n E code.rows u (code.row_start (c x) + from) (place_of code c x + from) f (end - from) a
@@ -335,3 +338,10 @@ written_again {n} {E} {code} {c} {m} {lanes} {flags} {a} {g} {a'} {a''} low w k 
 pub written_end : {n E : ℕ} {code : Code} {c : ℕ → ℕ} {m lanes : ℕ} {flags : List Bool} {a : List ℤ} {g g' : ℕ} {a' : List ℤ} → g ≡ g' → Written n E code c m lanes flags a g a'
     → Written n E code c m lanes flags a g' a'
 written_end {n} {E} {code} {c} {m} {lanes} {flags} {a} {g} {g'} {a'} e w = subst (λ (j : ℕ). Written n E code c m lanes flags a j a') e w
+
+pub settled_check_end : {v : ℕ → ℕ} {base s lanes : ℕ} {sums a : List ℤ} {d d' : ℕ} {a' : List ℤ} → d ≡ d' → CheckSettled v base s lanes sums a d a' → CheckSettled v base s lanes sums a d' a'
+settled_check_end {v} {base} {s} {lanes} {sums} {a} {d} {d'} {a'} e c = subst (λ (j : ℕ). CheckSettled v base s lanes sums a j a') e c
+
+pub settled_row_end : {n E : ℕ} {code : Code} {c : ℕ → ℕ} {base lanes : ℕ} {sums a : List ℤ} {x m : ℕ} {a' : List ℤ} → x ≡ m → RowSettled n E code c base lanes sums a x a'
+    → RowSettled n E code c base lanes sums a m a'
+settled_row_end {n} {E} {code} {c} {base} {lanes} {sums} {a} {x} {m} {a'} e r = subst (λ (j : ℕ). RowSettled n E code c base lanes sums a j a') e r

@@ -129,3 +129,16 @@ row_settled {lanes} {u} {at} k w {sums} {a} {v} room fits e f long g =
           ∙ ap (put (column lanes a i) u) (g.is i (omega (arith, part_long lanes at w sums fits f)) ∙ ap sat_z (part_at lanes at w sums fits f i q));
       still = λ i q l. absurd (omega arith);
     }
+
+pub edge_start : (lanes at tu ru ou : ℕ) (seen : Bool) (a sums : List ℤ) → EdgeGathered lanes at tu ru ou seen a sums 0 sums
+edge_start lanes at tu ru ou seen a sums = record { long = refl; done = λ i q. absurd (omega (arith, q)); still = λ i q. refl }
+
+pub edge_end : {lanes at tu ru ou : ℕ} {seen : Bool} {a sums sums' : List ℤ} {k : ℕ} → k ≡ lanes → EdgeGathered lanes at tu ru ou seen a sums k sums'
+    → EdgeGathered lanes at tu ru ou seen a sums lanes sums'
+edge_end {lanes} {at} {tu} {ru} {ou} {seen} {a} {sums} {sums'} {k} e g = subst (λ (j : ℕ). EdgeGathered lanes at tu ru ou seen a sums j sums') e g
+
+pub settled_start : (lanes u at : ℕ) (sums a : List ℤ) → Settled lanes u at sums a 0 a
+settled_start lanes u at sums a = record { done = λ i q h. absurd (omega (arith, q)); still = λ i q h. refl }
+
+pub settled_end : {lanes u at : ℕ} {sums a a' : List ℤ} {k : ℕ} → k ≡ lanes → Settled lanes u at sums a k a' → Settled lanes u at sums a lanes a'
+settled_end {lanes} {u} {at} {sums} {a} {a'} {k} e v = subst (λ (j : ℕ). Settled lanes u at sums a j a') e v

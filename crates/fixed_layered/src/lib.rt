@@ -280,7 +280,7 @@ impl CheckRun<'_, '_> {
 
     // The run but for the values of the flagged rows' variables.
     #[tactic(auto, using(crate::specs::Checks::checks_end))]
-    fn shared_run(self, work: &mut [i8], t: &mut [i8; 2048])
+    fn shared_run(self, work: &mut [i8], t: &mut [i8; 2048], u: &mut [i8; 2048])
         requires { Fits self.turns.code self.turns.lanes work.old }
         ensures { let t = self.entry.turns in
             PartMade (shared_in self.entry.flags.now) t.code.n t.code.p t.lanes t.offset t.code.lists.now t.first t.q t.m work.old work.new }
@@ -288,19 +288,19 @@ impl CheckRun<'_, '_> {
         let mut place = 0;
         for x in 0..self.turns.m {
             let check = self.turns.check(x);
-            simd_layered::check_shared(check, work, t, place, self.flags, self.turns.offset);
+            simd_layered::check_shared(check, work, t, u, place, self.flags, self.turns.offset);
             place += check.d;
         }
     }
 
     // The run: its checks, then the values of the flagged rows.
     #[tactic(auto, using(crate::specs::Checks::run_law))]
-    fn run(self, work: &mut [i8], t: &mut [i8; 2048], sums: &mut [i32])
+    fn run(self, work: &mut [i8], t: &mut [i8; 2048], u: &mut [i8; 2048], sums: &mut [i32])
         requires { Room self.turns.code self.turns.lanes work.old sums.old }
         ensures { let t = self.entry.turns in
             RunMade t.code.n t.code.p t.lanes t.offset t.code.lists.now t.first t.q t.m work.old work.new }
     {
-        self.shared_run(work, t);
+        self.shared_run(work, t, u);
         self.write_rows(work, sums);
     }
 }
@@ -349,7 +349,7 @@ impl<'a> Layering<'a, '_> {
                 flags: &flags,
                 l,
             };
-            run.run(work, &mut scratch.t, sums);
+            run.run(work, &mut scratch.t, &mut scratch.u, sums);
         }
     }
 

@@ -1,13 +1,14 @@
--- Whole numbers of 8 bits, as antt's omega does not read them: each law by the cases of the sign.
+-- Whole numbers of 8 and 16 bits, as antt's omega does not read them: each law by the cases of the sign.
 --
--- In order: what the machine reads back from a number's bits (`plain`); signs: of a larger of two, of a product (`times_swap`, `times_twice`), and of
--- the xor of two numbers (`xor_sign`).
+-- In order: what the machine reads back from a number's bits (`plain`, `wide`); sums, differences and negatives of 8 bit numbers take 16 bits;
+-- the absolute value as a larger of two; signs: as a test, of a larger of two, of a product (`times_swap`, `times_twice`), and of the xor of two
+-- numbers (`xor_sign`).
 --
 -- Not here: sat, magnitude and messages (iteration).
-use Rattle.std.specs.Prelude.{◌≡◌, refl, Bool, true, false, ℕ, suc, ◌-◌, ◌<◌, ◌≤◌, ◌^◌, ◌/◌, ℤ, pos, negsuc}
-use Rattle.std.proofs.Common.{◌∙◌, arith, SFits, to_z, of_z, lt-ltb, le-ltb}
+use Rattle.std.specs.Prelude.{◌≡◌, refl, Bool, true, false, cond, ℕ, zero, suc, ◌-◌, ◌<◌, ◌≤◌, ◌^◌, ◌/◌, ℤ, pos, negsuc, ◌+ℤ◌, ◌-ℤ◌, neg_ℤ, nat_abs, ltb}
+use Rattle.std.proofs.Common.{ap, ◌∙◌, arith, SFits, to_z, of_z, lt-ltb, le-ltb}
 use Rattle.std.specs.Int.Signed.{lt_z}
-use Rattle.std.specs.Int.{w8}
+use Rattle.std.specs.Int.{w8, w16}
 use Rattle.std.proofs.lemmas.Int.{to_z-of_z}
 use Rattle.std.specs.Int.Bits.{bit_xor}
 use Rattle.std.proofs.lemmas.Nat.{xor_shr}
@@ -18,9 +19,46 @@ use Rattle.laws.specs.Choice.{by_cond}
 pub plain : (z : ℤ) → SFits w8 z → to_z w8 (of_z w8 z) ≡ z
 plain z f = to_z-of_z w8 z f
 
+pub widen : {z : ℤ} → SFits w8 z → SFits w16 z
+widen f = record { sfits = omega (arith, f.sfits) }
+
+-- an 8 bit number that was cast to 16
+pub wide : (z : ℤ) → SFits w8 z → to_z w16 (of_z w16 (to_z w8 (of_z w8 z))) ≡ z
+wide z f = ap (λ (y : ℤ). to_z w16 (of_z w16 y)) (plain z f) ∙ to_z-of_z w16 z (widen f)
+
 -- ---- a sum and a difference of two 8 bit numbers take 16 bits
+diff_fits : (b : Bool) (m n : ℕ) → m < 512 → n < 512 → SFits w16 (cond b (negsuc (n - suc m)) (pos (m - n)))
+diff_fits true m n p q = record { sfits = omega arith }
+diff_fits false m n p q = record { sfits = omega arith }
+
+pub add_fits16 : (x y : ℤ) → SFits w8 x → SFits w8 y → SFits w16 (x +ℤ y)
+add_fits16 (pos a) (pos b) f g = record { sfits = omega (arith, f.sfits, g.sfits) }
+add_fits16 (pos a) (negsuc b) f g = diff_fits (ltb a (suc b)) a (suc b) (omega (arith, f.sfits)) (omega (arith, g.sfits))
+add_fits16 (negsuc a) (pos b) f g = diff_fits (ltb b (suc a)) b (suc a) (omega (arith, g.sfits)) (omega (arith, f.sfits))
+add_fits16 (negsuc a) (negsuc b) f g = record { sfits = omega (arith, f.sfits, g.sfits) }
+
+pub sub_fits16 : (x y : ℤ) → SFits w8 x → SFits w8 y → SFits w16 (x -ℤ y)
+sub_fits16 (pos a) (pos zero) f g = record { sfits = omega (arith, f.sfits) }
+sub_fits16 (pos a) (pos (suc b)) f g = diff_fits (ltb a (suc b)) a (suc b) (omega (arith, f.sfits)) (omega (arith, g.sfits))
+sub_fits16 (pos a) (negsuc b) f g = record { sfits = omega (arith, f.sfits, g.sfits) }
+sub_fits16 (negsuc a) (pos zero) f g = diff_fits (ltb zero (suc a)) zero (suc a) (omega arith) (omega (arith, f.sfits))
+sub_fits16 (negsuc a) (pos (suc b)) f g = record { sfits = omega (arith, f.sfits, g.sfits) }
+sub_fits16 (negsuc a) (negsuc b) f g = diff_fits (ltb (suc b) (suc a)) (suc b) (suc a) (omega (arith, g.sfits)) (omega (arith, f.sfits))
+
+pub neg_fits16 : (z : ℤ) → SFits w8 z → SFits w16 (neg_ℤ z)
+neg_fits16 (pos zero) f = record { sfits = omega arith }
+neg_fits16 (pos (suc n)) f = record { sfits = omega (arith, f.sfits) }
+neg_fits16 (negsuc n) f = record { sfits = omega (arith, f.sfits) }
+
+pub abs : (x : ℤ) → max_z x (neg_ℤ x) ≡ pos (nat_abs x)
+abs (pos zero) = refl
+abs (pos (suc n)) = refl
+abs (negsuc n) = refl
 
 -- ---- signs
+pub sign_test : (z : ℤ) → lt_z z (pos 0) ≡ negative z
+sign_test (pos n) = le-ltb n 0 (omega arith)
+sign_test (negsuc n) = refl
 
 pub max_nonneg : (z : ℤ) → lt_z (max_z z (pos 0)) (pos 0) ≡ false
 max_nonneg z = by_cond (λ y. lt_z y (pos 0) ≡ false) (lt_z z (pos 0)) (pos 0) z (λ _. refl) (λ e. e)

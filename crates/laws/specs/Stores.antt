@@ -1,13 +1,14 @@
 -- Stores into a list: one, one a turn of a loop, a run of them.
 --
 -- In order: what one store leaves (`set_at`, `set_each`); a loop that writes one element a turn, at `at i` or at i, and leaves the rest
--- (`grown_at`, `grown`, `kept`); a run of stores, std's `sets` (`sets_append`).
+-- (`grown_at`, `grown`, `kept`); a run of stores, std's `sets` (`sets_append`, `set_sets`).
 --
 -- Not here: `get_or-set_same`, `get_or-set_other`, `length-set` (std's Common), `sets-eq` (std's lemmas of List.Edits).
-use Rattle.std.specs.Prelude.{◌≡◌, ◌≢◌, List, [], ◌∷◌, ◌++◌, ℕ, suc, ◌+◌, ◌≤◌, ◌<◌, length, get_or, set}
-use Rattle.std.proofs.Common.{sym, ap, ◌∙◌, subst, add-zero, add-suc, suc-add, lt_irrefl, arith, below_more, get_or-set_same, get_or-set_other}
+use Rattle.std.specs.Prelude.{◌≡◌, ◌≢◌, List, [], ◌∷◌, ◌++◌, ℕ, suc, ◌+◌, ◌≤◌, ◌<◌, length, get_or, take, drop, set}
+use Rattle.std.proofs.Common.{sym, ap, ◌∙◌, subst, append_assoc, add-zero, add-suc, suc-add, zero-add, lt_irrefl, arith, below_more, length-set, length-take-le, get_or-set_same, get_or-set_other}
 use Rattle.std.proofs.Math.Decide.{ℕ_discrete}
-use Rattle.std.proofs.lemmas.List.Edits.{sets}
+use Rattle.std.proofs.lemmas.List.{set-append_left}
+use Rattle.std.proofs.lemmas.List.Edits.{sets, sets-eq}
 
 module _ {A : Type 0} (d : A) where
   -- what was just written, at an index that equals the written one
@@ -43,3 +44,20 @@ module _ {A : Type 0} where
   sets_append l i (x ∷ xs) ys =
       sets_append (set l i x) (suc i) xs ys
       ∙ ap (λ (k : ℕ). sets (sets (set l i x) (suc i) xs) k ys) (suc-add i (length xs) ∙ sym (add-suc i (length xs)))
+
+  set_behind : (xs ys : List A) (i : ℕ) (a : A) → set (xs ++ ys) (length xs + i) a ≡ xs ++ set ys i a
+  set_behind [] ys i a = ap (λ (k : ℕ). set ys k a) (zero-add i)
+  set_behind (x ∷ xs) ys i a = ap (λ (k : ℕ). set (x ∷ (xs ++ ys)) k a) (suc-add (length xs) i) ∙ ap (λ (l : List A). x ∷ l) (set_behind xs ys i a)
+
+  -- a store among those stored
+  pub set_sets : (l : List A) (base : ℕ) (vs : List A) (i : ℕ) (a : A) → base + length vs ≤ length l → i < length vs → set (sets l base vs) (base + i) a ≡ sets l base (set vs i a)
+  set_sets l base vs i a h b =
+      let k = base + length vs in
+      let t : length (take base l) ≡ base = length-take-le base l (omega arith) in
+      ap (λ (x : List A). set x (base + i) a) (sets-eq vs l base h ∙ append_assoc (take base l) vs (drop k l))
+      ∙ ap (λ (n : ℕ). set (take base l ++ (vs ++ drop k l)) (n + i) a) (sym t)
+      ∙ set_behind (take base l) (vs ++ drop k l) i a
+      ∙ ap (λ (x : List A). take base l ++ x) (set-append_left vs (drop k l) i a b)
+      ∙ sym (append_assoc (take base l) (set vs i a) (drop k l))
+      ∙ ap (λ (n : ℕ). take base l ++ set vs i a ++ drop (base + n) l) (sym (length-set vs i a))
+      ∙ sym (sets-eq (set vs i a) l base (subst (λ (n : ℕ). base + n ≤ length l) (sym (length-set vs i a)) h))

@@ -126,12 +126,15 @@ pub fn parity_of(of: Table<'_>, info: &[u8], out: &mut [u8])
     sum_up(out);
 }
 
-// A copy of w in front. (A function of its own, so that the must-fail edit `masked_copy` is refused by this clause.)
+// A copy of w in front. (By number, and a function of its own: so the must-fail edit `masked_copy` is refused by a fact that no longer holds. With
+// `copy_from_slice` it would have to bring a loop, which fails by its shape, masked or not.)
 fn copy(out: &mut [u8], w: &[u8])
     requires { length w.now ≤ length out.old }
     ensures { out.new ≡ w.now ++ drop (length w.now) out.old }
 {
-    out[..w.len()].copy_from_slice(w);
+    for i in 0..w.len() {
+        out[i] = w[i];
+    }
 }
 
 // The information, then its parity bits.

@@ -1,6 +1,6 @@
 -- The ends of the lists, worked out from the counts of the addresses modulo q.
 use Rattle.std.specs.Prelude.{◌≡◌, refl, cond, List, ℕ, zero, suc, ◌+◌, ◌*◌, ◌%◌, ◌≤◌, ◌<◌, eqb, get_or, set, length}
-use Rattle.std.proofs.Common.{sym, ap, ◌∙◌, arith, mod-lt, add-one}
+use Rattle.std.proofs.Common.{sym, ap, ◌∙◌, arith, mod-lt, add-one, get_or-set_other}
 use Rattle.laws.specs.Stores.{grown}
 use Rattle.ldpc_edges.proofs.Degree.{stairs_le}
 
@@ -30,6 +30,9 @@ ends_again r q at i e s h f g E = record { set_to = grown 0 (λ c x. x ≡ endin
 pub ending_next : (r : List ℕ) (q i e s : ℕ) → s ≡ cond (eqb i 0) 1 2 → e ≡ ending r q i → e + (get_or r (i % q) 0 + s) ≡ ending r q (i + 1)
 unfolding ending
 ending_next r q i e s f g = sym (ap (ending r q) (add-one i) ∙ omega arith)
+
+pub ends_last : (r : List ℕ) (q : ℕ) (at : List ℕ) (i v : ℕ) → EndsSet r q at i → EndsSet r q (set at i v) i
+ends_last r q at i v E = record { set_to = λ c h. get_or-set_other at i c v 0 (λ e. omega arith) ∙ E.set_to c h }
 
 pub ends_start : (r : List ℕ) (q : ℕ) (at : List ℕ) → EndsSet r q at 0
 ends_start r q at = record { set_to = λ c h. absurd (omega arith) }

@@ -5,28 +5,38 @@ use params::{
     BCH_PARITY_BITS, FRAME_SYMBOLS, GROUP, HEADER_BITS, MAIN_PER_MOD_SLOT, MOD_SLOT, N_LDPC, RATES,
     SLOT_UNIT, SLOTS, STUFF_BITS, TMCC_INFO_BITS, TMCC_PER_MOD_SLOT, TMCC_SIGNAL_BITS,
 };
-use std::io;
+use std::fmt;
+use std::fmt::Write;
+use vectors::Stdout;
 
-fn print_rate(rt: &impl Print, r: u8) -> io::Result<()> {
+fn print_rate(r: u8) -> fmt::Result {
     let k = params::k_ldpc(r);
     let p = params::checks(r);
     let q = params::q(r);
     let d = params::data_bits(r);
-    println!(rt; "{r} {k} {p} {q} {d}")
+    writeln!(Stdout, "{r} {k} {p} {q} {d}")
 }
 
-fn print_all(rt: &impl Print) -> io::Result<()> {
-    for r in RATES {
-        print_rate(rt, r)?;
+// Stdout has no buffer: each name, each space and each number is a write of its own.
+fn print_all() -> fmt::Result {
+    let mut to = Stdout;
+    for i in 0..RATES.len() {
+        print_rate(params::rate(i))?;
     }
-    println!(rt; "code {N_LDPC} {GROUP}")?;
-    println!(rt; "slot {HEADER_BITS} {BCH_PARITY_BITS} {STUFF_BITS}")?;
-    println!(rt; "modulation slot {MOD_SLOT} {MAIN_PER_MOD_SLOT} {TMCC_PER_MOD_SLOT}")?;
-    println!(rt; "frame {SLOTS} {SLOT_UNIT} {FRAME_SYMBOLS} {TMCC_SIGNAL_BITS} {TMCC_INFO_BITS}")
+    write!(to, "code")?;
+    write!(to, " {N_LDPC} {GROUP}")?;
+    write!(to, "\nslot")?;
+    write!(to, " {HEADER_BITS} {BCH_PARITY_BITS} {STUFF_BITS}")?;
+    write!(to, "\nmodulation slot")?;
+    write!(to, " {MOD_SLOT} {MAIN_PER_MOD_SLOT} {TMCC_PER_MOD_SLOT}")?;
+    write!(to, "\nframe")?;
+    write!(
+        to,
+        " {SLOTS} {SLOT_UNIT} {FRAME_SYMBOLS} {TMCC_SIGNAL_BITS} {TMCC_INFO_BITS}"
+    )?;
+    writeln!(to)
 }
 
-// A write that fails ends the program: what it wrote shows it. By `main -> io::Result<()>` the error's text would be assumed of the C library too
-// (axioms=3, and not 2).
-fn main(rt: HostRuntime) {
-    let _written = print_all(&rt).is_ok();
+fn main() {
+    let _ = print_all();
 }

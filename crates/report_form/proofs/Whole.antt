@@ -5,7 +5,7 @@ use Rattle.report_form.specs.Description.{Settings, Word, Description, Within, e
 use Rattle.report_form.specs.Form.{Found, Missing, Ongoing, Hopeless, ListEnds, chain_none, chain_ends, seq_none, seq_missing}
 use Rattle.report_form.specs.Forms.{rows, RowsWithin, rows_within, RowsSo, settings_form, settings_then, settings_apart, word_form, words_form, Body, body_form, head_form}
 use Rattle.report_form.specs.Unique.{body_of, description_of, body_within, description_within, render_is, render_injective}
-use Rattle.report_form.specs.Reading.{settings_of, overlaid, NoText, OneDescription}
+use Rattle.report_form.specs.Reading.{lengths_in, addresses_in, settings_of, overlaid, NoText, OneDescription}
 use Rattle.report_form.specs.Accepted.{soft_words_length, values_are}
 use Rattle.report_form.specs.declared.Reading.{Reading}
 
@@ -50,7 +50,7 @@ joined : (a r s w : List ℕ) → a ++ (r ++ (s ++ ((w ++ []) ++ []))) ≡ a ++ 
 joined a r s w = simp (append_assoc, append-nil)
 
 -- the lines are those of one description
-module _ (r : Reading) {t u v w : List ℕ} {l l' : List ℤ} (h : Found head_form (λ y. y.0 ≡ r.n) t u) (o : Ongoing rows RowsWithin rows_within (RowsSo r.rows.lengths.items r.rows.addresses.items) u v)
+module _ (r : Reading) {t u v w : List ℕ} {l l' : List ℤ} (h : Found head_form (λ y. y.0 ≡ r.n) t u) (o : Ongoing rows RowsWithin rows_within (RowsSo (lengths_in r.rows) (addresses_in r.rows)) u v)
     (g : Found settings_form (λ s. s ≡ settings_of r.settings) v w) (f : Found (words_form r.n) (λ y. (length y.0 ≡ r.words) × (l' ≡ sets l 0 (soft_words r.n y.0))) w []) where
   described : Description
   described = description_of r.n (o.done, (g.it, f.it))

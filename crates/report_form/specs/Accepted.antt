@@ -4,7 +4,7 @@ use Rattle.std.proofs.Common.{sym, ap, ap₂, ◌∙◌, arith, length-append, l
 use Rattle.std.proofs.lemmas.List.{length-replicate, length-map}
 use Rattle.std.proofs.Math.Seq.{take-append_seam}
 use Rattle.report_form.specs.Description.{Settings, Pair, Word, All, RowWithin, flat, stored, soft_word, soft_words}
-use Rattle.report_form.specs.Reading.{OneDescription}
+use Rattle.report_form.specs.Reading.{lengths_in, addresses_in, OneDescription}
 use Rattle.report_form.specs.declared.Reading.{Reading}
 
 pub flat_few : (rs : List (List ℕ)) → All RowWithin rs → length (flat rs) ≤ length rs * 4
@@ -14,8 +14,8 @@ flat_few (r ∷ rs) w = omega (arith, length-append r (flat rs), w.0.few, flat_f
 -- the limits of the numbers
 pub record ReadingWithin (r : Reading) : Type 0 where
   pub n : r.n ≤ 1122
-  pub rows : length r.rows.lengths.items ≤ 3
-  pub total : length r.rows.addresses.items ≤ 12
+  pub rows : length (lengths_in r.rows) ≤ 3
+  pub total : length (addresses_in r.rows) ≤ 12
   pub lanes : r.settings.lanes ≤ 4
   pub words : r.words ≤ 16
 

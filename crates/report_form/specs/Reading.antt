@@ -1,6 +1,6 @@
 -- What the reader of a text answers: the description that the text is the rendering of, or refusal 1, and the words' soft values. Definitions only;
 -- Accepted has the laws.
-use Rattle.std.specs.Prelude.{◌≡◌, List, ◌++◌, map, ℕ, ℤ, Result, Ok, Err, length, drop}
+use Rattle.std.specs.Prelude.{◌≡◌, List, ◌++◌, map, ℕ, ℤ, Result, Ok, Err, length, take, drop}
 use Rattle.decoder_plan.specs.declared.Schedule as run
 use Rattle.decoder_plan.specs.declared.Schedule.TheVariants.{Sequential, Layered}
 use Rattle.decoder_plan.specs.declared.Settings as asked
@@ -8,6 +8,7 @@ use Rattle.refusal.specs.declared.Refusal.{Refusal}
 use Rattle.refusal.specs.declared.Refusal.TheVariants as refusal
 use Rattle.report_form.specs.Description.{Schedule, sequential, layered, Settings, Description, Within, render, flat, soft_words}
 use Rattle.report_form.specs.declared.Reading.{Reading}
+use Rattle.report_form.specs.declared.table.Rows.{Rows}
 
 -- the schedule and the settings that a run is given
 abbrev pub schedule_of : run.Schedule → Schedule
@@ -26,11 +27,18 @@ settings_of s =
       part_length = s.part.length;
     }
 
+-- the rows' lengths, and their addresses: what of the places is used
+abbrev pub lengths_in : Rows → List ℕ
+lengths_in r = take r.count r.lengths
+
+abbrev pub addresses_in : Rows → List ℕ
+addresses_in r = take r.total r.addresses
+
 -- a description's numbers: the rows by their lengths, and their addresses one after another
 pub record Gives (d : Description) (r : Reading) : Type 0 where
   pub n : r.n ≡ d.n
-  pub lengths : r.rows.lengths.items ≡ map length d.rows
-  pub addresses : r.rows.addresses.items ≡ flat d.rows
+  pub lengths : lengths_in r.rows ≡ map length d.rows
+  pub addresses : addresses_in r.rows ≡ flat d.rows
   pub settings : settings_of r.settings ≡ d.settings
   pub words : r.words ≡ length d.words
 

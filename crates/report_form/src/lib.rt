@@ -8,25 +8,20 @@ ghost use Rattle.arrayvec.specs.ArrayVec.{array_vec_len};
 ghost use Rattle.laws.specs.Decimal.{Stops};
 ghost use Rattle.laws.specs.Definitions.{decimal};
 ghost use Rattle.report_form.specs.Description.{stored, soft_word, soft_words};
-ghost use Rattle.report_form.specs.Reading.{schedule_of, settings_of, NoText, OneDescription, RightReading};
+ghost use Rattle.report_form.specs.Reading.{lengths_in, addresses_in, schedule_of, settings_of, NoText, OneDescription, RightReading};
 ghost use Rattle.report_form.specs.Form.{Missing, Found, Reads, Passes, Listed, byte, lead};
 ghost use Rattle.report_form.specs.Forms.{numbers, smalls, row_form, rows, RowsWithin, rows_within, RowsSo, pair_chain, word_form, words_form, schedules, settings_form, pair_form, pair_from, head_form};
+
+mod table;
 
 use arrayvec::ArrayVec;
 use decoder_plan::{Limits, Part, Schedule, Settings};
 use refusal::Refusal;
-
-// A code's rows: their lengths, and their addresses one after another, as the decoder's core takes them (slices of numbers; no list of lists, as
-// there is no heap).
-#[derive(Drop)]
-pub struct Rows {
-    pub lengths: ArrayVec<u32, 3>,
-    pub addresses: ArrayVec<u16, 12>,
-}
+pub use table::Rows;
 
 // What a text asks for: the code's n and its rows, the settings, and the number of words, whose soft values stand in the slice that `read` is lent:
 // there is no heap for them.
-#[derive(Drop)]
+#[derive(Clone, Copy)]
 pub struct Reading {
     pub n: u32,
     pub rows: Rows,
@@ -265,7 +260,7 @@ fn read_row<'a>(text: &'a [u8], addresses: &mut ArrayVec<u16, 12>) -> Option<(u3
 // The rows' lines, as many as there are.
 #[tactic(auto, using(crate::proofs::RowLists::rows_again))]
 fn read_rows(text: &[u8]) -> Option<(Rows, &[u8])>
-    ensures { Listed rows RowsWithin rows_within (λ r. RowsSo r.lengths.items r.addresses.items) text.now result }
+    ensures { Listed rows RowsWithin rows_within (λ r. RowsSo (lengths_in r) (addresses_in r)) text.now result }
 {
     let mut lengths = ArrayVec::new();
     let mut addresses = ArrayVec::new();
@@ -278,7 +273,7 @@ fn read_rows(text: &[u8]) -> Option<(Rows, &[u8])>
         lengths.push(length);
         rest = after;
     }
-    Some((Rows { lengths, addresses }, rest))
+    Some((Rows::of(&lengths, &addresses), rest))
 }
 
 // The first line: the code's n.

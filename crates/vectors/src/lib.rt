@@ -1,7 +1,7 @@
 // What the vectors' programs share: by these they make their inputs and sum up what they got, as compare/oracle does.
 #![tactic(auto)]
 
-ghost use Rattle.std.specs.Prelude.{◌≡◌, ◌-◌, ◌≤◌, ◌/◌, ◌%◌, ◌+◌, ◌↔◌, if◌then◌else◌, not, IsTrue, slice_index};
+ghost use Rattle.std.specs.Prelude.{◌≡◌, ◌-◌, ◌≤◌, ◌/◌, ◌%◌, ◌+◌, ◌↔◌, if◌then◌else◌, not, IsTrue, IsOk, slice_index};
 ghost use Rattle.std.specs.Int.{bit_at};
 ghost use Rattle.vectors.specs.Made.{next_of, draw_of, mixed_of, checksum_of, sum_of};
 
@@ -82,16 +82,16 @@ impl Compared {
     }
 }
 
-// Standard output, by the C library's write alone: `print!` would assume more of that library.
+// Standard output, by the C library's write alone: `print!` would assume more of that library. A write that fails is passed over, since a program
+// goes on after it with what it prints next, and ends as it does otherwise.
 #[derive(Drop)]
 pub struct Stdout;
 
 impl Write for Stdout {
-    fn write_str(&mut self, s: &str) -> fmt::Result {
-        if io::write_all(1, s.as_bytes()) {
-            Ok(())
-        } else {
-            Err(fmt::Error)
-        }
+    fn write_str(&mut self, s: &str) -> fmt::Result
+        ensures { IsOk result }
+    {
+        io::write_all(1, s.as_bytes());
+        Ok(())
     }
 }

@@ -3,8 +3,10 @@
 // it. An uncorrectable word stays as it came, where the Rust leaves flips in some.
 #![tactic(auto)]
 
-use std::io::{self, Read, Stdin};
-use vectors::{Compared, bit, sum};
+use arrayvec::ArrayString;
+use std::fmt;
+use std::fmt::Write;
+use vectors::{Compared, Stdout, bit, sum};
 
 // What a word's bytes are besides their low bits.
 #[derive(Clone, Copy)]
@@ -120,45 +122,45 @@ impl<'a> Vector<'a> {
 }
 
 // Every vector of the input, at most 10,000. The first that differs is named.
-fn replay_all(rt: &impl Print, input: &mut Stdin) -> io::Result<()> {
+fn replay_all() -> fmt::Result {
+    let mut to = Stdout;
     let mut vector = [0; 148];
     let mut message = [0; 65343];
     let mut word = [0; 65535];
     let mut compared = Compared::default();
     for _ in 0..10000u32 {
-        if input.read_exact(&mut vector).is_err() {
+        if io::read_full(0, &mut vector) < vector.len() {
             break;
         }
         let right = Vector::read(&vector).is_some_and(|v| v.replay(&mut message, &mut word));
         let at = compared.all;
         if compared.count(right) {
-            println!(rt; "first at vector {at}")?;
+            writeln!(to, "first at vector {at}")?;
         }
     }
     let Compared { all, differ } = compared;
-    println!(rt; "{all} compared, {differ} differ")
+    writeln!(to, "{all} compared, {differ} differ")
 }
 
 // The generator, multiplied out from Table 3.4-1, as one hexadecimal number: bit i is the coefficient of x^i.
-fn print_generator(rt: &impl Print) -> io::Result<()> {
+fn print_generator() -> fmt::Result {
+    let mut text = ArrayString::<50>::new();
     for digit in bch_table::generator().chunks(4).rev() {
         let mut value = 0u8;
         for bit in digit.iter().rev() {
             value = value << 1 | bit;
         }
-        print!(rt; "{value:x}")?;
+        write!(text, "{value:x}")?;
     }
-    println!(rt)
+    writeln!(text)?;
+    Stdout.write_str(text.as_str())
 }
 
-fn print_all(rt: &impl Print, input: &mut Stdin) -> io::Result<()> {
-    print_generator(rt)?;
-    replay_all(rt, input)
+fn print_all() -> fmt::Result {
+    print_generator()?;
+    replay_all()
 }
 
-// A write that fails ends the program: what it wrote shows it. By `main -> io::Result<()>` the error's text would be assumed of the C library too
-// (axioms=4, and not 3).
-fn main(rt: HostRuntime) {
-    let mut input = rt.stdin();
-    let _written = print_all(&rt, &mut input).is_ok();
+fn main() {
+    let _ = print_all();
 }

@@ -1,5 +1,5 @@
 -- How a case stands in the input (compare/oracle/src/bin/run.rs): twenty numbers of four bytes, and the parts whose lengths they give, one behind another.
-use Rattle.std.specs.Prelude.{◌≡◌, ℕ, ◌+◌, ◌*◌, ◌%◌, pos, ◌-ℤ◌, List, ◌++◌, length, take, drop, nat_eq, if◌then◌else◌}
+use Rattle.std.specs.Prelude.{◌≡◌, ℕ, ◌+◌, ◌*◌, ◌%◌, ◌≤◌, pos, ◌-ℤ◌, List, ◌++◌, length, take, drop, nat_eq, if◌then◌else◌}
 use Rattle.std.specs.Int.{from_le_bytes, w32}
 use Rattle.std.specs.List.{concat}
 use Rattle.decoder_plan.specs.declared.Schedule.{Schedule}
@@ -17,7 +17,7 @@ size_of input = 80 + 4 * number input 1 + 2 * number input 2 + number input 16 +
 abbrev pub schedule_of : ℕ → ℕ → Schedule
 schedule_of layered step = if nat_eq layered 1 then Layered step else Sequential
 
--- the numbers of a case, and its parts with the input behind them
+-- the numbers of a case, and its parts with the input behind them; the bits before noise and those of the maps go on to the input's end
 pub record Reads (input : List ℕ) (case : Case) (rest : List ℕ) : Type 0 where
   pub n : case.n ≡ number input 0
   pub lens : length case.lens.now ≡ number input 1
@@ -34,8 +34,11 @@ pub record Reads (input : List ℕ) (case : Case) (rest : List ℕ) : Type 0 whe
   pub room : case.room ≡ number input 13
   pub work : case.work ≡ number input 14
   pub lists : case.lists ≡ number input 15
-  pub bases : length case.bases.now ≡ number input 16
+  pub bases : number input 16 ≤ length case.bases.now
+  pub count : case.count ≡ number input 17
   pub recipes : length case.recipes.now ≡ number input 17
-  pub maps : length case.maps.now ≡ number input 18
+  pub maps : number input 18 ≤ length case.maps.now
   pub checks : case.checks ≡ number input 19
-  pub parts : input ≡ take 80 input ++ (concat case.lens.now ++ (concat case.addrs.now ++ (case.bases.now ++ (concat case.recipes.now ++ (case.maps.now ++ rest)))))
+  pub parts : input ≡ take 80 input ++ (concat case.lens.now ++ (concat case.addrs.now ++ (take (number input 16) case.bases.now ++ (concat case.recipes.now ++ (take (number input 18) case.maps.now ++ rest)))))
+  pub from_bases : input ≡ take 80 input ++ (concat case.lens.now ++ (concat case.addrs.now ++ case.bases.now))
+  pub from_maps : case.bases.now ≡ take (number input 16) case.bases.now ++ (concat case.recipes.now ++ case.maps.now)

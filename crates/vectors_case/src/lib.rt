@@ -21,10 +21,12 @@ pub struct Case<'a> {
     pub lists: usize,
     pub lens: &'a [[u8; 4]],
     pub addrs: &'a [[u8; 2]],
-    // The words' bits before noise, and how each word is made of them.
+    // The words' bits before noise, with what stands behind them (a recipe may start so late that its word reads on there), and how each word is
+    // made of them: by `count` recipes in turn.
     pub bases: &'a [u8],
+    pub count: usize,
     pub recipes: &'a [[u8; 12]],
-    // A bit for each of a word's `checks`, word for word: whether the word leaves it unsatisfied.
+    // A bit for each of a word's `checks`, word for word: whether the word leaves it unsatisfied. What stands behind the last follows here too.
     pub checks: usize,
     pub maps: &'a [u8],
 }
@@ -76,15 +78,15 @@ impl<'a> Case<'a> {
             work,
             lists,
             bases,
-            recipes,
+            count,
             maps,
             checks,
         ] = numbers(head);
         let (lens, rest) = part(rest, rows)?;
-        let (addrs, rest) = part(rest, total)?;
-        let (bases, rest) = rest.split_at_checked(bases as usize)?;
-        let (recipes, rest) = part(rest, recipes)?;
-        let (maps, rest) = rest.split_at_checked(maps as usize)?;
+        let (addrs, from_bases) = part(rest, total)?;
+        let (_, rest) = from_bases.split_at_checked(bases as usize)?;
+        let (recipes, from_maps) = part(rest, count)?;
+        let (_, rest) = from_maps.split_at_checked(maps as usize)?;
         let case = Case {
             n,
             set: Settings {
@@ -101,10 +103,11 @@ impl<'a> Case<'a> {
             lists: lists as usize,
             lens,
             addrs,
-            bases,
+            bases: from_bases,
+            count: count as usize,
             recipes,
             checks: checks as usize,
-            maps,
+            maps: from_maps,
         };
         Some((case, rest))
     }
@@ -186,7 +189,7 @@ fn value(bit: bool, r: &Recipe, x: u64) -> i8 {
 fn make_word(word: &mut [i8], bases: &[u8], r: &Recipe, w: usize) {
     let mut x = u64::from(r.seed) + w as u64 % 65536;
     for (i, v) in word.iter_mut().enumerate() {
-        *v = value(bit(bases, usize::from(r.start) + i), r, x);
+        *v = value(bit(bases, usize::from(r.start) + i % 65536), r, x);
         for _ in 0..6 {
             x = next(x);
         }
@@ -194,17 +197,18 @@ fn make_word(word: &mut [i8], bases: &[u8], r: &Recipe, w: usize) {
 }
 
 impl<'a> Case<'a> {
-    // Every word of n soft values; what is left over stays.
+    // Every word of n soft values; what is left over stays. Of more than 1,000 recipes those behind are not taken.
     pub fn make_words(&self, soft: &mut [i8])
         ensures { let whole = length soft.old / self.now.n * self.now.n in drop whole soft.new ≡ drop whole soft.old }
     {
         let n = self.n as usize;
-        if n == 0 || self.recipes.is_empty() {
+        if n == 0 || self.count == 0 {
             return;
         }
         let whole = soft.len() / n * n;
         for (w, word) in soft[..whole].chunks_exact_mut(n).enumerate() {
-            let r = Recipe::from(self.recipes[w % self.recipes.len()]);
+            let recipe = self.recipes.get(w % self.count % 1000);
+            let r = Recipe::from(recipe.copied().unwrap_or([0; 12]));
             make_word(word, self.bases, &r, w);
         }
     }

@@ -7,9 +7,9 @@ ghost use Rattle.std.specs.Prelude.{◌<◌, ◌≤◌};
 
 use ldpc_shape::Sizes;
 use refusal::Refusal;
-use std::alloc::{AllocError, Global};
-use std::io;
-use vectors::{checksum, draw, next};
+use std::fmt;
+use std::fmt::Write;
+use vectors::{Stdout, checksum, draw, next};
 
 // The checksum with several numbers more.
 fn checksum_all<T: Copy + Into<u32>>(h: u32, s: &[T]) -> u32 {
@@ -17,24 +17,23 @@ fn checksum_all<T: Copy + Into<u32>>(h: u32, s: &[T]) -> u32 {
 }
 
 // A code's table.
-#[derive(Drop)]
-struct Table {
+#[derive(Clone, Copy)]
+struct Table<'a> {
     n: u32,
-    lens: Vec<u32>,
-    addrs: Vec<u16>,
+    lens: &'a [u32],
+    addrs: &'a [u16],
 }
 
-// The lengths of some rows, below `most`; and where the generator is then.
-fn make_rows(alloc: Global, rows: u64, most: u64, seed: u64) -> Result<(Vec<u32>, u64), AllocError>
+// The lengths of some rows, below `most`; where the generator is then.
+fn make_rows(lens: &mut [u32], seed: u64, most: u64) -> u64
     requires { most ≤ 128 }
 {
     let mut x = seed;
-    let mut lens = Vec::new(alloc);
-    for _ in 0..rows {
+    for len in lens.iter_mut() {
         x = next(x);
-        lens.push(draw(x, most) as u32)?;
+        *len = draw(x, most) as u32;
     }
-    Ok((lens, x))
+    x
 }
 
 fn total(lens: &[u32]) -> usize {
@@ -56,22 +55,15 @@ fn address(x: u64, before: u16, p: u16, q: u16) -> u16 {
     }
 }
 
-fn make_addresses(
-    alloc: Global,
-    total: usize,
-    seed: u64,
-    p: u16,
-    q: u16,
-) -> Result<(Vec<u16>, u64), AllocError> {
+fn make_addresses(addrs: &mut [u16], seed: u64, p: u16, q: u16) -> u64 {
     let mut x = seed;
     let mut a = 0;
-    let mut addrs = Vec::new(alloc);
-    for _ in 0..total {
+    for addr in addrs.iter_mut() {
         x = next(next(next(x)));
         a = address(x, a, p, q);
-        addrs.push(a)?;
+        *addr = a;
     }
-    Ok((addrs, x))
+    x
 }
 
 // Bytes with high bits set.
@@ -90,20 +82,20 @@ fn flip(s: &mut [u8], x: u64) {
     }
 }
 
-fn show_refused(rt: &impl Print, refusal: Refusal) -> io::Result<()> {
-    print!(rt; "refused {} ", refusal.number())
+fn show_refused(refusal: Refusal) -> fmt::Result {
+    write!(Stdout, "refused {} ", refusal.number())
 }
 
-fn show_weight(rt: &impl Print, of: &Table, word: &[u8]) -> io::Result<()> {
-    match ldpc::syndrome_weight(of.n, &of.lens, &of.addrs, word) {
-        Ok(weight) => print!(rt; "{weight} "),
-        Err(refusal) => show_refused(rt, refusal),
+fn show_weight(of: Table<'_>, word: &[u8]) -> fmt::Result {
+    match ldpc::syndrome_weight(of.n, of.lens, of.addrs, word) {
+        Ok(weight) => write!(Stdout, "{weight} "),
+        Err(refusal) => show_refused(refusal),
     }
 }
 
 // The checksum with check c's list.
-fn one_check(h: u32, of: &Table, c: u32, out: &mut [u32]) -> u32 {
-    match ldpc::check(of.n, &of.lens, &of.addrs, c, out) {
+fn one_check(h: u32, of: Table<'_>, c: u32, out: &mut [u32]) -> u32 {
+    match ldpc::check(of.n, of.lens, of.addrs, c, out) {
         Ok(m) => match out.get(..m as usize) {
             Some(list) => checksum_all(checksum(h, m), list),
             None => h,
@@ -112,7 +104,7 @@ fn one_check(h: u32, of: &Table, c: u32, out: &mut [u32]) -> u32 {
     }
 }
 
-fn all_checks(of: &Table, p: u32, out: &mut [u32]) -> u32 {
+fn all_checks(of: Table<'_>, p: u32, out: &mut [u32]) -> u32 {
     let mut h = 0;
     for c in 0..p {
         h = one_check(h, of, c, out);
@@ -120,109 +112,183 @@ fn all_checks(of: &Table, p: u32, out: &mut [u32]) -> u32 {
     h
 }
 
-// The code's numbers, lists and checks; P, which a refused code has not.
-fn show_code(rt: &impl Print, of: &Table, lists: &mut [u32]) -> io::Result<Option<usize>> {
-    match ldpc::new(of.n, &of.lens, &of.addrs, lists) {
+// The code's numbers, lists and checks; P, or 0 for a refused code.
+fn show_code(of: Table<'_>, lists: &mut [u32]) -> Result<usize, fmt::Error> {
+    match ldpc::new(of.n, of.lens, of.addrs, lists) {
         Err(refusal) => {
-            show_refused(rt, refusal)?;
-            Ok(None)
+            show_refused(refusal)?;
+            Ok(0)
         }
         Ok(Sizes { k, p, q, e, .. }) => {
             let made = checksum_all(0, lists);
             let checks = all_checks(of, p as u32, lists);
-            print!(rt; "{k} {p} {q} {e} {made} {checks} ")?;
-            Ok(Some(p))
+            write!(Stdout, "{k} {p} {q} {e} {made} {checks} ")?;
+            Ok(p)
         }
     }
 }
 
-// Parity, encoded word and weights: of the encoded word, of it with three bits flipped, and of random bytes.
-fn show_words(
-    rt: &impl Print,
-    of: &Table,
-    info: &[u8],
-    out: &mut [u8],
-    p: usize,
-    seed: u64,
-) -> io::Result<()> {
-    if let Err(refusal) = ldpc::parity(of.n, &of.lens, &of.addrs, info, out) {
-        show_refused(rt, refusal)?;
+// Parity, encoded word and weights: of the encoded word, of it with three bits flipped, and of random bytes. A refused code's too.
+fn show_words(of: Table<'_>, info: &[u8], out: &mut [u8], p: usize, seed: u64) -> fmt::Result {
+    let mut to = Stdout;
+    if let Err(refusal) = ldpc::parity(of.n, of.lens, of.addrs, info, out) {
+        show_refused(refusal)?;
     }
     if let Some(parity) = out.get(..p) {
         let parity = checksum_all(0, parity);
-        print!(rt; "{parity} ")?;
+        write!(to, "{parity} ")?;
     }
-    if let Err(refusal) = ldpc::encode(of.n, &of.lens, &of.addrs, info, out) {
-        show_refused(rt, refusal)?;
+    if let Err(refusal) = ldpc::encode(of.n, of.lens, of.addrs, info, out) {
+        show_refused(refusal)?;
     }
     let encoded = checksum_all(0, out);
-    print!(rt; "{encoded} ")?;
-    show_weight(rt, of, out)?;
+    write!(to, "{encoded} ")?;
+    show_weight(of, out)?;
     flip(out, seed);
     flip(out, next(seed));
     flip(out, next(next(seed)));
-    show_weight(rt, of, out)?;
+    show_weight(of, out)?;
     make_bytes(out, seed);
-    show_weight(rt, of, out)
+    show_weight(of, out)
 }
 
-// The code of a seed: `units` times 374 bits, `rows` rows of fewer than `most` addresses.
-fn replay(
-    rt: &(impl Print + AllocGlobal),
+// What a code is made of: a seed, its length of `units` times 374 bits, and `rows` rows of fewer than `most` addresses.
+#[derive(Clone, Copy)]
+struct Recipe {
     seed: u64,
     units: u32,
     rows: u32,
     most: u64,
-) -> io::Result<()>
-    requires { (rows < units) × (units ≤ 120) × (most ≤ 128) }
-{
-    let alloc = rt.alloc();
-    let n = units * 374;
-    let k = rows * 374;
-    let p = n - k;
-    let (lens, x) = make_rows(alloc, u64::from(rows), most, seed)?;
-    let total = total(&lens);
-    let (addrs, y) = make_addresses(alloc, total, x, p as u16, (p / 374) as u16)?;
-    print!(rt; "{seed} {n} {rows} {total} ")?;
-    let of = Table { n, lens, addrs };
-    let mut lists = vec![in alloc; 0; total.saturating_mul(374).saturating_add(3 * p as usize)]?;
-    if let Some(checks) = show_code(rt, &of, &mut lists)? {
-        let mut info = vec![in alloc; 0; k as usize]?;
-        let mut out = vec![in alloc; 0; n as usize]?;
-        let z = make_bytes(&mut info, y);
-        show_words(rt, &of, &info, &mut out, checks, z)?;
-    }
-    println!(rt)
+    ghost sizes: { (rows < units) × (units ≤ 120) × (most ≤ 128) },
 }
 
-// The t-th code: the first six have no rows, the next 62 have some and n up to 2,244, the last two n 44,880.
-fn replay_nth(rt: &(impl Print + AllocGlobal), t: u32) -> io::Result<()>
-    requires { t < 70 }
-{
-    let seed = u64::from(t);
-    let x = next(next(seed * 7919 + 1));
-    let y = next(x);
-    if t < 6 {
-        return replay(rt, seed, t + 1, 0, seed);
+impl Recipe {
+    // The t-th code: the first six have no rows, the next 62 have some and n up to 2,244, the last two n 44,880.
+    fn nth(t: u32) -> Recipe
+        requires { t < 70 }
+    {
+        let seed = u64::from(t);
+        let x = next(next(seed * 7919 + 1));
+        let y = next(x);
+        if t < 6 {
+            return Recipe {
+                seed,
+                units: t + 1,
+                rows: 0,
+                most: seed,
+            };
+        }
+        if t < 68 {
+            let units = 2 + draw(x, 5);
+            let rows = 1 + draw(y, units - 1);
+            let most = 2 + draw(next(y), 12);
+            return Recipe {
+                seed,
+                units: units as u32,
+                rows: rows as u32,
+                most,
+            };
+        }
+        Recipe {
+            seed,
+            units: 120,
+            rows: 41 + (t - 68) * 48,
+            most: 12,
+        }
     }
-    if t < 68 {
-        let units = 2 + draw(x, 5);
-        let rows = 1 + draw(y, units - 1);
-        let most = 2 + draw(next(y), 12);
-        return replay(rt, seed, units as u32, rows as u32, most);
-    }
-    replay(rt, seed, 120, 41 + (t - 68) * 48, 12)
 }
 
-fn print_all(rt: &(impl Print + AllocGlobal)) -> io::Result<()> {
-    for t in 0..70 {
-        replay_nth(rt, t)?;
-    }
-    Ok(())
+// The memory that the codes are lent, one after the other. What a code finds in it is what the ones before left, so an element that a call leaves
+// unwritten shows.
+#[derive(Drop)]
+struct Memory<'a> {
+    lens: &'a mut [u32],
+    addrs: &'a mut [u16],
+    info: &'a mut [u8],
+    out: &'a mut [u8],
+    lists: &'a mut [u32],
 }
 
-// A write that fails ends the program: what it wrote shows it. By `main -> io::Result<()>` the error's text would be assumed of the C library too
-// (axioms=6, and not 5).
-fn main(rt: HostRuntime) {
-    let _written = print_all(&rt).is_ok();
+impl Memory<'_> {
+    // The code of a recipe, if there is so much memory.
+    fn replay(self, recipe: Recipe) -> fmt::Result {
+        let mut to = Stdout;
+        let Recipe {
+            seed,
+            units,
+            rows,
+            most,
+        } = recipe;
+        let Memory {
+            lens,
+            addrs,
+            info,
+            out,
+            lists,
+        } = self;
+        let n = units * 374;
+        let k = rows * 374;
+        let p = n - k;
+        let Some(lens) = lens.get_mut(..rows as usize) else {
+            return Ok(());
+        };
+        let x = make_rows(lens, seed, most);
+        let total = total(lens);
+        let Some(addrs) = addrs.get_mut(..total) else {
+            return Ok(());
+        };
+        let y = make_addresses(addrs, x, p as u16, (p / 374) as u16);
+        write!(to, "{seed} {n} {rows} {total} ")?;
+        let of = Table { n, lens, addrs };
+        let edges = total.saturating_mul(374).saturating_add(3 * p as usize);
+        let (Some(info), Some(out), Some(lists)) = (
+            info.get_mut(..k as usize),
+            out.get_mut(..n as usize),
+            lists.get_mut(..edges),
+        ) else {
+            return Ok(());
+        };
+        let checks = show_code(of, lists)?;
+        let z = make_bytes(info, y);
+        show_words(of, info, out, checks, z)?;
+        writeln!(to)
+    }
+
+    fn replay_all(self) -> fmt::Result {
+        let Memory {
+            lens,
+            addrs,
+            info,
+            out,
+            lists,
+        } = self;
+        for t in 0..70 {
+            let lent = Memory {
+                lens: &mut *lens,
+                addrs: &mut *addrs,
+                info: &mut *info,
+                out: &mut *out,
+                lists: &mut *lists,
+            };
+            lent.replay(Recipe::nth(t))?;
+        }
+        Ok(())
+    }
+}
+
+// Arrays, and no Vec: a heap would be assumed of the C library besides write.
+fn main() {
+    let mut lens = [0u32; 120];
+    let mut addrs = [0u16; 2048];
+    let mut info = [0u8; 44880];
+    let mut out = [0u8; 44880];
+    let mut lists = [0u32; 600000];
+    let memory = Memory {
+        lens: &mut lens,
+        addrs: &mut addrs,
+        info: &mut info,
+        out: &mut out,
+        lists: &mut lists,
+    };
+    let _ = memory.replay_all();
 }

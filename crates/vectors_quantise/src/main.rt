@@ -3,7 +3,7 @@
 // and 128 more where the soft value is negative.
 #![tactic(auto)]
 
-ghost use Rattle.std.specs.Prelude.{◌<◌, ◌≤◌, length};
+ghost use Rattle.std.specs.Prelude.{◌≡◌, ◌+◌, ◌-◌, ◌%◌, ◌<◌, ◌≤◌, length};
 
 use std::fmt;
 use std::fmt::Write;
@@ -77,23 +77,30 @@ fn value(answer: u8) -> i8 {
     if answer < 128 { size } else { -size }
 }
 
-// One scale's soft values, each compared with the answer there. The scale's first that differs is shown.
-fn replay(scale: f32, answers: &[u8; 1530], compared: &mut Compared) -> fmt::Result {
-    let mut to = Stdout;
+// One scale's soft values, each compared with the answer there: so many of them are counted, and so many at most differ. Where one does, the
+// scale's first is shown, behind the last comparison.
+fn replay(scale: f32, answers: &[u8; 1530], compared: &mut Compared) -> fmt::Result
+    ensures all { compared.new.all ≡ (compared.old.all + 1530) % 18446744073709551616 }
+    ensures differ { (compared.new.differ + 18446744073709551616 - compared.old.differ) % 18446744073709551616 ≤ 1530 }
+{
     let mut inputs = [0.0f32; 1530];
     let mut out = [0i8; 1530];
     fill(&mut inputs, scale);
     let _ = quantise::quantise(&inputs, scale, &mut out);
     let mut own = Compared::default();
+    let mut first = None;
     for (out, answer) in out.iter().zip(answers) {
         let case = own.all;
-        let right = *out == value(*answer);
-        if own.count(right) {
-            writeln!(to, "first at case {case}")?;
+        if own.count(*out == value(*answer)) {
+            first = Some(case);
         }
-        compared.count(right);
     }
-    Ok(())
+    compared.all = compared.all.wrapping_add(own.all);
+    compared.differ = compared.differ.wrapping_add(own.differ);
+    match first {
+        Some(case) => writeln!(Stdout, "first at case {case}"),
+        None => Ok(()),
+    }
 }
 
 // Every scale whose answers are there.

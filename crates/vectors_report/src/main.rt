@@ -2,30 +2,28 @@
 // their reports by the unchanged Rust's answers and the refusals of the form (compare/oracle/src/bin/report.rs).
 #![tactic(auto)]
 
-use std::io;
-use std::io::{Print, Read};
+use std::fmt::Write;
+use vectors::Stdout;
 
-// Every text of the input, at most 10,000.
-fn replay(out: &impl Print, input: &[u8]) -> io::Result<()> {
+// Every text of the input, at most 10,000. A length is three bytes and a fourth that is not looked at.
+fn replay(input: &[u8]) {
     let mut rest = input;
     for t in 0..10_000 {
-        let Some((size, behind)) = rest.split_first_chunk::<4>() else {
+        let Some((&[a, b, c, _], behind)) = rest.split_first_chunk::<4>() else {
             break;
         };
-        let Some((text, behind)) = behind.split_at_checked(u32::from_le_bytes(*size) as usize)
-        else {
+        let size = u32::from_le_bytes([a, b, c, 0]);
+        let Some((text, behind)) = behind.split_at_checked(size as usize) else {
             break;
         };
-        println!(out; "# {t}")?;
-        out.write_all(report_text::report(text).as_str().as_bytes())?;
+        let _ = writeln!(Stdout, "# {t}");
+        io::write_all(1, report_text::report(text).as_str().as_bytes());
         rest = behind;
     }
-    Ok(())
 }
 
-// It tells what failed. The error's text is assumed for that, which the other programs do without.
-fn main(rt: HostRuntime) -> io::Result<()> {
-    let mut input = Vec::new(rt.alloc());
-    rt.stdin().read_to_end(&mut input)?;
-    replay(&rt.stdout(), &input)
+fn main() {
+    let mut input = [0; 200_000];
+    let n = io::read_full(0, &mut input);
+    replay(&input[..n]);
 }

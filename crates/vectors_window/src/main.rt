@@ -200,18 +200,28 @@ impl From<Window> for Figures {
     }
 }
 
+// What of a finished record is summed up afresh, in one number: its iterations and, above them, its BCH result.
+fn packed(of: Record) -> u64 {
+    u64::from(of.iterations) + (u64::from(of.bch) << 32)
+}
+
+// Whether a finished record is doubtful: 1 or 0.
+fn doubtful(of: Record) -> u8 {
+    u8::from(of.state == UNMET && of.bch != LOST)
+}
+
 impl Figures {
-    // Those with one record more.
-    fn with(self, of: &Record) -> Figures {
-        let lost = of.bch == LOST;
-        let corrected = if lost { 0 } else { of.bch };
-        let doubtful = of.state == UNMET && !lost;
+    // Those with one record more, but for the doubtful.
+    fn with(self, packed: u64) -> Figures {
+        let result = (packed >> 32) as u32;
+        let lost = result == LOST;
+        let corrected = if lost { 0 } else { result };
         Figures {
             words: self.words.wrapping_add(1),
             lost: self.lost.wrapping_add(u64::from(lost)),
-            iterations: self.iterations.wrapping_add(u64::from(of.iterations)),
+            iterations: self.iterations.wrapping_add(packed % 4294967296),
             corrected: self.corrected.wrapping_add(u64::from(corrected)),
-            doubtful: self.doubtful.wrapping_add(u64::from(doubtful)),
+            doubtful: self.doubtful,
         }
     }
 }
@@ -248,11 +258,13 @@ fn show_first(block: u16, record: u32) {
     let _ = writeln!(to, "first difference in block, record {block}, {record}");
 }
 
-// The window, the finished records since a series began, the checksum since a block began, and what was compared.
+// The window, the finished records since a series began, the checksum since a block began, and what was compared. (Of a finished record eight bytes, and
+// one that says whether it is doubtful: of the records themselves the sums made afresh took twice the time.)
 #[derive(Drop, Default)]
 struct Progress {
     window: Window,
-    finished: ArrayVec<Record, 24000>,
+    finished: ArrayVec<u64, 24000>,
+    doubtful: ArrayVec<u8, 24000>,
     sum: Checksum,
     records: Compared,
     blocks: Compared,
@@ -277,9 +289,19 @@ impl Progress {
     fn afresh(&self, width: usize) -> Figures {
         let finished = self.finished.as_slice();
         let from = finished.len().saturating_sub(width);
-        finished[from..]
+        let figures = finished[from..]
             .iter()
-            .fold(Figures::default(), |figures, of| figures.with(of))
+            .fold(Figures::default(), |figures, of| figures.with(*of));
+        // There is room for 24,000: a number of sixteen bits has space for them, and eight go at a time.
+        let doubtful = self.doubtful.as_slice();
+        let from = doubtful.len().saturating_sub(width);
+        let doubtful = doubtful[from..]
+            .iter()
+            .fold(0, |n: u16, of| n.wrapping_add(u16::from(*of)));
+        Figures {
+            doubtful: u64::from(doubtful),
+            ..figures
+        }
     }
 }
 
@@ -301,6 +323,7 @@ impl Replay<'_> {
         };
         self.of.fill(self.ring);
         self.at.finished.clear();
+        self.at.doubtful.clear();
     }
 
     // Record i, pushed and compared.
@@ -315,7 +338,8 @@ impl Replay<'_> {
             Err(refusal) => refusal.number(),
         };
         if is_finished(new) {
-            let _ = self.at.finished.try_push(new);
+            let _ = self.at.finished.try_push(packed(new));
+            let _ = self.at.doubtful.try_push(doubtful(new));
         }
         let shown = Figures::from(self.at.window);
         self.at.sum = self.at.sum.with(refused).with_figures(shown);
@@ -327,9 +351,10 @@ impl Replay<'_> {
         }
     }
 
-    // The checksum: in a series the ring's tail is in it, else all of the ring and the window's place.
+    // The checksum: in a series the ring's tail is in it, else all of the ring and the window's place. (No width of 65,536 or more is accepted:
+    // its low half says where the tail begins.)
     fn end(&mut self) {
-        let tail = 3 * self.of.width as usize;
+        let tail = 3 * (self.of.width % 65536) as usize;
         let sum = if self.of.kind.in_series() {
             self.at.sum.with_ring(self.ring, tail)
         } else {
@@ -353,12 +378,16 @@ impl Replay<'_> {
     }
 }
 
-// Every block whose ring there is room for. Palettes of 24 bytes stand in front, in 256 bytes.
+// Every block whose ring there is room for. Palettes of 24 bytes stand in front, in 256 bytes, and blocks behind these. A block may name one of
+// sixteen palettes: the last six are what stands there, and zeros behind the input.
 fn replay_all(input: &[u8], ring: &mut [u32], at: &mut Progress) {
-    let Some((head, rest)) = input.split_first_chunk::<256>() else {
+    let Some((_, rest)) = input.split_first_chunk::<256>() else {
         return;
     };
-    let (rows, _) = head.as_chunks::<8>();
+    let mut front = [0; 384];
+    let n = input.len().min(384);
+    front[..n].copy_from_slice(&input[..n]);
+    let (rows, _) = front.as_chunks::<8>();
     let (palettes, _) = rows.as_chunks::<3>();
     let (blocks, _) = rest.as_chunks::<16>();
     for (index, bytes) in blocks.iter().enumerate() {

@@ -18,5 +18,5 @@ returns c =
     subst
     (λ (o : ℤ). Checked (shared_in c.args.flags.now) check.rows.now check.s check.d check.n check.lanes c.args.place o
     c.args.work.now c.loop-at.work) (plain c.args.offset c.ranges.offset)
-    (checked check.in_rows c.requires.in_bounds.1
+    (checked check.in_rows c.requires.in_bounds.2
     (upto_end (omega (arith, c.loop-at-test.false)) c.loop-at.invariant.2))

@@ -18,7 +18,7 @@ use Rattle.decoder_retire.proofs.Words.close.Goals.{in-Some, in_default}
 pub write-requires-clause-stored : goal.write-requires-clause-stored
 write-requires-clause-stored c =
     let s = c.args.self in
-    (s.working.stored, word_known s.run.plan s.taken s.taken s.readied c.loop-l.l c.in-Some.t c.loop-l-test.true (refl, refl) c.in-Some.is, c.loop-l-test.true)
+    (s.working.stored, word_known s.plan s.taken s.taken s.readied c.loop-l.l c.in-Some.t c.loop-l-test.true (refl, refl) c.in-Some.is, c.loop-l-test.true)
 
 pub loop-l-preserved : goal.loop-l-preserved
 loop-l-preserved c =
@@ -26,16 +26,16 @@ loop-l-preserved c =
     let l = c.loop-l.l in
     let x : Unmet = get_or c.counted-unmet.result l no_unmet in
     let counts =
-    counted_held s.working.stored.fair.few_lanes c.counted-unmet.ensures (held_in s.taken) (c.some_held.ensures ∙ some_of s.taken s.run.plan.lanes (omega arith)) in
+    counted_held s.working.stored.fair.few_lanes c.counted-unmet.ensures (held_in s.taken) (c.some_held.ensures ∙ some_of s.taken s.plan.lanes (omega arith)) in
     elim c.match-taken-l.branch [
       | in-Some w ↦
           let is : get_or (held_in s.taken) l 0 ≡ w.in-Some.t.word + 1 = held_at_some s.taken l w.in-Some.t w.in-Some.is in
           closes_as _ _ _ _ _ (λ i. book (w.records-is i) (w.out-is i))
           (closes_write _ _ _ _ _ _ l _ c.loop-l.invariant c.loop-l-test.true w.in-Some.t.word w.in-Some.t.iterations _ is (iters_at_some s.taken l w.in-Some.t w.in-Some.is)
-          (word_known s.run.plan s.taken s.taken s.readied l w.in-Some.t c.loop-l-test.true (refl, refl) w.in-Some.is) w.write.ensures.only
+          (word_known s.plan s.taken s.taken s.readied l w.in-Some.t c.loop-l-test.true (refl, refl) w.in-Some.is) w.write.ensures.only
           (holding_so _ _ _ _ _ _ _ (counts l c.loop-l-test.true (λ e. omega (arith, is, e))) _
           (w.write.ensures.written
-          ∙ ap (λ (r : Noted). seen r (bits_of s.run.plan.sizes.n (lane_word s.run.plan s.work.now l)))
+          ∙ ap (λ (r : Noted). seen r (bits_of s.plan.sizes.n (lane_word s.plan s.work.now l)))
           (w.before_bch-r.ensures ∙ ap (λ z. before_bch z w.in-Some.t.iterations x.count x.check) w.number.ensures))))
       | in_default w ↦
           let n : get_or s.taken l None ≡ None = cc in
@@ -44,4 +44,4 @@ loop-l-preserved c =
     ]
 
 pub returns : goal.returns
-returns c = let z : c.loop-l.l ≡ c.args.self.run.plan.lanes = omega arith in closes_to _ _ _ _ _ z c.loop-l.invariant
+returns c = let z : c.loop-l.l ≡ c.args.self.plan.lanes = omega arith in closes_to _ _ _ _ _ z c.loop-l.invariant

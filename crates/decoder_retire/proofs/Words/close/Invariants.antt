@@ -9,5 +9,5 @@ use Rattle.decoder_retire.proofs.Words.close.Given as goal
 
 abbrev pub invariant-loop-l : goal.invariant-loop-l
 invariant-loop-l l =
-    Closes (code_by l.self.run.plan l.self.run.lists.now) l.self.run.plan (held_in l.self.taken) (iters_in l.self.taken) (lane_word l.self.run.plan l.self.work.now)
+    Closes (code_by l.self.plan l.self.lists.now) l.self.plan (held_in l.self.taken) (iters_in l.self.taken) (lane_word l.self.plan l.self.work.now)
     (book l.initial.records l.initial.out) l.l (book l.records l.out)

@@ -11,4 +11,4 @@ returns-then-not-asked c = counts_none c.if-not-asked.true (λ l q. get_or-repli
 
 pub returns : goal.returns
 returns c = counts_asked c.if-not-asked.false c.args.self.working.edges
-    (rw (c.code.ensures.lists, c.code.ensures.sizes.0, c.code.ensures.sizes.1) at c.count_lanes.ensures)
+    (rw (c.new-code.ensures.lists, c.new-code.ensures.sizes.0, c.new-code.ensures.sizes.1) at c.count_lanes.ensures)

@@ -29,28 +29,28 @@ loop-l-init c = sym (any_start _)
 pub overflow_add-t : goal.overflow_add-t
 overflow_add-t c =
     let s = c.args.self in
-    omega (arith, iterations_short s.run.plan s.taken s.taken s.readied c.loop-l.l c.in-Some.t c.loop-l-test.true (refl, refl) c.in-Some.is, s.working.stored.fair.limit_fits)
+    omega (arith, iterations_short s.plan s.taken s.taken s.readied c.loop-l.l c.in-Some.t c.loop-l-test.true (refl, refl) c.in-Some.is, s.working.stored.fair.limit_fits)
 
 pub returns-in-loop-l : goal.returns-in-loop-l
 returns-in-loop-l c =
     let s = c.args.self in
     let v : ℕ → Bool = λ k. get_or c.args.verdict k false in
-    one (due_at (held_in s.taken) (iters_in s.taken) v s.run.plan.limits.iterations) s.run.plan.lanes c.loop-l.l c.loop-l-test.true
-    (due_some s.taken v s.run.plan.limits.iterations c.loop-l.l c.in-Some.t false true c.in-Some.is c.if-not-verdict-l.true (eq-eqb _ _ c.if-t-self.true))
+    one (due_at (held_in s.taken) (iters_in s.taken) v s.plan.limits.iterations) s.plan.lanes c.loop-l.l c.loop-l-test.true
+    (due_some s.taken v s.plan.limits.iterations c.loop-l.l c.in-Some.t false true c.in-Some.is c.if-not-verdict-l.true (eq-eqb _ _ c.if-t-self.true))
 
 pub loop-l-preserved : goal.loop-l-preserved
 loop-l-preserved c =
     let s = c.args.self in
     let v : ℕ → Bool = λ k. get_or c.args.verdict k false in
-    let due : ℕ → Bool = due_at (held_in s.taken) (iters_in s.taken) v s.run.plan.limits.iterations in
+    let due : ℕ → Bool = due_at (held_in s.taken) (iters_in s.taken) v s.plan.limits.iterations in
     let none : due c.loop-l.l ≡ false =
     elim c.in_default.branch [
       | in_default-via-in-None-1 w ↦
           let n : get_or s.taken c.loop-l.l None ≡ None = cc in
-          due_none s.taken v s.run.plan.limits.iterations c.loop-l.l n
+          due_none s.taken v s.plan.limits.iterations c.loop-l.l n
       | in_default-via-in-Some+else-not-verdict-l w ↦
-          due_some s.taken v s.run.plan.limits.iterations c.loop-l.l w.in-Some.t true _ w.in-Some.is w.if-not-verdict-l.false refl
+          due_some s.taken v s.plan.limits.iterations c.loop-l.l w.in-Some.t true _ w.in-Some.is w.if-not-verdict-l.false refl
       | in_default-via-in-Some+then-not-verdict-l+else-t-self w ↦
-          due_some s.taken v s.run.plan.limits.iterations c.loop-l.l w.in-Some.t false false w.in-Some.is w.if-not-verdict-l.true (ne_eqb _ _ w.if-t-self.false)
+          due_some s.taken v s.plan.limits.iterations c.loop-l.l w.in-Some.t false false w.in-Some.is w.if-not-verdict-l.true (ne_eqb _ _ w.if-t-self.false)
     ] in
     sym (any_again due c.loop-l.l false false false (sym c.loop-l.invariant) (sym none) refl)

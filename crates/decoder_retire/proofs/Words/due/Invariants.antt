@@ -6,4 +6,4 @@ use Rattle.decoder_retire.specs.Counts.{due_at}
 use Rattle.decoder_retire.proofs.Words.due.Given as goal
 
 abbrev pub invariant-loop-l : goal.invariant-loop-l
-invariant-loop-l l = any_of (due_at (held_in l.self.taken) (iters_in l.self.taken) (λ k. get_or l.verdict k false) l.self.run.plan.limits.iterations) l.l ≡ false
+invariant-loop-l l = any_of (due_at (held_in l.self.taken) (iters_in l.self.taken) (λ k. get_or l.verdict k false) l.self.plan.limits.iterations) l.l ≡ false

@@ -21,13 +21,13 @@ loop-l-init c = leaves_start _ _ _ _ _ _ (sized_in c.args.self.taken (omega arit
 pub overflow_add-iterations : goal.overflow_add-iterations
 overflow_add-iterations c =
     let s = c.args.self in
-    omega (arith, iterations_short s.run.plan s.taken c.loop-l.taken s.readied c.loop-l.l c.in-Some.t c.loop-l-test.true (c.loop-l.invariant.untouched c.loop-l.l (omega arith)) c.in-Some.is, s.working.stored.fair.limit_fits)
+    omega (arith, iterations_short s.plan s.taken c.loop-l.taken s.readied c.loop-l.l c.in-Some.t c.loop-l-test.true (c.loop-l.invariant.untouched c.loop-l.l (omega arith)) c.in-Some.is, s.working.stored.fair.limit_fits)
 
 pub write-requires-clause-stored : goal.write-requires-clause-stored
 write-requires-clause-stored c =
     let s = c.args.self in (
       s.working.stored,
-      word_known s.run.plan s.taken c.loop-l.taken s.readied c.loop-l.l c.in-Some.t c.loop-l-test.true (c.loop-l.invariant.untouched c.loop-l.l (omega arith)) c.in-Some.is,
+      word_known s.plan s.taken c.loop-l.taken s.readied c.loop-l.l c.in-Some.t c.loop-l-test.true (c.loop-l.invariant.untouched c.loop-l.l (omega arith)) c.in-Some.is,
       c.loop-l-test.true,
     )
 
@@ -42,24 +42,24 @@ loop-l-preserved c =
     elim c.match-taken-l.branch [
       | in-Some+then-over w ↦
           let t : Taken = w.in-Some.t in
-          let some = held_then s.run.plan s.taken c.loop-l.taken s.readied l t c.loop-l-test.true u w.in-Some.is in
-          let last : (get_or c.args.verdict l false || eqb (get_or (iters_in s.taken) l 0 + 1) s.run.plan.limits.iterations) ≡ true =
-          (λ j. get_or c.args.verdict l false || eqb ((sym u.1 ∙ iters_at_some c.loop-l.taken l t w.in-Some.is) j + 1) s.run.plan.limits.iterations)
+          let some = held_then s.plan s.taken c.loop-l.taken s.readied l t c.loop-l-test.true u w.in-Some.is in
+          let last : (get_or c.args.verdict l false || eqb (get_or (iters_in s.taken) l 0 + 1) s.plan.limits.iterations) ≡ true =
+          (λ j. get_or c.args.verdict l false || eqb ((sym u.1 ∙ iters_at_some c.loop-l.taken l t w.in-Some.is) j + 1) s.plan.limits.iterations)
           ∙ sym w.over.ensures
           ∙ w.if-over.true in
           leaves_as _ _ _ (ap held_in w.taken-is) (ap iters_in w.taken-is) (λ i. book (w.records-is i) (w.out-is i))
           (leaves_leave _ _ _ _ _ _ l c.loop-l.taken _ c.loop-l.invariant c.loop-l-test.true few t w.in-Some.is _ (c.requires.judged l c.loop-l-test.true some) _
           w.over.ensures _ w.if-over.true
-          (word_known s.run.plan s.taken c.loop-l.taken s.readied l t c.loop-l-test.true u w.in-Some.is) w.write.ensures.only
+          (word_known s.plan s.taken c.loop-l.taken s.readied l t c.loop-l-test.true u w.in-Some.is) w.write.ensures.only
           (ended _ _ _ _ _ _ _ (counts l c.loop-l-test.true some last) _
           (w.write.ensures.written
-          ∙ ap (λ (r : Noted). seen r (bits_of s.run.plan.sizes.n (lane_word s.run.plan s.work.now l)))
+          ∙ ap (λ (r : Noted). seen r (bits_of s.plan.sizes.n (lane_word s.plan s.work.now l)))
           (w.before_bch-r.ensures ∙ ap (λ z. before_bch z (t.iterations + 1) x.count x.check) (w.number-state.ensures ∙ ap number w.ended.ensures ∙ ended_number _)))))
       | in-Some+else-over w ↦
           let t : Taken = w.in-Some.t in
           leaves_as _ _ _ (ap held_in w.taken-is) (ap iters_in w.taken-is) (λ i. book (w.records-is i) (w.out-is i))
           (leaves_stay _ _ _ _ _ _ l c.loop-l.taken _ c.loop-l.invariant c.loop-l-test.true few t w.in-Some.is _
-          (c.requires.judged l c.loop-l-test.true (held_then s.run.plan s.taken c.loop-l.taken s.readied l t c.loop-l-test.true u w.in-Some.is)) _ w.over.ensures w.if-over.false)
+          (c.requires.judged l c.loop-l-test.true (held_then s.plan s.taken c.loop-l.taken s.readied l t c.loop-l-test.true u w.in-Some.is)) _ w.over.ensures w.if-over.false)
       | in_default w ↦
           let n : get_or c.loop-l.taken l None ≡ None = cc in
           leaves_as _ _ _ (ap held_in w.taken-is) (ap iters_in w.taken-is) (λ i. book (w.records-is i) (w.out-is i))
@@ -68,5 +68,5 @@ loop-l-preserved c =
 
 pub returns : goal.returns
 returns c =
-    let z : c.args.self.run.plan.lanes ≡ c.loop-l.l = omega arith in
+    let z : c.args.self.plan.lanes ≡ c.loop-l.l = omega arith in
     leaves_end _ _ _ _ _ _ _ _ _ _ c.loop-l.invariant z

@@ -9,5 +9,5 @@ use Rattle.decoder_retire.proofs.Words.retire.Given as goal
 
 abbrev pub invariant-loop-l : goal.invariant-loop-l
 invariant-loop-l l =
-    Leaves (code_by l.self.run.plan l.self.run.lists.now) l.self.run.plan (lane_word l.self.run.plan l.self.work.now) (held_in l.self.taken) (iters_in l.self.taken)
+    Leaves (code_by l.self.plan l.self.lists.now) l.self.plan (lane_word l.self.plan l.self.work.now) (held_in l.self.taken) (iters_in l.self.taken)
     (book l.initial.records l.initial.out) l.l (held_in l.taken) (iters_in l.taken) (book l.records l.out)
